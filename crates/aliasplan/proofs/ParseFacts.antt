@@ -1,0 +1,127 @@
+-- How a job follows from its sections.
+use Rattle.std.proofs.Common.{◌≡◌, ℕ, List, [], ◌∷◌, codes, drop, Option, Some, None, Result, Ok, Err, refl, sym, ap, ◌∙◌}
+use Rattle.std.specs.List.{flat_map}
+use Rattle.std.specs.Option.{option_map}
+use Rattle.relay_text.specs.Bytes.{first_of}
+use Rattle.relay_text.specs.declared.lines.Line.{Line}
+use Rattle.aliasplan.specs.declared.place.Place.{Place}
+use Rattle.aliasplan.specs.declared.section.Section.TheVariants.{Settings, Mailboxes, Envelope}
+use Rattle.aliasplan.specs.declared.sections.Sections.{Sections}
+use Rattle.aliasplan.specs.declared.job.Job.{Job}
+use Rattle.aliasplan.specs.declared.settings.Settings as values
+use Rattle.aliasplan.specs.declared.fault.RunFault.{RunFault}
+use Rattle.aliasplan.specs.declared.fault.RunFault.TheVariants.{Read, TooLong, BadJob, BadSetting, BadEnvelope, TooManyNames, TooManyOwners, TooManyPairs, Write, Memory}
+use Rattle.aliasplan.specs.Outcomes.{Fails}
+use Rattle.aliasplan.specs.Settings.{settings_of}
+use Rattle.aliasplan.specs.JobText.{JobLine, content_of, Part, part_at, part_lines, part_bytes, section_bytes, settings_part, envelope_part, envelope_lines, heading_number, bad_job, bad_setting, bad_envelope, job_settings, job_fault, sections_of, job_of}
+use Rattle.aliasplan.specs.SectionPlaces.{word_of, place_of, part_behind, content_behind, line_behind, AreSectionsOf}
+use Rattle.aliasplan.specs.JobParts.{lines_of, commands_of, first_bad_setting, first_bad_command, sender_of, recipients_of, Stops}
+
+pub Fails-from : {A : Type 0} (fault : RunFault) (given : Result A RunFault) → given ≡ Err fault → Fails fault given
+Fails-from Read given h = h
+Fails-from TooLong given h = h
+Fails-from (BadJob n) given h = h
+Fails-from (BadSetting n) given h = h
+Fails-from (BadEnvelope n) given h = h
+Fails-from TooManyNames given h = h
+Fails-from TooManyOwners given h = h
+Fails-from TooManyPairs given h = h
+Fails-from Write given h = h
+Fails-from Memory given h = tt
+
+pub Fails-from_stop : {A : Type 0} (o : Option RunFault) (fault : RunFault) (given : Result A RunFault) → ((f : RunFault) → o ≡ Some f → given ≡ Err f) → Stops o fault → Fails fault given
+Fails-from_stop o Read given h s = h _ s
+Fails-from_stop o TooLong given h s = h _ s
+Fails-from_stop o (BadJob n) given h s = h _ s
+Fails-from_stop o (BadSetting n) given h s = h _ s
+Fails-from_stop o (BadEnvelope n) given h s = h _ s
+Fails-from_stop o TooManyNames given h s = h _ s
+Fails-from_stop o TooManyOwners given h s = h _ s
+Fails-from_stop o TooManyPairs given h s = h _ s
+Fails-from_stop o Write given h s = h _ s
+Fails-from_stop o Memory given h s = tt
+
+-- The lines, the heading and the bytes of a section, by the place behind its heading.
+part_lines-behind : (word : List ℕ) (o : Option Place) → part_lines (option_map (part_behind word) o) ≡ lines_of (content_behind o)
+part_lines-behind word None = refl
+part_lines-behind word (Some place) = refl
+
+heading_number-behind : (word : List ℕ) (o : Option Place) → heading_number (option_map (part_behind word) o) ≡ line_behind o
+heading_number-behind word None = refl
+heading_number-behind word (Some place) = refl
+
+abbrev bytes_in : Option Part → List ℕ
+bytes_in None = []
+bytes_in (Some p) = part_bytes p
+
+section_bytes-is : (text word : List ℕ) → section_bytes text word ≡ bytes_in (part_at text word)
+section_bytes-is text word = at (part_at text word) refl where
+  at : (o : Option Part) → part_at text word ≡ o → section_bytes text word ≡ bytes_in o
+  at None e = rw e
+  at (Some p) e = rw e
+
+bytes-behind : (word : List ℕ) (o : Option Place) → bytes_in (option_map (part_behind word) o) ≡ flat_map (λ (l : JobLine). content_of l.raw) (content_behind o)
+bytes-behind word None = refl
+bytes-behind word (Some place) = refl
+
+module _ (text : List ℕ) (s : Sections) (h : AreSectionsOf text s) where
+  pub settings_lines : settings_part text ≡ lines_of (content_behind (place_of s Settings))
+  settings_lines = ap part_lines (sym (h.places Settings)) ∙ part_lines-behind (word_of Settings) (place_of s Settings)
+
+  pub envelope_commands : envelope_lines (envelope_part text) ≡ commands_of (lines_of (content_behind (place_of s Envelope)))
+  envelope_commands = ap commands_of (ap part_lines (sym (h.places Envelope)) ∙ part_lines-behind (word_of Envelope) (place_of s Envelope))
+
+  pub envelope_heading : heading_number (envelope_part text) ≡ line_behind (place_of s Envelope)
+  envelope_heading = ap heading_number (sym (h.places Envelope)) ∙ heading_number-behind (word_of Envelope) (place_of s Envelope)
+
+  pub mailbox_bytes : section_bytes text (codes "%mailboxes") ≡ flat_map (λ (l : JobLine). content_of l.raw) (content_behind (place_of s Mailboxes))
+  mailbox_bytes = section_bytes-is text (codes "%mailboxes") ∙ ap bytes_in (sym (h.places Mailboxes)) ∙ bytes-behind (word_of Mailboxes) (place_of s Mailboxes)
+
+pub job-fault : (text : List ℕ) (fault : RunFault) → job_fault text ≡ Some fault → job_of text ≡ Err fault
+unfolding job_of
+job-fault text fault h = rw h
+
+-- The three faults in their order.
+pub job-broken : (text : List ℕ) (fault : RunFault) → option_map BadJob (bad_job text) ≡ Some fault → job_of text ≡ Err fault
+job-broken text fault h = job-fault text fault (first-some _ _ fault h) where
+  first-some : (o : Option RunFault) (more : List (Option RunFault)) (f : RunFault) → o ≡ Some f → first_of (o ∷ more) ≡ Some f
+  first-some o more f e = rw e
+
+second : (a b : Option RunFault) (more : List (Option RunFault)) (f : RunFault) → a ≡ None → b ≡ Some f → first_of (a ∷ b ∷ more) ≡ Some f
+second a b more f e g = rw (e, g)
+
+third : (a b c : Option RunFault) (f : RunFault) → a ≡ None → b ≡ None → c ≡ Some f → first_of (a ∷ b ∷ c ∷ []) ≡ Some f
+third a b c f e g k = rw (e, g, k)
+
+none : (a b c : Option RunFault) → a ≡ None → b ≡ None → c ≡ None → first_of (a ∷ b ∷ c ∷ []) ≡ None
+none a b c e g k = rw (e, g, k)
+
+pub job-bad_setting : (text : List ℕ) (fault : RunFault) (lines : List Line) → bad_job text ≡ None → settings_part text ≡ lines → option_map BadSetting (first_bad_setting lines) ≡ Some fault → job_of text ≡ Err fault
+job-bad_setting text fault lines j e h = job-fault text fault (second _ _ _ fault (ap (option_map BadJob) j) (rw e h))
+
+pub job-bad_envelope : (text : List ℕ) (fault : RunFault) (lines : List Line) (heading : ℕ) (commands : List Line) (origin : List ℕ) → bad_job text ≡ None → settings_part text ≡ lines → first_bad_setting lines ≡ None → origin ≡ (settings_of lines).origin → heading_number (envelope_part text) ≡ heading → envelope_lines (envelope_part text) ≡ commands → option_map BadEnvelope (first_bad_command origin heading commands) ≡ Some fault → job_of text ≡ Err fault
+job-bad_envelope text fault lines heading commands origin j e g o n c h =
+    let bad : bad_envelope (job_settings text).origin (envelope_part text) ≡ first_bad_command origin heading commands = rw (o, ← e, ← n, ← c) in
+    let good : bad_setting text ≡ None = rw e g in
+    job-fault text fault (third _ _ _ fault (ap (option_map BadJob) j) (ap (option_map BadSetting) good) (ap (option_map BadEnvelope) bad ∙ h))
+
+pub job-good : (text : List ℕ) → job_fault text ≡ None → job_of text ≡ Ok (sections_of text)
+unfolding job_of
+job-good text h = rw h
+
+abbrev job_by : values.Settings → List Line → List ℕ → Job
+job_by settings commands mailboxes = record { settings = settings; mailboxes = mailboxes; sender = sender_of settings.origin commands; recipients = recipients_of settings.origin (drop 1 commands) }
+
+sections_of-by : (text : List ℕ) → sections_of text ≡ job_by (job_settings text) (envelope_lines (envelope_part text)) (section_bytes text (codes "%mailboxes"))
+sections_of-by text = refl
+
+pub job-read : (text : List ℕ) (job : Job) (lines : List Line) (heading : ℕ) (commands : List Line) → bad_job text ≡ None → settings_part text ≡ lines → first_bad_setting lines ≡ None → job.settings ≡ settings_of lines → heading_number (envelope_part text) ≡ heading → envelope_lines (envelope_part text) ≡ commands → first_bad_command job.settings.origin heading commands ≡ None
+    → job.mailboxes ≡ section_bytes text (codes "%mailboxes") → job.sender ≡ sender_of job.settings.origin commands → job.recipients ≡ recipients_of job.settings.origin (drop 1 commands) → job_of text ≡ Ok job
+job-read text job lines heading commands j e g s n c h m from to =
+    let settings : job_settings text ≡ job.settings = ap settings_of e ∙ sym s in
+    let good : bad_setting text ≡ None = rw e g in
+    let here : bad_envelope job.settings.origin (envelope_part text) ≡ first_bad_command job.settings.origin heading commands = rw (← n, ← c) in
+    let bad : bad_envelope (job_settings text).origin (envelope_part text) ≡ None = ap (λ (t : values.Settings). bad_envelope t.origin (envelope_part text)) settings ∙ here ∙ h in
+    let parts : job_by job.settings commands (section_bytes text (codes "%mailboxes")) ≡ job = rw (← m, ← from, ← to) in
+    job-good text (none _ _ _ (ap (option_map BadJob) j) (ap (option_map BadSetting) good) (ap (option_map BadEnvelope) bad))
+    ∙ ap Ok (sections_of-by text ∙ ap (λ (t : values.Settings). job_by t (envelope_lines (envelope_part text)) (section_bytes text (codes "%mailboxes"))) settings ∙ ap (λ (l : List Line). job_by job.settings l (section_bytes text (codes "%mailboxes"))) c ∙ parts)

@@ -1,0 +1,8 @@
+use Rattle.std.proofs.lemmas.Result.{err_from_is_err_and}
+use Rattle.aliasplan.proofs.Faults.{refuses}
+use Rattle.aliasplan.proofs.answering.answer_job.Goals as goal
+
+pub returns-in_err-job-clause-refused : goal.returns-in_err-job-clause-refused
+returns-in_err-job-clause-refused c =
+    let p = err_from_is_err_and c.from_residual.result c.from_residual.ensures.1 in
+    rw (p.1, p.2) (refuses c.args.input.now c.in_err-job.field-0.0 c.in_err-job.ensures)

@@ -1,0 +1,15 @@
+pub mod Settings
+pub mod JobText
+pub mod Delivery
+pub mod Report
+pub mod Plans
+pub mod Outcomes
+pub mod Transfers
+pub mod Places
+pub mod SectionPlaces
+pub mod SettingValues
+pub mod JobParts
+pub mod RecipientLists
+pub mod Lanes
+pub mod Stops
+pub mod Targets

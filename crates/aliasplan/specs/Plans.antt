@@ -1,0 +1,71 @@
+-- The plan of a job.
+use Rattle.std.specs.Prelude.{◌≡◌, ◌≢◌, ℕ, ◌+◌, ◌-◌, ◌*◌, ◌/◌, List, [], map, flat_map, length, slice_range, Contains, ◌↔◌}
+use Rattle.std.specs.List.{range_with_len}
+use Rattle.std.specs.declared.cmp.Ordering.{Ordering}
+use Rattle.std.specs.Ordering.{ordering_then}
+use Rattle.relay_text.specs.AddressParts.{AddressParts}
+use Rattle.relay_text.specs.Addresses.{path_text_of}
+use Rattle.relay_text.specs.TextSets.{text_cmp, IsAscendingBy}
+use Rattle.std.specs.Prelude.{Some}
+use Rattle.relay_routes.specs.declared.route.Route.{Route}
+use Rattle.relay_routes.specs.Transports.{transport_name}
+use Rattle.relay_wire.specs.declared.plan.Planned.{Planned}
+use Rattle.relay_wire.specs.declared.plan.Plan.{Plan}
+use Rattle.aliasplan.specs.declared.job.Job.{Job}
+use Rattle.aliasplan.specs.Settings.{limit_of}
+use Rattle.aliasplan.specs.Delivery.{Sender, IsPlaced}
+use Rattle.aliasplan.specs.Report.{IsFindingLine}
+
+-- how many parts of at most `size` elements a list of n has: n / size, rounded up
+abbrev pub part_count : ℕ → ℕ → ℕ
+part_count n size = (n + size - 1) / size
+
+-- the consecutive parts of a list, each of `size` elements but the last, which may be shorter
+abbrev pub parts_of : {X : Type 0} → ℕ → List X → List (List X)
+parts_of size xs = map (λ k. slice_range xs (k * size) (k * size + size)) (range_with_len 0 (part_count (length xs) size))
+
+-- The addresses that share a sender, a transport and a nexthop, and so the hosts.
+pub record Group : Type 0 where
+  pub sender : Sender
+  pub route : Route
+  pub to : List AddressParts
+
+-- Groups stand by the bytes of the sender's path, the transport's name and the nexthop; recipients by the bytes of their paths.
+abbrev pub group_cmp : Group → Group → Ordering
+group_cmp g h = ordering_then (text_cmp (path_text_of g.sender) (path_text_of h.sender))
+    (ordering_then (text_cmp (transport_name g.route.transport) (transport_name h.route.transport)) (text_cmp g.route.nexthop h.route.nexthop))
+
+abbrev pub path_cmp : AddressParts → AddressParts → Ordering
+path_cmp a b = text_cmp (path_text_of (Some a)) (path_text_of (Some b))
+
+module _ (job : Job) where
+  -- one of these groups has the address, under this sender and route
+  pub record IsGrouped (groups : List Group) (sender : Sender) (route : Route) (a : AddressParts) : Type 0 where
+    pub group : Group
+    pub in_groups : Contains groups group
+    pub sender_is : group.sender ≡ sender
+    pub route_is : group.route ≡ route
+    pub in_group : Contains group.to a
+
+  -- The groups of a job, in order: each has an address, and together they have what is placed and nothing else.
+  pub record IsGrouping (groups : List Group) : Type 0 where
+    pub ascending : IsAscendingBy group_cmp groups
+    pub nonempty : (g : Group) → Contains groups g → g.to ≢ []
+    pub recipients_ascending : (g : Group) → Contains groups g → IsAscendingBy path_cmp g.to
+    pub members : (sender : Sender) (route : Route) (a : AddressParts) → IsPlaced job sender route a ↔ IsGrouped groups sender route a
+
+  -- A group is cut into consecutive batches within its transport's limit, the last perhaps shorter.
+  abbrev pub planned : Group → List AddressParts → Planned
+  planned g part = record { from = g.sender; transport = g.route.transport; nexthop = g.route.nexthop; hosts = g.route.hosts; to = part }
+
+  abbrev pub batches_of : Group → List Planned
+  batches_of g = map (planned g) (parts_of (limit_of job.settings g.route.transport) g.to)
+
+  -- The plan: the batches of the groups in order, and the lines of the findings in byte order, each once.
+  pub record IsPlanOf (plan : Plan) : Type 0 where
+    pub hostname : plan.hostname ≡ job.settings.hostname
+    pub groups : List Group
+    pub grouping : IsGrouping groups
+    pub transactions : plan.transactions ≡ flat_map batches_of groups
+    pub findings_ascending : IsAscendingBy text_cmp plan.findings
+    pub findings : (line : List ℕ) → Contains plan.findings line ↔ IsFindingLine job line

@@ -1,0 +1,61 @@
+//! The lines that a plan reports.
+ghost use Rattle.std.specs.Prelude.{◌≡◌, ◌||◌, ℕ, List, IfOk, OnOk};
+ghost use Rattle.std.specs.List.{list_any};
+ghost use Rattle.std.specs.Str.{bytes_eq};
+ghost use Rattle.relay_text.specs.Bytes.{has_text};
+ghost use Rattle.relay_wire.specs.Findings.{finding_text_of};
+ghost use Rattle.aliasplan.specs.Report.{word_of, reason_of};
+ghost use Rattle.aliasplan.specs.Lanes.{fault_line};
+
+use relay_aliasfile::{FaultKind, LineFault};
+use relay_routes::Unrouted;
+use relay_text::TextSet;
+use relay_wire::finding::finding_line;
+use relay_wire::{Finding, LineWord, Reason};
+use std::alloc::{AllocError, Global};
+
+/// Adds the line of a finding.
+pub fn report(alloc: Global, finding: &Finding, lines: &mut TextSet) -> Result<(), AllocError>
+    ensures { OnOk result ((q : List ℕ) → has_text lines.new q ≡ (bytes_eq q (finding_text_of finding.now) || has_text lines.old q)) }
+{
+    let line = finding_line(alloc, finding)?;
+    lines.insert(line.into_bytes())
+}
+
+/// The word of a file's fault.
+fn line_word(kind: FaultKind) -> LineWord
+    ensures { result ≡ word_of kind }
+{
+    match kind {
+        FaultKind::BadLine => LineWord::BadLine,
+        FaultKind::BadItem => LineWord::BadItem,
+        FaultKind::Duplicate => LineWord::Duplicate,
+        FaultKind::Empty => LineWord::Empty,
+    }
+}
+
+/// The reason that a plan gives; `None` where memory ran out.
+pub fn reason_for(unrouted: Unrouted) -> Option<Reason>
+    ensures { result ≡ reason_of unrouted }
+{
+    match unrouted {
+        Unrouted::Domain => Some(Reason::Domain),
+        Unrouted::MxSelf => Some(Reason::MxSelf),
+        Unrouted::Transport => Some(Reason::Transport),
+        Unrouted::Refused(text) => Some(Reason::Refused(text)),
+        Unrouted::NullMx => Some(Reason::NullMx),
+        Unrouted::Memory => None,
+    }
+}
+
+/// The lines of the mailboxes' file that are at fault.
+pub fn fault_lines(alloc: Global, faults: &[LineFault]) -> Result<TextSet, AllocError>
+    ensures { IfOk result (λ lines. (q : List ℕ) → has_text lines q ≡ list_any (λ fault. bytes_eq q (fault_line fault)) faults.now) }
+{
+    let mut lines = TextSet::new(alloc);
+    for fault in faults {
+        let finding = Finding::Mailboxes(fault.line, line_word(fault.kind));
+        report(alloc, &finding, &mut lines)?;
+    }
+    Ok(lines)
+}

@@ -1,0 +1,40 @@
+//! What a job's text says.
+ghost use Rattle.std.specs.Prelude.{◌≡◌};
+ghost use Rattle.aliasplan.specs.JobText.{job_of};
+ghost use Rattle.aliasplan.specs.Outcomes.{Answers};
+
+use crate::content::section_bytes;
+use crate::envelope::Envelope;
+use crate::fault::RunFault;
+use crate::job::Job;
+use crate::section::Section;
+use crate::sections::Sections;
+use crate::values::Values;
+use std::alloc::Global;
+
+/// The job that a text is: its settings, the mailboxes' bytes and the envelope.
+///
+/// The first of these faults comes: BadJob at the first line that is no heading of a section, or one of an earlier section, or that
+/// stands before the first heading and isn't of white space alone; BadSetting at the first bad line of the settings; BadEnvelope at
+/// the first bad line of the envelope, at its heading where it ends too early, at 0 where the job has none. Memory comes where a
+/// growth was refused.
+pub fn parse_job(alloc: Global, bytes: &[u8]) -> Result<Job, RunFault>
+    ensures { Answers result (job_of bytes.now) }
+{
+    let sections = Sections::find(bytes)?;
+    let values = Values::read(alloc, sections.section(Section::Settings))?;
+    let settings = values.settings(alloc)?;
+    let envelope = Envelope::read(
+        alloc,
+        sections.section(Section::Envelope),
+        settings.origin.as_bytes(),
+    )?;
+    let mailboxes = section_bytes(alloc, sections.section(Section::Mailboxes))?;
+    let Envelope { sender, recipients } = envelope;
+    Ok(Job {
+        settings,
+        mailboxes,
+        sender,
+        recipients,
+    })
+}

@@ -1,0 +1,72 @@
+//! Reading a job.
+ghost use Rattle.std.specs.Prelude.{◌≡◌, ◌≢◌, ◌<◌, ◌≤◌, ◌==◌, false, true, length, Ok, Err, IfOk, IfErr, OnOk, IfSome, vec_len};
+ghost use Rattle.std.specs.Io.KnownBytes.{IsAtEnd};
+ghost use Rattle.aliasplan.specs.Outcomes.{IsReadFault};
+ghost use Rattle.aliasplan.specs.Transfers.{Takes};
+
+use crate::device::Feed;
+use crate::fault::RunFault;
+use relay_text::Text;
+use std::alloc::{AllocError, Global};
+
+/// How many bytes one read asks for at most.
+const CHUNK: usize = 65536;
+
+// Room for some bytes.
+fn room_for(alloc: Global, len: usize) -> Result<Vec<u8>, AllocError>
+    ensures { IfOk result (λ room. vec_len room ≡ len) }
+{
+    vec![in alloc; 0u8; len]
+}
+
+// One read, whose bytes go to the end of the text.
+fn read_some<F: Feed>(
+    reader: &mut F,
+    room: &mut [u8],
+    text: &mut Vec<u8>,
+) -> Result<usize, RunFault>
+    requires fresh { (F.has_failed reader.old ≡ false) × (F.has_ended reader.old ≡ false) }
+    requires room { 0 < length room.old }
+    ensures taken { IfOk result (λ count. Takes (F.remaining reader.old) (F.remaining reader.new) text.old.items text.new.items count) }
+    ensures within { IfOk result (λ count. count ≤ length room.old) }
+    ensures at_end { result ≡ Ok 0 → IsAtEnd (F.remaining reader.new) }
+    ensures ended { IfOk result (λ count. F.has_ended reader.new ≡ (count == 0)) }
+    ensures read { (result ≡ Err RunFault.Read → F.has_failed reader.new ≡ true) × (result ≢ Err RunFault.Read → F.has_failed reader.new ≡ false) }
+    ensures only { IfErr result (λ fault. IsReadFault fault) }
+    ensures not_long { result ≢ Err RunFault.TooLong }
+{
+    let Ok(count) = reader.read(room) else {
+        return Err(RunFault::Read);
+    };
+    text.extend_from_slice(&room[..count])?;
+    Ok(count)
+}
+
+/// All bytes until the reader has ended.
+pub fn read_job<F: Feed>(alloc: Global, reader: &mut F, max: usize) -> Result<Text, RunFault>
+    requires fresh { (F.has_failed reader.old ≡ false) × (F.has_ended reader.old ≡ false) }
+    requires max { max ≤ 67108864 }
+    ensures all { IfOk result (λ text. IfSome (F.remaining reader.old) (λ input. text ≡ input)) }
+    ensures size { IfOk result (λ text. length text ≤ max) }
+    ensures at_end { OnOk result (IsAtEnd (F.remaining reader.new)) }
+    ensures ended { OnOk result (F.has_ended reader.new ≡ true) }
+    // Read exactly where the reader failed.
+    ensures read { (result ≡ Err RunFault.Read → F.has_failed reader.new ≡ true) × (result ≢ Err RunFault.Read → F.has_failed reader.new ≡ false) }
+    // TooLong exactly where more than `max` bytes came.
+    ensures too_long { result ≡ Err RunFault.TooLong → IfSome (F.remaining reader.old) (λ input. max < length input) }
+    ensures only { IfErr result (λ fault. IsReadFault fault) }
+{
+    let mut chunk = room_for(alloc, CHUNK)?;
+    let mut text: Vec<u8> = Vec::new(alloc);
+    for _ in 0..max + 1 {
+        let room = (max + 1 - text.len()).min(chunk.len());
+        let count = read_some(reader, &mut chunk[..room], &mut text)?;
+        if count == 0 {
+            return Ok(Text::of(text));
+        }
+        if text.len() > max {
+            return Err(RunFault::TooLong);
+        }
+    }
+    unreachable!()
+}

@@ -1,0 +1,28 @@
+-- What the process ends with.
+use Rattle.std.specs.Prelude.{ℕ}
+use Rattle.aliasplan_program.specs.declared.Status.{Status}
+use Rattle.aliasplan_program.specs.declared.Status.TheVariants.{Done, Found, Refused, OutOfMemory, Broken, CommandLine}
+use Rattle.aliasplan.specs.declared.fault.RunFault.{RunFault}
+use Rattle.aliasplan.specs.declared.fault.RunFault.TheVariants.{Read, TooLong, BadJob, BadSetting, BadEnvelope, TooManyNames, TooManyOwners, TooManyPairs, Write, Memory}
+
+-- 2 where the job is refused, 3 where memory ran out, 4 where a device failed
+abbrev pub code_of : RunFault → ℕ
+code_of Read = 4
+code_of TooLong = 2
+code_of (BadJob line) = 2
+code_of (BadSetting line) = 2
+code_of (BadEnvelope line) = 2
+code_of TooManyNames = 2
+code_of TooManyOwners = 2
+code_of TooManyPairs = 2
+code_of Write = 4
+code_of Memory = 3
+
+-- 0 and 1 where the plan is written, without findings and with them, 5 where the command line asks for nothing that there is
+abbrev pub code_after : Status → ℕ
+code_after Done = 0
+code_after Found = 1
+code_after Refused = 2
+code_after OutOfMemory = 3
+code_after Broken = 4
+code_after CommandLine = 5

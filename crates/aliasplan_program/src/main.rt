@@ -1,0 +1,102 @@
+//! `aliasplan plan`: reads a job on standard input and writes its plan on standard output.
+#![tactic(auto)]
+
+ghost use Rattle.std.specs.Prelude.{◌≡◌};
+ghost use Rattle.aliasplan_program.specs.Statuses.{code_of, code_after};
+
+mod command_line;
+mod standard_input;
+#[cfg(test)]
+mod tests;
+#[cfg(test)]
+mod tests_devices;
+
+use aliasplan::{Device, Limits, Options, RunFault, run};
+use command_line::{Request, read_words};
+use standard_input::StandardInput;
+use std::process::ExitCode;
+use std::rt::Env;
+use std::{env, io};
+
+/// What the process ends with.
+#[derive(Clone, Copy, Debug, PartialEq, Eq)]
+enum Status {
+    /// The plan is written, and has no findings.
+    Done,
+    /// The plan is written, and has findings.
+    Found,
+    /// The job is refused.
+    Refused,
+    /// Memory ran out.
+    OutOfMemory,
+    /// The job can't be read, or the plan can't be written.
+    Broken,
+    /// The command line asks for nothing that there is.
+    CommandLine,
+}
+
+impl Status {
+    fn code(self) -> u8
+        ensures { result ≡ code_after self }
+    {
+        match self {
+            Status::Done => 0,
+            Status::Found => 1,
+            Status::Refused => 2,
+            Status::OutOfMemory => 3,
+            Status::Broken => 4,
+            Status::CommandLine => 5,
+        }
+    }
+
+    fn of_fault(fault: RunFault) -> Status
+        ensures { code_after result ≡ code_of fault }
+    {
+        match fault {
+            RunFault::Read | RunFault::Write => Status::Broken,
+            RunFault::Memory => Status::OutOfMemory,
+            _ => Status::Refused,
+        }
+    }
+}
+
+/// How the work is divided, and how much a run takes, where the command line says nothing.
+const OPTIONS: Options = Options {
+    workers: 4,
+    cut: 1024,
+};
+
+const LIMITS: Limits = Limits { bytes: 67_108_864 };
+
+fn plan<R: Input + Print + Eprint + AllocGlobal>(rt: &R) -> Status {
+    let mut reader = Device::new(StandardInput::new(rt.reader()));
+    let mut writer = Device::new(io::writer(rt));
+    match run(rt.alloc(), &mut reader, &mut writer, OPTIONS, LIMITS) {
+        Ok(summary) if summary.findings == 0 => Status::Done,
+        Ok(_) => Status::Found,
+        Err(fault) => {
+            let _ = eprintln!(rt; "aliasplan: {fault}");
+            Status::of_fault(fault)
+        }
+    }
+}
+
+fn answer<R: Input + Print + Eprint + Env + AllocGlobal>(rt: &R) -> Status {
+    let Ok(words) = env::args(rt) else {
+        let _ = eprintln!(rt; "aliasplan: {}", RunFault::Memory);
+        return Status::OutOfMemory;
+    };
+    match read_words(rt, words) {
+        Request::Plan => plan(rt),
+        Request::Help => Status::Done,
+        Request::Unknown => Status::CommandLine,
+        Request::Memory => {
+            let _ = eprintln!(rt; "aliasplan: {}", RunFault::Memory);
+            Status::OutOfMemory
+        }
+    }
+}
+
+fn main(rt: HostRuntime) -> ExitCode {
+    ExitCode::from(answer(&rt).code())
+}

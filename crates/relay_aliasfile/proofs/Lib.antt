@@ -1,0 +1,2 @@
+pub mod FirstTexts
+pub mod MailboxNames

@@ -1,0 +1,2 @@
+pub mod MailboxFiles
+pub mod DistinctTexts

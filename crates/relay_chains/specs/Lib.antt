@@ -1,0 +1,5 @@
+pub mod Buckets
+pub mod KeyLimits
+pub mod Keys
+pub mod Chains
+pub mod Interner

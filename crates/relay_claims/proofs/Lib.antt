@@ -1,0 +1,10 @@
+pub mod Counts
+pub mod Chains
+pub mod Rules
+pub mod Looks
+pub mod Scans
+pub mod Puts
+pub mod Pieces
+pub mod Halves
+pub mod Closings
+pub mod Work

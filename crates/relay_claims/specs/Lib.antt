@@ -1,0 +1,10 @@
+pub mod Counting
+pub mod Settled
+pub mod Round
+pub mod View
+pub mod Seat
+pub mod Claim
+pub mod Closing
+pub mod Work
+pub mod Lawful
+pub mod Steps

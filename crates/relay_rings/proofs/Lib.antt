@@ -1,0 +1,12 @@
+pub mod Rows
+pub mod Steps
+pub mod Counting
+pub mod RingLemmas
+pub mod Members
+pub mod Parts
+pub mod KeyLemmas
+pub mod GroupLemmas
+pub mod SoundLemmas
+pub mod CutLemmas
+pub mod DestLemmas
+pub mod Ascending

@@ -1,0 +1,5 @@
+pub mod RingLists
+pub mod Links
+pub mod Walks
+pub mod Batches
+pub mod Sound

@@ -1,0 +1,5 @@
+pub mod Routing
+pub mod Transports
+pub mod Nexthops
+pub mod Forms
+pub mod Routes

@@ -1,0 +1,85 @@
+//! The nexthops of each transport.
+ghost use Rattle.std.specs.Prelude.{◌≡◌, ◌++◌, [], ◌∷◌, option_map, IfOk};
+ghost use Rattle.std.specs.List.{list_all};
+ghost use Rattle.std.specs.Char.{is_ascii_graphic};
+ghost use Rattle.relay_text.specs.Addresses.{is_run_of};
+ghost use Rattle.relay_text.specs.Bytes.{folded};
+ghost use Rattle.relay_routes.specs.Nexthops.{nexthop_of, unix_form};
+ghost use Rattle.relay_routes.specs.Forms.{at_path, nexthop_from};
+
+use crate::host_form::{HostForm, after_word, host_form, inet_form};
+use crate::transport::Transport;
+
+/// A nexthop, read in place.
+#[derive(Drop)]
+pub(crate) enum Form<'a> {
+    /// A host.
+    Host(HostForm<'a>),
+    /// A socket of this path, without `unix:`.
+    Unix(&'a [u8]),
+}
+
+impl<'a> Form<'a> {
+    /// Whether the host's mail exchangers are looked up.
+    pub(crate) fn looks_up(&self) -> bool
+        ensures { result ≡ (nexthop_from self.now).looks_up }
+    {
+        match self {
+            Form::Host(form) => form.looks_up,
+            Form::Unix(_) => false,
+        }
+    }
+}
+
+/// The nexthop that a text names to a transport, `None` where it's of none of the transport's forms.
+pub(crate) fn form_of(transport: Transport, text: &[u8]) -> Option<Form<'_>>
+    ensures { option_map nexthop_from result ≡ nexthop_of transport text.now }
+{
+    match transport {
+        Transport::Smtp => Some(Form::Host(host_form(text)?)),
+        Transport::Relay => Some(Form::Host(host_form(text)?)),
+        Transport::Lmtp => lmtp_form(text),
+    }
+}
+
+/// `unix:path`, `inet:` and a host, or a host, whose mail exchangers aren't looked up (lmtp(8), "LMTP DESTINATION SYNTAX").
+fn lmtp_form(text: &[u8]) -> Option<Form<'_>>
+    ensures { option_map nexthop_from result ≡ nexthop_of Transport.Lmtp text.now }
+{
+    if let Some(path) = unix_form(text) {
+        return Some(Form::Unix(path));
+    }
+    let form = match inet_form(text) {
+        Some(form) => form,
+        None => host_form(text)?,
+    };
+    Some(Form::Host(HostForm {
+        text: form.text,
+        host: form.host,
+        port: form.port,
+        looks_up: false,
+    }))
+}
+
+/// The path of `unix:path`.
+fn unix_form(text: &[u8]) -> Option<&[u8]>
+    ensures { option_map (λ path. at_path path.now) result ≡ unix_form text.now }
+{
+    let path = after_word(b"unix:", text)?;
+    if is_path(path) { Some(path) } else { None }
+}
+
+/// A run of at least one byte that prints.
+#[tactic(auto, using(crate::proofs::Readings::is_run_of_some))]
+fn is_path(path: &[u8]) -> bool
+    ensures { result ≡ is_run_of is_ascii_graphic path.now }
+{
+    !path.is_empty() && all_graphic(path)
+}
+
+/// Whether every byte prints.
+fn all_graphic(text: &[u8]) -> bool
+    ensures { result ≡ list_all is_ascii_graphic text.now }
+{
+    text.iter().all(u8::is_ascii_graphic)
+}

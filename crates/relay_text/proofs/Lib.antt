@@ -1,0 +1,16 @@
+pub mod Rows
+pub mod Scans
+pub mod KeptWalks
+pub mod LogicalLines
+pub mod QuoteMarks
+pub mod Domains
+pub mod Spellings
+pub mod Folds
+pub mod Faults
+pub mod Limits
+pub mod PathFaults
+pub mod Paths
+pub mod Writing
+pub mod Splits
+pub mod Numbers
+pub mod TextSets

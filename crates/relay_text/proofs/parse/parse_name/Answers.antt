@@ -1,0 +1,44 @@
+use Rattle.std.proofs.Common.{◌≡◌, ◌∙◌, sym, ap, refl, arith, Ok, length}
+use Rattle.std.proofs.lemmas.List.{append-nil}
+use Rattle.std.proofs.lemmas.Result.{err_from_is_err_and}
+use Rattle.relay_text.specs.Addresses.{local_of, local_cut, local_text_of}
+use Rattle.relay_text.proofs.Faults.{answers_fault, name-local_fault, name-domain_fault, name-too_long, name-ok}
+use Rattle.relay_text.proofs.Limits.{check_of, rest_is, local_too_long, local_fits}
+use Rattle.relay_text.proofs.Writing.{local_text_longer}
+use Rattle.relay_text.proofs.parse.parse_name.Goals as goal
+
+pub returns-in_err-check : goal.returns-in_err-check
+returns-in_err-check c =
+    let p = err_from_is_err_and c.from_residual.result c.from_residual.ensures.1 in
+    let fault = name-local_fault c.args.bytes.now c.in_err-check.field-0.0 (check_of c.of-cut.result _ c.check.result _ c.of-cut.ensures c.check.ensures c.in_err-check.was) in
+    record { spelled = rw (p.1, p.2) (answers_fault c.in_err-check.field-0.0 _ fault) }
+
+pub returns-then-not-is_empty : goal.returns-then-not-is_empty
+returns-then-not-is_empty c =
+    let passes = check_of c.of-cut.result (local_cut c.args.bytes.now) c.check.result _ c.of-cut.ensures c.check.ensures c.in_ok-check.was in
+    let rest = rest_is c.args.bytes.now c.rest.result.now c.of-cut.result _ c.of-cut.ensures c.rest.ensures (sym c.is_empty.ensures ∙ c.if-not-is_empty.true) in
+    record { spelled = name-domain_fault c.args.bytes.now passes rest }
+
+pub returns-then-local_len-gt-MAX_LOCAL : goal.returns-then-local_len-gt-MAX_LOCAL
+returns-then-local_len-gt-MAX_LOCAL c =
+    let passes = check_of c.of-cut.result (local_cut c.args.bytes.now) c.check.result _ c.of-cut.ensures c.check.ensures c.in_ok-check.was in
+    let rest = rest_is c.args.bytes.now c.rest.result.now c.of-cut.result _ c.of-cut.ensures c.rest.ensures (sym c.is_empty.ensures ∙ c.if-not-is_empty.false) in
+    let local = local_of (local_cut c.args.bytes.now) in
+    let len : c.local_len.result ≡ length (local_of (local_cut c.args.bytes.now)) = c.local_len.ensures ∙ ap (λ k. length (local_of k)) c.of-cut.ensures in
+    record { spelled = name-too_long c.args.bytes.now passes rest (local_too_long local (length (local_text_of local)) refl (omega (arith, len, local_text_longer local, c.if-local_len-gt-MAX_LOCAL.true))) }
+
+pub returns-then-local_text_len-gt-MAX_LOCAL : goal.returns-then-local_text_len-gt-MAX_LOCAL
+returns-then-local_text_len-gt-MAX_LOCAL c =
+    let passes = check_of c.of-cut.result (local_cut c.args.bytes.now) c.check.result _ c.of-cut.ensures c.check.ensures c.in_ok-check.was in
+    let rest = rest_is c.args.bytes.now c.rest.result.now c.of-cut.result _ c.of-cut.ensures c.rest.ensures (sym c.is_empty.ensures ∙ c.if-not-is_empty.false) in
+    let items = c.in-Ok.ensures ∙ append-nil (local_of c.of-cut.result) ∙ ap local_of c.of-cut.ensures in
+    let written = c.local_text_len.ensures ∙ ap (λ xs. length (local_text_of xs)) (c.deref.ensures.value ∙ items) in
+    record { spelled = name-too_long c.args.bytes.now passes rest (local_too_long (local_of (local_cut c.args.bytes.now)) c.local_text_len.result written c.if-local_text_len-gt-MAX_LOCAL.true) }
+
+pub returns : goal.returns
+returns c =
+    let passes = check_of c.of-cut.result (local_cut c.args.bytes.now) c.check.result _ c.of-cut.ensures c.check.ensures c.in_ok-check.was in
+    let rest = rest_is c.args.bytes.now c.rest.result.now c.of-cut.result _ c.of-cut.ensures c.rest.ensures (sym c.is_empty.ensures ∙ c.if-not-is_empty.false) in
+    let items = c.in-Ok.ensures ∙ append-nil (local_of c.of-cut.result) ∙ ap local_of c.of-cut.ensures in
+    let written = c.local_text_len.ensures ∙ ap (λ xs. length (local_text_of xs)) (c.deref.ensures.value ∙ items) in
+    record { spelled = name-ok c.args.bytes.now passes rest (local_fits (local_of (local_cut c.args.bytes.now)) c.local_text_len.result written c.if-local_text_len-gt-MAX_LOCAL.false) ∙ ap (λ x. Ok x) (sym (c.of.ensures ∙ items)) }

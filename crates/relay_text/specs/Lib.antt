@@ -1,0 +1,9 @@
+pub mod Bytes
+pub mod Lines
+pub mod Quotes
+pub mod AddressParts
+pub mod Addresses
+pub mod KeptLines
+pub mod Gathered
+pub mod Numbers
+pub mod TextSets

@@ -1,0 +1,73 @@
+//! The physical lines of a text that aren't ignored.
+ghost use Rattle.std.specs.Prelude.{◌+◌, ◌^◌, ◌<◌, length};
+
+use crate::scan::{is_ignored, line_text, split_line};
+
+/// A physical line without its end, under its number from 1. Ignored lines count too.
+#[derive(Clone, Copy, Debug)]
+pub struct KeptLine<'a> {
+    /// The number of the line in its text, from 1.
+    pub number: usize,
+    /// Its bytes, without the LF and one CR before it.
+    pub text: &'a [u8],
+}
+
+/// A reader over the physical lines of a text that passes the ignored ones: those that are empty, of white space alone, or a comment
+/// (aliases(5)). It takes no memory, and reads each byte once.
+#[derive(Clone, Copy, Debug)]
+pub struct KeptLines<'a> {
+    rest: &'a [u8],
+    passed: usize,
+    ghost counted: { passed + length rest.now < 2 ^ 64 },
+}
+
+impl<'a> KeptLines<'a> {
+    ghost use Rattle.std.specs.Prelude.{◌≡◌, ◌∷◌, [], IfSome, IfNone};
+    ghost use Rattle.relay_text.specs.Lines.{kept_lines};
+    ghost use Rattle.relay_text.specs.KeptLines.{kept_line, kept_rest};
+
+    /// A reader that begins at the first line, which has the number 1.
+    pub fn new(bytes: &'a [u8]) -> Self
+        ensures { kept_rest result ≡ kept_lines bytes.now }
+    {
+        KeptLines {
+            rest: bytes,
+            passed: 0,
+        }
+    }
+
+    /// The next line that isn't ignored; `None` at the end, and again from then on.
+    pub fn next_line(&mut self) -> Option<KeptLine<'a>>
+        ensures none { IfNone result (kept_rest self.old ≡ []) }
+        ensures ended { IfNone result (kept_rest self.new ≡ []) }
+        ensures some { IfSome result (λ line. kept_rest self.old ≡ kept_line line ∷ kept_rest self.new) }
+    {
+        while let Some((raw, rest)) = split_line(self.rest) {
+            self.rest = rest;
+            self.passed += 1;
+            let text = line_text(raw);
+            if !is_ignored(text) {
+                return Some(KeptLine {
+                    number: self.passed,
+                    text,
+                });
+            }
+        }
+        None
+    }
+}
+
+impl<'a> Iterator for KeptLines<'a> {
+    type Item = KeptLine<'a>;
+
+    ghost use Rattle.std.specs.Iterator.{YieldsFirstBy, item_count};
+    ghost use Rattle.relay_text.specs.KeptLines.{kept_line, kept_rest};
+
+    ghost next_gives = { YieldsFirstBy kept_line kept_rest };
+
+    ghost remaining = { item_count kept_rest };
+
+    fn next(&mut self) -> Option<KeptLine<'a>> {
+        self.next_line()
+    }
+}

@@ -1,0 +1,45 @@
+//! Addresses, names and lines of text, as alias files, tables and envelopes spell them.
+#![tactic(auto)]
+
+pub mod address;
+mod cut;
+pub mod domain;
+pub mod fault;
+mod gathered;
+mod inside;
+pub mod kept;
+pub mod lines;
+mod local;
+pub mod number;
+pub mod parse;
+pub mod scan;
+pub mod seq;
+pub mod split;
+#[cfg(test)]
+mod tests_lines;
+#[cfg(test)]
+mod tests_parse;
+#[cfg(test)]
+mod tests_sets;
+#[cfg(test)]
+mod tests_write;
+pub mod text;
+pub mod text_set;
+pub mod write;
+
+pub use address::Address;
+pub use domain::{is_domain, is_domain_name, is_literal_content};
+pub use fault::TextFault;
+pub use kept::{KeptLine, KeptLines};
+pub use lines::{Line, Lines, logical_lines};
+pub use local::local_text_len;
+pub use number::number_within;
+pub use parse::{parse_address, parse_name, parse_path};
+pub use scan::{
+    begins_with_word, fold, is_ignored, line_text, split_line, trimmed, trimmed_end, trimmed_start,
+};
+pub use seq::Seq;
+pub use split::split_place;
+pub use text::Text;
+pub use text_set::TextSet;
+pub use write::{null_path, one_name, one_spelling, path_len, write_local, write_path};

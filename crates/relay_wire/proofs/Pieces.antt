@@ -1,0 +1,74 @@
+-- Words and lines, one after another.
+use Rattle.std.proofs.Common.{◌≡◌, ℕ, ◌+◌, ◌<◌, List, [], ◌∷◌, ◌++◌, length, take, map, flat_map, get_or, ap, append_assoc, subst, sym, ◌∙◌, codes, ◌≤◌, arith, rules}
+use Rattle.std.specs.List.{enumerate_from, join_with_byte}
+use Rattle.std.proofs.lemmas.List.{take_more, take_all, map-append, append-nil}
+use Rattle.std.proofs.lemmas.List.Concat.{flat_map-append}
+use Rattle.std.proofs.lemmas.List.FromFn.{length-enumerate_from, get_or-enumerate_from}
+use Rattle.relay_wire.specs.Findings.{spaced, after_spaces}
+use Rattle.relay_wire.specs.PlanText.{line, lines_of, transaction_text, numbered_texts}
+use Rattle.relay_wire.specs.declared.plan.Planned.{Planned}
+
+pub spaced_after : (w : List ℕ) (ws : List (List ℕ)) → join_with_byte 32 (w ∷ ws) ≡ w ++ after_spaces ws
+spaced_after w [] = search (rules, append-nil)
+spaced_after w (x ∷ xs) = ap (λ l. w ++ (32 ∷ l)) (spaced_after x xs)
+
+one_more : {X : Type 0} (f : X → List ℕ) (xs : List X) (x : X) → flat_map f (xs ++ x ∷ []) ≡ flat_map f xs ++ f x
+one_more f xs x = rw flat_map-append (ap (λ l. flat_map f xs ++ l) (append-nil (f x)))
+
+pub pieces_more : {X : Type 0} (f : X → List ℕ) (xs : List X) (i : ℕ) (d : X) → i < length xs → flat_map f (take (i + 1) xs) ≡ flat_map f (take i xs) ++ f (get_or xs i d)
+pieces_more f xs i d h = rw (take_more xs i d h) (one_more f (take i xs) (get_or xs i d))
+
+pub lines_more : {X : Type 0} (f : X → List ℕ) (xs : List X) (i : ℕ) (d : X) → i < length xs → lines_of (map f (take (i + 1) xs)) ≡ lines_of (map f (take i xs)) ++ line (f (get_or xs i d))
+lines_more f xs i d h = rw (take_more xs i d h, map-append f (take i xs) (get_or xs i d ∷ [])) (one_more line (map f (take i xs)) (f (get_or xs i d)))
+
+pub numbered_more : (xs : List Planned) (i : ℕ) (d : Planned) → i < length xs → numbered_texts (take (i + 1) (enumerate_from 1 xs)) ≡ numbered_texts (take i (enumerate_from 1 xs)) ++ transaction_text (i + 1) (get_or xs i d)
+numbered_more xs i d h =
+    let within : i < length (enumerate_from 1 xs) = rw (length-enumerate_from 1 xs) h in
+    let item : get_or (enumerate_from 1 xs) i (0, d) ≡ (1 + i, get_or xs i d) = get_or-enumerate_from 1 xs i (0, d) h in
+    let next : 1 + i ≡ i + 1 = omega arith in
+    let more : numbered_texts (take (i + 1) (enumerate_from 1 xs)) ≡ numbered_texts (take i (enumerate_from 1 xs)) ++ transaction_text (get_or (enumerate_from 1 xs) i (0, d)).0 (get_or (enumerate_from 1 xs) i (0, d)).1 = pieces_more (λ t. transaction_text t.0 t.1) (enumerate_from 1 xs) i (0, d) within in
+    let here : numbered_texts (take (i + 1) (enumerate_from 1 xs)) ≡ numbered_texts (take i (enumerate_from 1 xs)) ++ transaction_text (1 + i) (get_or xs i d) = subst (λ (p : ℕ × Planned). numbered_texts (take (i + 1) (enumerate_from 1 xs)) ≡ numbered_texts (take i (enumerate_from 1 xs)) ++ transaction_text p.0 p.1) item more in
+    subst (λ (n : ℕ). numbered_texts (take (i + 1) (enumerate_from 1 xs)) ≡ numbered_texts (take i (enumerate_from 1 xs)) ++ transaction_text n (get_or xs i d)) next here
+
+pub numbered_all : (xs : List Planned) (i : ℕ) → length xs ≤ i → take i (enumerate_from 1 xs) ≡ enumerate_from 1 xs
+numbered_all xs i h = take_all i (enumerate_from 1 xs) (rw (length-enumerate_from 1 xs) h)
+
+pub lines_append : (xs ys : List (List ℕ)) → lines_of (xs ++ ys) ≡ lines_of xs ++ lines_of ys
+lines_append xs ys = flat_map-append line xs ys
+
+pair_more : (out a b rest : List ℕ) → (out ++ after_spaces (a ∷ b ∷ [])) ++ rest ≡ out ++ (32 ∷ (a ++ (32 ∷ (b ++ rest))))
+pair_more out a b rest =
+    let inner : (a ++ (32 ∷ (b ++ []))) ++ rest ≡ a ++ (32 ∷ (b ++ rest)) = append_assoc a (32 ∷ (b ++ [])) rest ∙ ap (λ (l : List ℕ). a ++ (32 ∷ l)) (append_assoc b [] rest) in
+    append_assoc out (32 ∷ (a ++ (32 ∷ (b ++ [])))) rest ∙ ap (λ (l : List ℕ). out ++ (32 ∷ l)) inner
+
+counts_joined : (x y z : List ℕ) → codes "plan" ++ (32 ∷ (x ++ (32 ∷ (codes "transactions" ++ (32 ∷ (y ++ (32 ∷ (codes "recipients" ++ (32 ∷ (z ++ (32 ∷ (codes "findings" ++ 10 ∷ [])))))))))))) ≡ line (spaced (codes "plan" ∷ x ∷ codes "transactions" ∷ y ∷ codes "recipients" ∷ z ∷ codes "findings" ∷ []))
+counts_joined x y z = simp append_assoc
+
+pub counts_are : (out x y z : List ℕ) → ((((out ++ codes "plan") ++ after_spaces (x ∷ codes "transactions" ∷ [])) ++ after_spaces (y ∷ codes "recipients" ∷ [])) ++ after_spaces (z ∷ codes "findings" ∷ [])) ++ 10 ∷ [] ≡ out ++ line (spaced (codes "plan" ∷ x ∷ codes "transactions" ∷ y ∷ codes "recipients" ∷ z ∷ codes "findings" ∷ []))
+counts_are out x y z =
+    let third : List ℕ = 32 ∷ (z ++ (32 ∷ (codes "findings" ++ 10 ∷ []))) in
+    let second : List ℕ = 32 ∷ (y ++ (32 ∷ (codes "recipients" ++ third))) in
+    let first : List ℕ = 32 ∷ (x ++ (32 ∷ (codes "transactions" ++ second))) in
+    pair_more (((out ++ codes "plan") ++ after_spaces (x ∷ codes "transactions" ∷ [])) ++ after_spaces (y ∷ codes "recipients" ∷ [])) z (codes "findings") (10 ∷ [])
+    ∙ pair_more ((out ++ codes "plan") ++ after_spaces (x ∷ codes "transactions" ∷ [])) y (codes "recipients") third
+    ∙ pair_more (out ++ codes "plan") x (codes "transactions") second
+    ∙ append_assoc out (codes "plan") first
+    ∙ ap (λ l. out ++ l) (counts_joined x y z)
+
+ends_here : (out a b rest : List ℕ) → (out ++ (a ++ (b ++ []))) ++ rest ≡ out ++ (a ++ (b ++ rest))
+ends_here out a b rest = simp (append-nil, append_assoc)
+
+pub transaction_is : (out first second : List ℕ) (route to : List (List ℕ)) → ((out ++ lines_of (first ∷ second ∷ [])) ++ lines_of route) ++ lines_of to ≡ out ++ lines_of (first ∷ second ∷ route ++ to)
+transaction_is out first second route to =
+    let joined : lines_of (route ++ to) ≡ lines_of route ++ lines_of to = flat_map-append line route to in
+    let end : (out ++ lines_of (first ∷ second ∷ [])) ++ (lines_of route ++ lines_of to) ≡ out ++ (line first ++ (line second ++ (lines_of route ++ lines_of to))) = ends_here out (line first) (line second) (lines_of route ++ lines_of to) in
+    append_assoc (out ++ lines_of (first ∷ second ∷ [])) (lines_of route) (lines_of to) ∙ end ∙ ap (λ l. out ++ (line first ++ (line second ++ l))) (sym joined)
+
+pub numbered_step : (out written new : List ℕ) (xs : List Planned) (i : ℕ) (d : Planned) → i < length xs → d ≡ get_or xs i d → written ≡ out ++ numbered_texts (take i (enumerate_from 1 xs)) → new ≡ written ++ transaction_text (i + 1) d → new ≡ out ++ numbered_texts (take (i + 1) (enumerate_from 1 xs))
+numbered_step out written new xs i d h at before after =
+    let more : numbered_texts (take (i + 1) (enumerate_from 1 xs)) ≡ numbered_texts (take i (enumerate_from 1 xs)) ++ transaction_text (i + 1) (get_or xs i d) = numbered_more xs i d h in
+    let same : transaction_text (i + 1) (get_or xs i d) ≡ transaction_text (i + 1) d = ap (λ p. transaction_text (i + 1) p) (sym at) in
+    after
+    ∙ ap (λ l. l ++ transaction_text (i + 1) d) before
+    ∙ append_assoc out (numbered_texts (take i (enumerate_from 1 xs))) (transaction_text (i + 1) d)
+    ∙ ap (λ l. out ++ l) (ap (λ l. numbered_texts (take i (enumerate_from 1 xs)) ++ l) (sym same) ∙ sym more)

@@ -1,0 +1,185 @@
+//! Plans.
+ghost use Rattle.std.specs.Prelude.{◌≡◌, ◌≤◌, ◌^◌, ◌∷◌, ◌++◌, [], map, decimal, option_map, IfOk, IfSome, IfNone, OnOk};
+ghost use Rattle.std.specs.List.{enumerate_from};
+ghost use Rattle.relay_wire.specs.Findings.{after_spaces};
+ghost use Rattle.relay_wire.specs.PlanText.{line, lines_of, recipient_count, counts_line, first_line, via_line, host_line, host_lines, from_line, to_line, transaction_line, transaction_text, numbered_texts, plan_text_of};
+
+use crate::words::{put_number, put_path, put_word};
+use relay_routes::{Hosts, Transport};
+use relay_text::{Address, Seq, Text};
+use std::alloc::{AllocError, Global};
+
+/// A transaction as it's planned.
+#[derive(Drop)]
+pub struct Planned {
+    /// The sender; the null sender is `None` (RFC 5321 section 4.5.5).
+    pub from: Option<Address>,
+    pub transport: Transport,
+    /// As the plan writes it.
+    pub nexthop: Text,
+    /// In the order in which they are tried.
+    pub hosts: Hosts,
+    /// The recipients.
+    pub to: Seq<Address>,
+}
+
+/// A plan: the relay's host name, the transactions, and the lines of its findings.
+#[derive(Drop)]
+pub struct Plan {
+    pub hostname: Text,
+    pub transactions: Seq<Planned>,
+    /// Each without its end.
+    pub findings: Seq<Text>,
+}
+
+// How many recipients the transactions have; `None` where a `usize` holds no such number.
+#[tactic(auto, using(std::proofs::lemmas::List::Sums::sum_by_more_le))]
+fn recipient_count(plan: &Plan) -> Option<usize>
+    ensures some { IfSome result (λ count. count ≡ recipient_count plan.now) }
+    ensures none { IfNone result (2 ^ 64 ≤ recipient_count plan.now) }
+{
+    let mut count: usize = 0;
+    for planned in plan.transactions.as_slice() {
+        count = count.checked_add(planned.to.len())?;
+    }
+    Some(count)
+}
+
+// Puts a number at the end, and what it counts.
+fn put_count(number: usize, counted: &[u8], out: &mut Vec<u8>) -> Result<(), AllocError>
+    ensures { OnOk result (out.new.items ≡ out.old.items ++ after_spaces (decimal number ∷ counted.now ∷ [])) }
+{
+    put_number(number, out)?;
+    put_word(counted, out)
+}
+
+// Writes the line that counts.
+fn put_counts(
+    transactions: usize,
+    recipients: usize,
+    findings: usize,
+    out: &mut Vec<u8>,
+) -> Result<(), AllocError>
+    ensures { OnOk result (out.new.items ≡ out.old.items ++ line (counts_line transactions recipients findings)) }
+{
+    out.extend_from_slice(b"plan")?;
+    put_count(transactions, b"transactions", out)?;
+    put_count(recipients, b"recipients", out)?;
+    put_count(findings, b"findings", out)?;
+    out.push(b'\n')?;
+    Ok(())
+}
+
+// Writes the line of a transaction's number, and the line of its sender.
+fn put_sender(number: usize, from: Option<&Address>, out: &mut Vec<u8>) -> Result<(), AllocError>
+    ensures { OnOk result (out.new.items ≡ out.old.items ++ lines_of (transaction_line number ∷ from_line (option_map (λ a. a.now) from.entry) ∷ [])) }
+{
+    out.extend_from_slice(b"transaction")?;
+    put_number(number, out)?;
+    out.extend_from_slice(b"\nfrom")?;
+    put_path(from, out)?;
+    out.push(b'\n')?;
+    Ok(())
+}
+
+// Writes the line of a transaction's transport and nexthop.
+fn put_via(planned: &Planned, out: &mut Vec<u8>) -> Result<(), AllocError>
+    ensures { OnOk result (out.new.items ≡ out.old.items ++ line (via_line planned.now)) }
+{
+    out.extend_from_slice(b"via")?;
+    put_word(planned.transport.name(), out)?;
+    put_word(planned.nexthop.as_bytes(), out)?;
+    out.push(b'\n')?;
+    Ok(())
+}
+
+// Writes the line of each host.
+fn put_hosts(hosts: &[Text], out: &mut Vec<u8>) -> Result<(), AllocError>
+    ensures { OnOk result (out.new.items ≡ out.old.items ++ lines_of (map host_line hosts.now)) }
+{
+    for host in hosts {
+        out.extend_from_slice(b"host")?;
+        put_word(host.as_bytes(), out)?;
+        out.push(b'\n')?;
+    }
+    Ok(())
+}
+
+// Writes the line of each recipient.
+fn put_recipients(to: &[Address], out: &mut Vec<u8>) -> Result<(), AllocError>
+    ensures { OnOk result (out.new.items ≡ out.old.items ++ lines_of (map to_line to.now)) }
+{
+    for address in to {
+        out.extend_from_slice(b"to")?;
+        put_path(Some(address), out)?;
+        out.push(b'\n')?;
+    }
+    Ok(())
+}
+
+// Writes where a transaction goes.
+fn put_route(planned: &Planned, out: &mut Vec<u8>) -> Result<(), AllocError>
+    ensures { OnOk result (out.new.items ≡ out.old.items ++ lines_of (host_lines planned.now)) }
+{
+    put_via(planned, out)?;
+    put_hosts(planned.hosts.as_slice(), out)
+}
+
+// Writes a transaction.
+fn put_transaction(number: usize, planned: &Planned, out: &mut Vec<u8>) -> Result<(), AllocError>
+    ensures { OnOk result (out.new.items ≡ out.old.items ++ transaction_text number planned.now) }
+{
+    put_sender(number, planned.from.as_ref(), out)?;
+    put_route(planned, out)?;
+    put_recipients(planned.to.as_slice(), out)
+}
+
+// Writes the transactions.
+#[tactic(auto, using(crate::proofs::Pieces::numbered_all))]
+fn put_transactions(transactions: &[Planned], out: &mut Vec<u8>) -> Result<(), AllocError>
+    ensures { OnOk result (out.new.items ≡ out.old.items ++ numbered_texts (enumerate_from 1 transactions.now)) }
+{
+    for (index, planned) in transactions.iter().enumerate() {
+        put_transaction(index + 1, planned, out)?;
+    }
+    Ok(())
+}
+
+// Writes lines that are there already.
+fn put_lines(lines: &[Text], out: &mut Vec<u8>) -> Result<(), AllocError>
+    ensures { OnOk result (out.new.items ≡ out.old.items ++ lines_of lines.now) }
+{
+    for text in lines {
+        out.extend_from_slice(text.as_bytes())?;
+        out.push(b'\n')?;
+    }
+    Ok(())
+}
+
+// Writes the line that counts; an `Err` too where a `usize` doesn't count the recipients.
+fn put_first_line(plan: &Plan, out: &mut Vec<u8>) -> Result<(), AllocError>
+    ensures { OnOk result (out.new.items ≡ out.old.items ++ line (first_line plan.now)) }
+{
+    let Some(recipients) = recipient_count(plan) else {
+        return Err(AllocError);
+    };
+    put_counts(
+        plan.transactions.len(),
+        recipients,
+        plan.findings.len(),
+        out,
+    )
+}
+
+/// The text of a plan: a line of counts, each transaction, the findings, and `end`. A plan whose recipients a `usize` doesn't
+/// count is larger than memory, and gets an `Err`.
+pub fn plan_text(alloc: Global, plan: &Plan) -> Result<Text, AllocError>
+    ensures { IfOk result (λ text. text ≡ plan_text_of plan.now) }
+{
+    let mut out = Vec::new(alloc);
+    put_first_line(plan, &mut out)?;
+    put_transactions(plan.transactions.as_slice(), &mut out)?;
+    put_lines(plan.findings.as_slice(), &mut out)?;
+    out.extend_from_slice(b"end\n")?;
+    Ok(Text::of(out))
+}
