@@ -11,14 +11,17 @@ use Rattle.relay_text.specs.Addresses.{path_text_of}
 use Rattle.relay_routes.specs.declared.transport.Transport.{Transport}
 use Rattle.relay_routes.specs.declared.route.Route.{Route}
 use Rattle.relay_routes.specs.declared.unrouted.Unrouted.{Unrouted}
-use Rattle.relay_routes.specs.Transports.{transport_name}
-use Rattle.relay_routes.specs.Routes.{route_to}
+use Rattle.relay_routes.specs.Transports.{transport_name, choice_for}
+use Rattle.relay_routes.specs.Routing.{Routing}
+use Rattle.relay_routes.specs.declared.choice.Choice.{Choice}
+use Rattle.relay_routes.specs.declared.choice.Choice.TheVariants as choices
+use Rattle.relay_routes.specs.Routes.{route_to, route_for}
 use Rattle.aliasplan.specs.declared.job.Job.{Job}
 use Rattle.aliasplan.specs.declared.target.Target.{Target}
 use Rattle.aliasplan.specs.declared.target.Target.TheVariants.{Mailbox, Remote, Missing}
 use Rattle.aliasplan.specs.declared.lane.Lane.{Lane}
 use Rattle.aliasplan.specs.declared.lanes.Lanes.{Lanes}
-use Rattle.aliasplan.specs.Delivery.{Sender, IsPlaced, recipient_target, final_route, final_address}
+use Rattle.aliasplan.specs.Delivery.{Sender, routing_of, IsPlaced, recipient_target, final_route, final_address}
 use Rattle.aliasplan.specs.Plans.{Group, group_cmp, path_cmp, IsGrouped, IsGrouping}
 use Rattle.relay_text.specs.TextSets.{text_cmp, IsAscendingBy}
 use Rattle.aliasplan.specs.Lanes.{HasStop, HaveStop, IsStopOf, IsStopAt, lanes_of, lane_cmp, lane_route, group_of, AreRouted, AreInOrder}
@@ -26,40 +29,49 @@ use Rattle.aliasplan.proofs.Members.{Contains-map, Contains-from_map}
 use Rattle.relay_routes.proofs.RouteFacts.{route_again}
 use Rattle.aliasplan.proofs.StopFacts.{lane_stop, stop_lane}
 
--- a stop by what a transport and a nexthop answer
-record Placed (t' : Transport) (n' : List ℕ) (t : Transport) (n : List ℕ) : Type 0 where
-  route : Route
-  first : route_to t' n' ≡ Ok route
-  again : route_to t n ≡ Ok route
-  by_transport : route.transport ≡ t
-  to_nexthop : route.nexthop ≡ n
-
-placed_by : (t' : Transport) (n' : List ℕ) (address : AddressParts) (t : Transport) (n : List ℕ) (a : AddressParts) → IsStopAt (route_to t' n') address t n a → Placed t' n' t n × (address ≡ a)
-placed_by t' n' address t n a h = at (route_to t' n') refl h where
-  at : (o : Result Route Unrouted) → route_to t' n' ≡ o → IsStopAt o address t n a → Placed t' n' t n × (address ≡ a)
-  at (Err cause) found none = elim none [ ]
-  at (Ok route) found (by_transport, to_nexthop, is) =
-      let parts = route_again t' n' route found in
-      let same : t' ≡ t = sym parts.0 ∙ by_transport in
-      let written : route_to t n ≡ Ok route = ap (λ u. route_to u n) (sym same) ∙ ap (route_to t') (sym to_nexthop) ∙ parts.1 in
-      (record { route = route; first = found; again = written; by_transport = by_transport; to_nexthop = to_nexthop }, is)
-
-route_is : (t : Transport) (n : List ℕ) (route : Route) → route_to t n ≡ Ok route → lane_route t n ≡ route
-route_is t n route found = ap (or_none t n) found where
-  or_none : Transport → List ℕ → Result Route Unrouted → Route
-  or_none transport nexthop (Ok r) = r
-  or_none transport nexthop (Err reason) = record { transport = transport; nexthop = nexthop; hosts = [] }
-
 module _ (job : Job) where
   abbrev targets : List Target
   targets = map (recipient_target job) job.recipients
+
+  abbrev routes : Routing
+  routes = routing_of job
+
+  -- a stop by an answer of the router
+  record Placed (answer : Result Route Unrouted) (t : Transport) (n : List ℕ) : Type 0 where
+    route : Route
+    first : answer ≡ Ok route
+    again : route_to routes t n ≡ Ok route
+    by_transport : route.transport ≡ t
+    to_nexthop : route.nexthop ≡ n
+
+  placed_by : (t' : Transport) (n' : List ℕ) (address : AddressParts) (t : Transport) (n : List ℕ) (a : AddressParts) → IsStopAt (route_to routes t' n') address t n a → Placed (route_to routes t' n') t n × (address ≡ a)
+  placed_by t' n' address t n a h = at (route_to routes t' n') refl h where
+    at : (o : Result Route Unrouted) → route_to routes t' n' ≡ o → IsStopAt o address t n a → Placed (route_to routes t' n') t n × (address ≡ a)
+    at (Err cause) found none = elim none [ ]
+    at (Ok route) found (by_transport, to_nexthop, is) =
+        let parts = route_again routes t' n' route found in
+        let same : t' ≡ t = sym parts.0 ∙ by_transport in
+        let written : route_to routes t n ≡ Ok route = ap (λ u. route_to routes u n) (sym same) ∙ ap (route_to routes t') (sym to_nexthop) ∙ parts.1 in
+        (record { route = route; first = found; again = written; by_transport = by_transport; to_nexthop = to_nexthop }, is)
+
+  placed_for : (choice : Choice) (domain : List ℕ) (address : AddressParts) (t : Transport) (n : List ℕ) (a : AddressParts) → IsStopAt (route_for routes choice domain) address t n a → Placed (route_for routes choice domain) t n × (address ≡ a)
+  placed_for choices.Absent domain address t n a h = placed_by routes.settings.default_transport domain address t n a h
+  placed_for (choices.Via transport nexthop) domain address t n a h = placed_by (unwrap_or transport routes.settings.default_transport) (unwrap_or nexthop domain) address t n a h
+  placed_for (choices.Refused text) domain address t n a h = elim h [ ]
+  placed_for choices.Unknown domain address t n a h = elim h [ ]
+
+  route_is : (t : Transport) (n : List ℕ) (route : Route) → route_to routes t n ≡ Ok route → lane_route job t n ≡ route
+  route_is t n route found = ap (or_none t n) found where
+    or_none : Transport → List ℕ → Result Route Unrouted → Route
+    or_none transport nexthop (Ok r) = r
+    or_none transport nexthop (Err reason) = record { transport = transport; nexthop = nexthop; hosts = [] }
 
   -- a target's stop, as the definitions of delivery say it
   record HasRoute (target : Target) (t : Transport) (n : List ℕ) (a : AddressParts) : Type 0 where
     route : Route
     address : final_address job target ≡ Some a
     routed : final_route job target ≡ Some (Ok route)
-    again : route_to t n ≡ Ok route
+    again : route_to routes t n ≡ Ok route
     by_transport : route.transport ≡ t
     to_nexthop : route.nexthop ≡ n
 
@@ -68,7 +80,7 @@ module _ (job : Job) where
       let p = placed_by job.settings.mailbox_transport.transport (unwrap_or job.settings.mailbox_transport.nexthop address.domain) address t n a h in
       record { route = p.0.route; address = ap (λ x. Some x) p.1; routed = ap (λ x. Some x) p.0.first; again = p.0.again; by_transport = p.0.by_transport; to_nexthop = p.0.to_nexthop }
   has_route (Remote address) t n a h =
-      let p = placed_by job.settings.default_transport address.domain address t n a h in
+      let p = placed_for (choice_for routes.transports.entries routes.settings.delimiter address) address.domain address t n a h in
       record { route = p.0.route; address = ap (λ x. Some x) p.1; routed = ap (λ x. Some x) p.0.first; again = p.0.again; by_transport = p.0.by_transport; to_nexthop = p.0.to_nexthop }
   has_route (Missing name) t n a h = elim h [ ]
 
@@ -103,28 +115,28 @@ module _ (job : Job) where
     first_address [] some = absurd (omega arith)
     first_address (a ∷ more) some = (a, Contains-get_or (a ∷ more) 0 a (omega arith))
 
-    pub lanes_routed : AreRouted (lanes_of lanes)
+    pub lanes_routed : AreRouted job (lanes_of lanes)
     lanes_routed l c =
         let some = first_address l.to (in_order l c).some in
         let at = (lane_has l some.0 c some.1).has in
         record { route = at.route; found = at.again; by_transport = at.by_transport; to_nexthop = at.to_nexthop }
 
-    route_parts : (l : Lane) → Contains (lanes_of lanes) l → ((lane_route l.transport l.nexthop).transport ≡ l.transport) × ((lane_route l.transport l.nexthop).nexthop ≡ l.nexthop)
+    route_parts : (l : Lane) → Contains (lanes_of lanes) l → ((lane_route job l.transport l.nexthop).transport ≡ l.transport) × ((lane_route job l.transport l.nexthop).nexthop ≡ l.nexthop)
     route_parts l c =
         let r = lanes_routed l c in
         let is = route_is l.transport l.nexthop r.route r.found in
         (ap (λ (x : Route). x.transport) is ∙ r.by_transport, ap (λ (x : Route). x.nexthop) is ∙ r.to_nexthop)
 
     abbrev groups : List Group
-    groups = map (group_of job.sender) (lanes_of lanes)
+    groups = map (group_of job) (lanes_of lanes)
 
-    below_group : (l m : Lane) → Contains (lanes_of lanes) l → Contains (lanes_of lanes) m → lane_cmp l m ≡ Less → group_cmp (group_of job.sender l) (group_of job.sender m) ≡ Less
+    below_group : (l m : Lane) → Contains (lanes_of lanes) l → Contains (lanes_of lanes) m → lane_cmp l m ≡ Less → group_cmp (group_of job l) (group_of job m) ≡ Less
     below_group l m c d below =
         let r = route_parts l c in
         let s = route_parts m d in
         let path = path_text_of job.sender in
-        let g = lane_route l.transport l.nexthop in
-        let h = lane_route m.transport m.nexthop in
+        let g = lane_route job l.transport l.nexthop in
+        let h = lane_route job m.transport m.nexthop in
         ap (λ o. ordering_then o (ordering_then (text_cmp (transport_name g.transport) (transport_name h.transport)) (text_cmp g.nexthop h.nexthop))) (tied_itself nat_list_cmp_total path)
         ∙ ap (λ t. ordering_then (text_cmp (transport_name t) (transport_name h.transport)) (text_cmp g.nexthop h.nexthop)) r.0
         ∙ ap (λ t. ordering_then (text_cmp (transport_name l.transport) (transport_name t)) (text_cmp g.nexthop h.nexthop)) s.0
@@ -135,25 +147,25 @@ module _ (job : Job) where
     groups_ascend : IsAscendingBy lane_cmp (lanes_of lanes) → IsAscendingBy group_cmp groups
     groups_ascend ascending i j d below inside =
         let ls = lanes_of lanes in
-        let long : j < length ls = omega (arith, inside, length-map ls (group_of job.sender)) in
+        let long : j < length ls = omega (arith, inside, length-map ls (group_of job)) in
         at ls i j d below long ascending (λ l m. below_group l m) where
           at : (ls : List Lane) (i j : ℕ) (d : Group) → i < j → j < length ls → IsAscendingBy lane_cmp ls
-              → ((l m : Lane) → Contains ls l → Contains ls m → lane_cmp l m ≡ Less → group_cmp (group_of job.sender l) (group_of job.sender m) ≡ Less)
-              → group_cmp (get_or (map (group_of job.sender) ls) i d) (get_or (map (group_of job.sender) ls) j d) ≡ Less
+              → ((l m : Lane) → Contains ls l → Contains ls m → lane_cmp l m ≡ Less → group_cmp (group_of job l) (group_of job m) ≡ Less)
+              → group_cmp (get_or (map (group_of job) ls) i d) (get_or (map (group_of job) ls) j d) ≡ Less
           at [] i j d below inside up each = absurd (omega arith)
           at (l ∷ rest) i j d below inside up each =
               let ls = l ∷ rest in
               let x = get_or ls i l in
               let y = get_or ls j l in
               let within : i < length ls = omega arith in
-              let first : get_or (map (group_of job.sender) ls) i d ≡ group_of job.sender x = get_or-map (group_of job.sender) ls i l d within in
-              let second : get_or (map (group_of job.sender) ls) j d ≡ group_of job.sender y = get_or-map (group_of job.sender) ls j l d inside in
-              ap (λ g. group_cmp g (get_or (map (group_of job.sender) ls) j d)) first
-              ∙ ap (λ g. group_cmp (group_of job.sender x) g) second
+              let first : get_or (map (group_of job) ls) i d ≡ group_of job x = get_or-map (group_of job) ls i l d within in
+              let second : get_or (map (group_of job) ls) j d ≡ group_of job y = get_or-map (group_of job) ls j l d inside in
+              ap (λ g. group_cmp g (get_or (map (group_of job) ls) j d)) first
+              ∙ ap (λ g. group_cmp (group_of job x) g) second
               ∙ each x y (Contains-get_or ls i l within) (Contains-get_or ls j l inside) (up i j l below inside)
 
-    group_lane : (g : Group) → Contains groups g → (l : Lane) × Contains (lanes_of lanes) l × (group_of job.sender l ≡ g)
-    group_lane g c = Contains-from_map (group_of job.sender) (lanes_of lanes) g c
+    group_lane : (g : Group) → Contains groups g → (l : Lane) × Contains (lanes_of lanes) l × (group_of job l ≡ g)
+    group_lane g c = Contains-from_map (group_of job) (lanes_of lanes) g c
 
     nonempty : (to : List AddressParts) → 0 < length to → to ≢ []
     nonempty to some e = omega (arith, some, ap length e)
@@ -165,11 +177,11 @@ module _ (job : Job) where
         let l = found.0 in
         let at = has_route p.target route.transport route.nexthop a stop in
         let same : at.route ≡ route = let e : ◌≡◌ {A = Result Route Unrouted} (Ok at.route) (Ok route) = same_answer _ _ (sym at.routed ∙ p.routed) in ok_same at.route route e in
-        let route_of_lane : lane_route l.transport l.nexthop ≡ route =
-        ap (λ t. lane_route t l.nexthop) found.2 ∙ ap (lane_route route.transport) found.3 ∙ route_is route.transport route.nexthop route (at.again ∙ ap (λ r. Ok r) same) in
+        let route_of_lane : lane_route job l.transport l.nexthop ≡ route =
+        ap (λ t. lane_route job t l.nexthop) found.2 ∙ ap (lane_route job route.transport) found.3 ∙ route_is route.transport route.nexthop route (at.again ∙ ap (λ r. Ok r) same) in
         record {
-          group = group_of job.sender l;
-          in_groups = Contains-map (group_of job.sender) (lanes_of lanes) l found.1;
+          group = group_of job l;
+          in_groups = Contains-map (group_of job) (lanes_of lanes) l found.1;
           sender_is = sym p.by_envelope;
           route_is = route_of_lane;
           in_group = found.4;

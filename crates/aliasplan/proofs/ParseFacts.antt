@@ -5,7 +5,8 @@ use Rattle.std.specs.Option.{option_map}
 use Rattle.relay_text.specs.Bytes.{first_of}
 use Rattle.relay_text.specs.declared.lines.Line.{Line}
 use Rattle.aliasplan.specs.declared.place.Place.{Place}
-use Rattle.aliasplan.specs.declared.section.Section.TheVariants.{Settings, Mailboxes, Envelope}
+use Rattle.aliasplan.specs.declared.section.Section.{Section}
+use Rattle.aliasplan.specs.declared.section.Section.TheVariants.{Settings, Mailboxes, Transport, Mx, Envelope}
 use Rattle.aliasplan.specs.declared.sections.Sections.{Sections}
 use Rattle.aliasplan.specs.declared.job.Job.{Job}
 use Rattle.aliasplan.specs.declared.settings.Settings as values
@@ -74,8 +75,9 @@ module _ (text : List ℕ) (s : Sections) (h : AreSectionsOf text s) where
   pub envelope_heading : heading_number (envelope_part text) ≡ line_behind (place_of s Envelope)
   envelope_heading = ap heading_number (sym (h.places Envelope)) ∙ heading_number-behind (word_of Envelope) (place_of s Envelope)
 
-  pub mailbox_bytes : section_bytes text (codes "%mailboxes") ≡ flat_map (λ (l : JobLine). content_of l.raw) (content_behind (place_of s Mailboxes))
-  mailbox_bytes = section_bytes-is text (codes "%mailboxes") ∙ ap bytes_in (sym (h.places Mailboxes)) ∙ bytes-behind (word_of Mailboxes) (place_of s Mailboxes)
+  -- the bytes of a section
+  pub bytes_of : (section : Section) → section_bytes text (word_of section) ≡ flat_map (λ (l : JobLine). content_of l.raw) (content_behind (place_of s section))
+  bytes_of section = section_bytes-is text (word_of section) ∙ ap bytes_in (sym (h.places section)) ∙ bytes-behind (word_of section) (place_of s section)
 
 pub job-fault : (text : List ℕ) (fault : RunFault) → job_fault text ≡ Some fault → job_of text ≡ Err fault
 unfolding job_of
@@ -109,19 +111,32 @@ pub job-good : (text : List ℕ) → job_fault text ≡ None → job_of text ≡
 unfolding job_of
 job-good text h = rw h
 
-abbrev job_by : values.Settings → List Line → List ℕ → Job
-job_by settings commands mailboxes = record { settings = settings; mailboxes = mailboxes; sender = sender_of settings.origin commands; recipients = recipients_of settings.origin (drop 1 commands) }
+abbrev job_by : List ℕ → values.Settings → List Line → Job
+job_by text settings commands = record {
+  settings = settings;
+  mailboxes = section_bytes text (codes "%mailboxes");
+  transport = section_bytes text (codes "%transport");
+  mx = section_bytes text (codes "%mx");
+  sender = sender_of settings.origin commands;
+  recipients = recipients_of settings.origin (drop 1 commands);
+}
 
-sections_of-by : (text : List ℕ) → sections_of text ≡ job_by (job_settings text) (envelope_lines (envelope_part text)) (section_bytes text (codes "%mailboxes"))
+sections_of-by : (text : List ℕ) → sections_of text ≡ job_by text (job_settings text) (envelope_lines (envelope_part text))
 sections_of-by text = refl
 
+-- the bytes of a job's sections are those of a text
+pub record HasSections (text : List ℕ) (job : Job) : Type 0 where
+  pub mailboxes : job.mailboxes ≡ section_bytes text (codes "%mailboxes")
+  pub transport : job.transport ≡ section_bytes text (codes "%transport")
+  pub mx : job.mx ≡ section_bytes text (codes "%mx")
+
 pub job-read : (text : List ℕ) (job : Job) (lines : List Line) (heading : ℕ) (commands : List Line) → bad_job text ≡ None → settings_part text ≡ lines → first_bad_setting lines ≡ None → job.settings ≡ settings_of lines → heading_number (envelope_part text) ≡ heading → envelope_lines (envelope_part text) ≡ commands → first_bad_command job.settings.origin heading commands ≡ None
-    → job.mailboxes ≡ section_bytes text (codes "%mailboxes") → job.sender ≡ sender_of job.settings.origin commands → job.recipients ≡ recipients_of job.settings.origin (drop 1 commands) → job_of text ≡ Ok job
-job-read text job lines heading commands j e g s n c h m from to =
+    → HasSections text job → job.sender ≡ sender_of job.settings.origin commands → job.recipients ≡ recipients_of job.settings.origin (drop 1 commands) → job_of text ≡ Ok job
+job-read text job lines heading commands j e g s n c h has from to =
     let settings : job_settings text ≡ job.settings = ap settings_of e ∙ sym s in
     let good : bad_setting text ≡ None = rw e g in
     let here : bad_envelope job.settings.origin (envelope_part text) ≡ first_bad_command job.settings.origin heading commands = rw (← n, ← c) in
     let bad : bad_envelope (job_settings text).origin (envelope_part text) ≡ None = ap (λ (t : values.Settings). bad_envelope t.origin (envelope_part text)) settings ∙ here ∙ h in
-    let parts : job_by job.settings commands (section_bytes text (codes "%mailboxes")) ≡ job = rw (← m, ← from, ← to) in
+    let parts : job_by text job.settings commands ≡ job = rw (← has.mailboxes, ← has.transport, ← has.mx, ← from, ← to) in
     job-good text (none _ _ _ (ap (option_map BadJob) j) (ap (option_map BadSetting) good) (ap (option_map BadEnvelope) bad))
-    ∙ ap Ok (sections_of-by text ∙ ap (λ (t : values.Settings). job_by t (envelope_lines (envelope_part text)) (section_bytes text (codes "%mailboxes"))) settings ∙ ap (λ (l : List Line). job_by job.settings l (section_bytes text (codes "%mailboxes"))) c ∙ parts)
+    ∙ ap Ok (sections_of-by text ∙ ap (λ (t : values.Settings). job_by text t (envelope_lines (envelope_part text))) settings ∙ ap (λ (l : List Line). job_by text job.settings l) c ∙ parts)

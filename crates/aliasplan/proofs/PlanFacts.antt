@@ -1,12 +1,13 @@
 -- A plan of a job, from its lanes and its lines.
 use Rattle.std.proofs.Common.{◌≡◌, ◌⊎◌, ℕ, List, map, sym, ◌∙◌, subst, inl, inr}
 use Rattle.std.specs.Prelude.{IsTrue, Contains, ◌↔◌}
-use Rattle.std.specs.List.{list_any, flat_map}
-use Rattle.std.specs.Str.{bytes_eq}
+use Rattle.std.specs.List.{flat_map}
 use Rattle.relay_text.specs.Bytes.{has_text}
 use Rattle.relay_text.specs.AddressParts.{AddressParts}
 use Rattle.relay_aliasfile.specs.MailboxFiles.{mailbox_file_of}
 use Rattle.relay_routes.specs.declared.transport.Transport.{Transport}
+use Rattle.relay_routes.specs.Transports.{transport_table_of}
+use Rattle.relay_routes.specs.Exchanges.{mx_table_of}
 use Rattle.relay_wire.specs.declared.plan.Plan.{Plan}
 use Rattle.aliasplan.specs.declared.job.Job.{Job}
 use Rattle.aliasplan.specs.declared.lane.Lane.{Lane}
@@ -15,7 +16,7 @@ use Rattle.aliasplan.specs.Delivery.{recipient_target}
 use Rattle.aliasplan.specs.Report.{IsFindingLine}
 use Rattle.aliasplan.specs.Plans.{batches_of, IsPlanOf}
 use Rattle.relay_text.specs.TextSets.{IsAscendingBy, text_cmp}
-use Rattle.aliasplan.specs.Lanes.{HasStop, HaveStop, HaveLine, lanes_of, lane_cmp, group_of, AreRouted, AreInOrder, fault_line}
+use Rattle.aliasplan.specs.Lanes.{HasStop, HaveStop, HaveLine, lanes_of, lane_cmp, group_of, AreRouted, AreInOrder, is_fault_line}
 use Rattle.aliasplan.proofs.SetFacts.{Contains-has_text, has_text-Contains}
 use Rattle.aliasplan.proofs.Groups.{is_grouping, lanes_routed}
 use Rattle.aliasplan.proofs.LineFacts.{reported_is}
@@ -26,10 +27,10 @@ pub record AreOf (job : Job) (lanes : Lanes) (faults lines : List (List ℕ)) (p
   pub stops : (t : Transport) (n : List ℕ) (a : AddressParts) → HasStop lanes t n a ↔ HaveStop job (map (recipient_target job) job.recipients) t n a
   pub in_order : (l : Lane) → Contains (lanes_of lanes) l → AreInOrder l.to
   pub ascending : IsAscendingBy lane_cmp (lanes_of lanes)
-  pub batches : AreRouted (lanes_of lanes) → plan.transactions ≡ flat_map (batches_of job) (map (group_of job.sender) (lanes_of lanes))
+  pub batches : AreRouted job (lanes_of lanes) → plan.transactions ≡ flat_map (batches_of job) (map (group_of job) (lanes_of lanes))
   pub all : plan.findings ≡ lines
   pub sorted : IsAscendingBy text_cmp lines
-  pub faults_are : (q : List ℕ) → has_text faults q ≡ list_any (λ f. bytes_eq q (fault_line f)) (mailbox_file_of job.mailboxes).faults
+  pub faults_are : (q : List ℕ) → has_text faults q ≡ is_fault_line (mailbox_file_of job.mailboxes).faults (transport_table_of job.transport).faults (mx_table_of job.mx).faults q
   pub reported : (q : List ℕ) → IsTrue (has_text lines q) ↔ (IsTrue (has_text faults q) ⊎ HaveLine job (map (recipient_target job) job.recipients) q)
 
 module _ (job : Job) (lanes : Lanes) (faults lines : List (List ℕ)) (plan : Plan) (h : AreOf job lanes faults lines plan) where
@@ -47,7 +48,7 @@ module _ (job : Job) (lanes : Lanes) (faults lines : List (List ℕ)) (plan : Pl
   pub plan_is : IsPlanOf job plan
   plan_is = record {
     hostname = h.hostname;
-    groups = map (group_of job.sender) (lanes_of lanes);
+    groups = map (group_of job) (lanes_of lanes);
     grouping = is_grouping job lanes h.stops h.in_order h.ascending;
     transactions = h.batches (lanes_routed job lanes h.stops h.in_order);
     findings_ascending = subst (λ (ls : List (List ℕ)). IsAscendingBy text_cmp ls) (sym h.all) h.sorted;

@@ -47,6 +47,8 @@ percent : job_of (S ++ codes "%mailboxes\n%%x\njoe\n%envelope\nMAIL FROM:<>\nRCP
     expand = false;
   };
   mailboxes = codes "%x\njoe\n";
+  transport = [];
+  mx = [];
   sender = None;
   recipients = record { local = codes "%x"; domain = codes "example.org" } ∷ [];
 })

@@ -8,7 +8,7 @@ use Rattle.relay_text.specs.Bytes.{is_white, each_after, first_of}
 use Rattle.relay_text.specs.Lines.{Cut, cut_before}
 use Rattle.aliasplan.specs.declared.place.Place.{Place}
 use Rattle.aliasplan.specs.declared.section.Section.{Section}
-use Rattle.aliasplan.specs.declared.section.Section.TheVariants.{Settings, Mailboxes, Envelope}
+use Rattle.aliasplan.specs.declared.section.Section.TheVariants.{Settings, Mailboxes, Transport, Mx, Envelope}
 use Rattle.aliasplan.specs.declared.sections.Sections.{Sections}
 use Rattle.aliasplan.specs.JobText.{JobLine, job_lines, text_of, is_heading, section_of, has_section, breaks_job, bad_job, Part, part_of, part_at}
 use Rattle.aliasplan.specs.Places.{lines_at, content_at}
@@ -122,24 +122,56 @@ Scanned-other text x xs sections started blank h e f g = record {
 same-or-other : (t s : Section) (sections : Sections) (after : Place) (n : ℕ) (later all : Option Part) → place_of sections t ≡ None → after.line ≡ n → or_later (option_map (part_behind (word_of s)) (place_of sections s)) (or_later (cond (bytes_eq (word_of s) (word_of t)) (Some (record { section = word_of t; number = n; lines = content_at after })) None) later) ≡ all → or_later (option_map (part_behind (word_of s)) (place_of (with_place sections t after) s)) later ≡ all
 same-or-other Settings Settings sections after n later all none line h = rw (← line) at (rw none at h)
 same-or-other Mailboxes Mailboxes sections after n later all none line h = rw (← line) at (rw none at h)
+same-or-other Transport Transport sections after n later all none line h = rw (← line) at (rw none at h)
+same-or-other Mx Mx sections after n later all none line h = rw (← line) at (rw none at h)
 same-or-other Envelope Envelope sections after n later all none line h = rw (← line) at (rw none at h)
 same-or-other Settings Mailboxes sections after n later all none line h = h
+same-or-other Settings Transport sections after n later all none line h = h
+same-or-other Settings Mx sections after n later all none line h = h
 same-or-other Settings Envelope sections after n later all none line h = h
 same-or-other Mailboxes Settings sections after n later all none line h = h
+same-or-other Mailboxes Transport sections after n later all none line h = h
+same-or-other Mailboxes Mx sections after n later all none line h = h
 same-or-other Mailboxes Envelope sections after n later all none line h = h
+same-or-other Transport Settings sections after n later all none line h = h
+same-or-other Transport Mailboxes sections after n later all none line h = h
+same-or-other Transport Mx sections after n later all none line h = h
+same-or-other Transport Envelope sections after n later all none line h = h
+same-or-other Mx Settings sections after n later all none line h = h
+same-or-other Mx Mailboxes sections after n later all none line h = h
+same-or-other Mx Transport sections after n later all none line h = h
+same-or-other Mx Envelope sections after n later all none line h = h
 same-or-other Envelope Settings sections after n later all none line h = h
 same-or-other Envelope Mailboxes sections after n later all none line h = h
+same-or-other Envelope Transport sections after n later all none line h = h
+same-or-other Envelope Mx sections after n later all none line h = h
 
 seen-with : (t s : Section) (sections : Sections) (after : Place) → (is_some (place_of sections s) || bytes_eq (word_of s) (word_of t)) ≡ is_some (place_of (with_place sections t after) s)
 seen-with Settings Settings sections after = or_true _
 seen-with Mailboxes Mailboxes sections after = or_true _
+seen-with Transport Transport sections after = or_true _
+seen-with Mx Mx sections after = or_true _
 seen-with Envelope Envelope sections after = or_true _
 seen-with Settings Mailboxes sections after = or_false _
+seen-with Settings Transport sections after = or_false _
+seen-with Settings Mx sections after = or_false _
 seen-with Settings Envelope sections after = or_false _
 seen-with Mailboxes Settings sections after = or_false _
+seen-with Mailboxes Transport sections after = or_false _
+seen-with Mailboxes Mx sections after = or_false _
 seen-with Mailboxes Envelope sections after = or_false _
+seen-with Transport Settings sections after = or_false _
+seen-with Transport Mailboxes sections after = or_false _
+seen-with Transport Mx sections after = or_false _
+seen-with Transport Envelope sections after = or_false _
+seen-with Mx Settings sections after = or_false _
+seen-with Mx Mailboxes sections after = or_false _
+seen-with Mx Transport sections after = or_false _
+seen-with Mx Envelope sections after = or_false _
 seen-with Envelope Settings sections after = or_false _
 seen-with Envelope Mailboxes sections after = or_false _
+seen-with Envelope Transport sections after = or_false _
+seen-with Envelope Mx sections after = or_false _
 
 pub Scanned-heading : (text : List ℕ) (x : JobLine) (after : Place) (sections : Sections) (started : Bool) (t : Section) → Scanned text (x ∷ lines_at after) sections started → is_heading x ≡ true → section_of (text_of x) ≡ Some (word_of t) → place_of sections t ≡ None → after.line ≡ x.number → Scanned text (lines_at after) (with_place sections t after) true
 Scanned-heading text x after sections started t h e f none line = record {

@@ -7,6 +7,8 @@ use Rattle.relay_text.specs.Addresses.{base_of}
 use Rattle.relay_aliasfile.specs.MailboxFiles.{mailbox_file_of}
 use Rattle.relay_routes.specs.declared.route.Route.{Route}
 use Rattle.relay_routes.specs.declared.unrouted.Unrouted.{Unrouted}
+use Rattle.relay_routes.specs.Transports.{transport_table_of}
+use Rattle.relay_routes.specs.Exchanges.{mx_table_of}
 use Rattle.relay_routes.specs.Routing.{Routing}
 use Rattle.relay_routes.specs.Routes.{route_of, route_via_of}
 use Rattle.aliasplan.specs.declared.job.Job.{Job}
@@ -18,8 +20,13 @@ abbrev pub Sender : Type 0
 Sender = Option AddressParts
 
 module _ (job : Job) where
+  -- the relay's own names are its host name, its origin and its local domains
   abbrev pub routing_of : Routing
-  routing_of = record { settings = record { default_transport = job.settings.default_transport } }
+  routing_of = record {
+    settings = record { own_names = job.settings.hostname ∷ job.settings.origin ∷ job.settings.destinations; delimiter = job.settings.delimiter; default_transport = job.settings.default_transport; seed = job.settings.seed };
+    transports = transport_table_of job.transport;
+    exchanges = mx_table_of job.mx;
+  }
 
   -- An address is local where its domain is the origin or one of the local domains.
   abbrev pub is_local_address : AddressParts → Bool
@@ -54,9 +61,10 @@ module _ (job : Job) where
   abbrev pub IsReachedTarget : Target → Type 0
   IsReachedTarget target = Contains (map recipient_target job.recipients) target
 
-  -- The final targets are mailboxes, which go by their setting, and remote addresses. A missing name has no route.
+  -- The final targets are mailboxes, which go by their setting, and remote addresses, which go by the tables. A missing name has no
+  -- route.
   abbrev pub final_route : Target → Option (Result Route Unrouted)
-  final_route (Mailbox a) = Some (route_via_of job.settings.mailbox_transport a)
+  final_route (Mailbox a) = Some (route_via_of routing_of job.settings.mailbox_transport a)
   final_route (Remote a) = Some (route_of routing_of a)
   final_route (Missing name) = None
 

@@ -32,7 +32,7 @@ is_heading l = begins_with (codes "%") (text_of l) && not (begins_with (codes "%
 
 -- A heading names a section by its word.
 abbrev pub section_words : List (List ℕ)
-section_words = codes "%settings" ∷ codes "%mailboxes" ∷ codes "%envelope" ∷ []
+section_words = codes "%settings" ∷ codes "%mailboxes" ∷ codes "%transport" ∷ codes "%mx" ∷ codes "%envelope" ∷ []
 
 -- the section that a heading names: white space at its end is dropped
 abbrev pub section_of : List ℕ → Option (List ℕ)
@@ -157,6 +157,8 @@ sections_of text =
     record {
       settings = settings;
       mailboxes = section_bytes text (codes "%mailboxes");
+      transport = section_bytes text (codes "%transport");
+      mx = section_bytes text (codes "%mx");
       sender = unwrap_or (first_of (map (λ l. sender_in settings.origin l.text) (take 1 envelope))) None;
       recipients = filter_map (λ l. recipient_in settings.origin l.text) (drop 1 envelope);
     }

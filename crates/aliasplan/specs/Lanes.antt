@@ -1,11 +1,13 @@
 -- Addresses by transport and nexthop, and the lines of the findings, as targets are gathered.
-use Rattle.std.specs.Prelude.{◌≡◌, ℕ, ◌<◌, ◌||◌, List, [], ◌++◌, length, map, Contains, Some, unwrap_or, Result, Ok, Err}
+use Rattle.std.specs.Prelude.{◌≡◌, ℕ, ◌<◌, Bool, ◌||◌, List, [], ◌++◌, length, map, Contains, Some, unwrap_or, Result, Ok, Err}
+use Rattle.std.specs.List.{list_any}
 use Rattle.std.specs.Str.{bytes_eq}
 use Rattle.std.specs.declared.cmp.Ordering.{Ordering}
 use Rattle.std.specs.Ordering.{ordering_then}
 use Rattle.relay_text.specs.Bytes.{has_text}
 use Rattle.relay_text.specs.AddressParts.{AddressParts}
 use Rattle.relay_aliasfile.specs.declared.fault.LineFault.{LineFault}
+use Rattle.relay_routes.specs.declared.fault.LineFault.{LineFault as TableLineFault}
 use Rattle.relay_routes.specs.declared.transport.Transport.{Transport}
 use Rattle.relay_routes.specs.declared.transport.Transport.TheVariants.{Smtp, Relay, Lmtp}
 use Rattle.relay_routes.specs.declared.via.Via.{Via}
@@ -15,17 +17,20 @@ use Rattle.relay_routes.specs.Transports.{transport_name}
 use Rattle.relay_routes.specs.Routes.{route_to, route_of, route_via_of}
 use Rattle.relay_wire.specs.declared.finding.Place.TheVariants as places
 use Rattle.relay_wire.specs.declared.finding.Reason.{Reason}
-use Rattle.relay_wire.specs.declared.finding.Finding.TheVariants.{Missing as MissingFinding, Unrouted as UnroutedFinding, Mailboxes}
+use Rattle.relay_wire.specs.declared.finding.Finding.{Finding}
+use Rattle.relay_wire.specs.declared.finding.Finding.TheVariants.{Missing as MissingFinding, Unrouted as UnroutedFinding, Mailboxes, Mx as MxLine, Transport as TransportLine}
 use Rattle.relay_wire.specs.Findings.{finding_text_of}
 use Rattle.relay_wire.specs.declared.plan.Planned.{Planned}
 use Rattle.aliasplan.specs.declared.job.Job.{Job}
+use Rattle.aliasplan.specs.declared.table.Table.{Table}
+use Rattle.aliasplan.specs.declared.table.Table.TheVariants as tables
 use Rattle.aliasplan.specs.declared.target.Target.{Target}
 use Rattle.aliasplan.specs.declared.target.Target.TheVariants.{Mailbox, Remote, Missing}
 use Rattle.aliasplan.specs.declared.lane.Lane.{Lane}
 use Rattle.aliasplan.specs.declared.lanes.Lanes.{Lanes}
 use Rattle.aliasplan.specs.declared.local_names.LocalNames.{LocalNames}
 use Rattle.aliasplan.specs.Delivery.{Sender, routing_of, has_mailbox}
-use Rattle.aliasplan.specs.Report.{word_of, reason_of}
+use Rattle.aliasplan.specs.Report.{word_of, table_word_of, reason_of}
 use Rattle.aliasplan.specs.Plans.{Group, path_cmp}
 use Rattle.relay_text.specs.TextSets.{text_cmp, IsAscendingBy}
 use Rattle.aliasplan.specs.Stops.{Stop, GoesTo}
@@ -52,34 +57,6 @@ lanes_of lanes = map (lane_of Lmtp) lanes.lmtp ++ map (lane_of Relay) lanes.rela
 
 abbrev pub lane_cmp : Lane → Lane → Ordering
 lane_cmp l m = ordering_then (text_cmp (transport_name l.transport) (transport_name m.transport)) (text_cmp l.nexthop m.nexthop)
-
--- the route of a transport and a written nexthop, with no host where there is none
-abbrev pub lane_route : Transport → List ℕ → Route
-lane_route transport nexthop = or_none (route_to transport nexthop) where
-  or_none : Result Route Unrouted → Route
-  or_none (Ok route) = route
-  or_none (Err reason) = record { transport = transport; nexthop = nexthop; hosts = [] }
-
-abbrev pub group_of : Sender → Lane → Group
-group_of sender lane = record { sender = sender; route = lane_route lane.transport lane.nexthop; to = lane.to }
-
--- a lane's transport and nexthop give a route, which is written so
-pub record IsRouted (transport : Transport) (nexthop : List ℕ) : Type 0 where
-  pub route : Route
-  pub found : route_to transport nexthop ≡ Ok route
-  pub by_transport : route.transport ≡ transport
-  pub to_nexthop : route.nexthop ≡ nexthop
-
-pub record IsRoutedVia (via : Via) : Type 0 where
-  pub nexthop : List ℕ
-  pub given : via.nexthop ≡ Some nexthop
-  pub routed : IsRouted via.transport nexthop
-
-abbrev pub AreRouted : List Lane → Type 0
-AreRouted lanes = (lane : Lane) → Contains lanes lane → IsRouted lane.transport lane.nexthop
-
-abbrev pub via_route : Via → Route
-via_route via = lane_route via.transport (unwrap_or via.nexthop [])
 
 -- a transaction of a sender and a route
 abbrev pub planned_by : Sender → Route → List AddressParts → Planned
@@ -108,15 +85,57 @@ IsLineAt (Err cause) address line = (reason : Reason) × (reason_of cause ≡ So
 abbrev pub fault_line : LineFault → List ℕ
 fault_line fault = finding_text_of (Mailboxes fault.line (word_of fault.kind))
 
+abbrev pub table_finding : Table → TableLineFault → Finding
+table_finding tables.Transport fault = TransportLine fault.line (table_word_of fault.kind)
+table_finding tables.Mx fault = MxLine fault.line (table_word_of fault.kind)
+
+abbrev pub table_line : Table → TableLineFault → List ℕ
+table_line table fault = finding_text_of (table_finding table fault)
+
+-- the lines of the mailboxes and the tables that are at fault
+abbrev pub is_fault_line : List LineFault → List TableLineFault → List TableLineFault → List ℕ → Bool
+is_fault_line mailboxes transports exchanges q =
+    list_any (λ f. bytes_eq q (fault_line f)) mailboxes
+    || (list_any (λ f. bytes_eq q (table_line tables.Transport f)) transports
+    || list_any (λ f. bytes_eq q (table_line tables.Mx f)) exchanges)
+
 module _ (job : Job) where
+  -- the route of a transport and a written nexthop, with no host where there is none
+  abbrev pub lane_route : Transport → List ℕ → Route
+  lane_route transport nexthop = or_none (route_to (routing_of job) transport nexthop) where
+    or_none : Result Route Unrouted → Route
+    or_none (Ok route) = route
+    or_none (Err reason) = record { transport = transport; nexthop = nexthop; hosts = [] }
+
+  abbrev pub group_of : Lane → Group
+  group_of lane = record { sender = job.sender; route = lane_route lane.transport lane.nexthop; to = lane.to }
+
+  -- a lane's transport and nexthop give a route, which is written so
+  pub record IsRouted (transport : Transport) (nexthop : List ℕ) : Type 0 where
+    pub route : Route
+    pub found : route_to (routing_of job) transport nexthop ≡ Ok route
+    pub by_transport : route.transport ≡ transport
+    pub to_nexthop : route.nexthop ≡ nexthop
+
+  pub record IsRoutedVia (via : Via) : Type 0 where
+    pub nexthop : List ℕ
+    pub given : via.nexthop ≡ Some nexthop
+    pub routed : IsRouted via.transport nexthop
+
+  abbrev pub AreRouted : List Lane → Type 0
+  AreRouted lanes = (lane : Lane) → Contains lanes lane → IsRouted lane.transport lane.nexthop
+
+  abbrev pub via_route : Via → Route
+  via_route via = lane_route via.transport (unwrap_or via.nexthop [])
+
   -- where a target goes, and the line that reports it
   abbrev pub IsStopOf : Target → Transport → List ℕ → AddressParts → Type 0
-  IsStopOf (Mailbox address) transport nexthop a = IsStopAt (route_via_of job.settings.mailbox_transport address) address transport nexthop a
+  IsStopOf (Mailbox address) transport nexthop a = IsStopAt (route_via_of (routing_of job) job.settings.mailbox_transport address) address transport nexthop a
   IsStopOf (Remote address) transport nexthop a = IsStopAt (route_of (routing_of job) address) address transport nexthop a
   IsStopOf (Missing name) transport nexthop a = ⊥
 
   abbrev pub IsLineOf : Target → List ℕ → Type 0
-  IsLineOf (Mailbox address) line = IsLineAt (route_via_of job.settings.mailbox_transport address) address line
+  IsLineOf (Mailbox address) line = IsLineAt (route_via_of (routing_of job) job.settings.mailbox_transport address) address line
   IsLineOf (Remote address) line = IsLineAt (route_of (routing_of job) address) address line
   IsLineOf (Missing name) line = line ≡ finding_text_of (MissingFinding name places.Envelope)
 

@@ -2,7 +2,7 @@
 use Rattle.std.specs.Prelude.{◌≡◌, ℕ, List, [], codes, Option, Some, None, option_map}
 use Rattle.aliasplan.specs.declared.place.Place.{Place}
 use Rattle.aliasplan.specs.declared.section.Section.{Section}
-use Rattle.aliasplan.specs.declared.section.Section.TheVariants.{Settings, Mailboxes, Envelope}
+use Rattle.aliasplan.specs.declared.section.Section.TheVariants.{Settings, Mailboxes, Transport, Mx, Envelope}
 use Rattle.aliasplan.specs.declared.sections.Sections.{Sections}
 use Rattle.aliasplan.specs.JobText.{JobLine, Part, part_at, bad_job}
 use Rattle.aliasplan.specs.Places.{content_at}
@@ -11,16 +11,22 @@ use Rattle.aliasplan.specs.Places.{content_at}
 abbrev pub word_of : Section → List ℕ
 word_of Settings = codes "%settings"
 word_of Mailboxes = codes "%mailboxes"
+word_of Transport = codes "%transport"
+word_of Mx = codes "%mx"
 word_of Envelope = codes "%envelope"
 
 abbrev pub place_of : Sections → Section → Option Place
 place_of s Settings = s.settings
 place_of s Mailboxes = s.mailboxes
+place_of s Transport = s.transport
+place_of s Mx = s.mx
 place_of s Envelope = s.envelope
 
 abbrev pub with_place : Sections → Section → Place → Sections
 with_place s Settings place = record s { settings = Some place }
 with_place s Mailboxes place = record s { mailboxes = Some place }
+with_place s Transport place = record s { transport = Some place }
+with_place s Mx place = record s { mx = Some place }
 with_place s Envelope place = record s { envelope = Some place }
 
 -- the section whose heading stands before a place

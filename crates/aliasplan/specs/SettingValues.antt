@@ -6,10 +6,11 @@ use Rattle.relay_text.specs.Bytes.{is_white, first_of}
 use Rattle.relay_routes.specs.declared.transport.Transport.TheVariants.{Lmtp}
 use Rattle.relay_routes.specs.declared.via.Via.{Via}
 use Rattle.relay_routes.specs.Nexthops.{via_setting_of}
+use Rattle.relay_routes.specs.Transports.{transport_named}
 use Rattle.aliasplan.specs.declared.setting.Setting as lines
 use Rattle.aliasplan.specs.declared.key.Key.{Key}
 use Rattle.aliasplan.specs.declared.key.Key.TheVariants.{Myhostname, Myorigin, Mydestination, RecipientDelimiter, DefaultDestinationRecipientLimit, SmtpDestinationRecipientLimit, RelayDestinationRecipientLimit, LmtpDestinationRecipientLimit, DefaultTransport, MailboxTransport, Seed, ExpandOwnerAlias}
-use Rattle.aliasplan.specs.Settings.{Setting, host_value, domains_value, delimiter_value, limit_value, seed_value, choice_value, is_remote_transport, is_over_lmtp}
+use Rattle.aliasplan.specs.Settings.{Setting, host_value, domains_value, delimiter_value, limit_value, seed_value, choice_value}
 
 -- what stands between domains
 abbrev pub is_separator : ℕ → Bool
@@ -53,8 +54,8 @@ is_good_value DefaultDestinationRecipientLimit v = is_some (limit_value v)
 is_good_value SmtpDestinationRecipientLimit v = is_some (limit_value v)
 is_good_value RelayDestinationRecipientLimit v = is_some (limit_value v)
 is_good_value LmtpDestinationRecipientLimit v = is_some (limit_value v)
-is_good_value DefaultTransport v = is_remote_transport v
-is_good_value MailboxTransport v = is_over_lmtp (via_setting_of v)
+is_good_value DefaultTransport v = is_some (transport_named v)
+is_good_value MailboxTransport v = is_some (via_setting_of v)
 is_good_value Seed v = is_some (seed_value v)
 is_good_value ExpandOwnerAlias v = is_some (choice_value v)
 

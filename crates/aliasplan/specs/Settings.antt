@@ -4,13 +4,12 @@
 use Rattle.std.specs.Prelude.{ℕ, Bool, true, false, not, ◌&&◌, ◌||◌, ◌==◌, nat_le, List, [], ◌∷◌, length, map, filter, codes, Option, Some, None, is_some, option_and_then, unwrap_or, if◌then◌else◌}
 use Rattle.std.specs.List.{slice_split, list_all, list_any, before_first, after_first}
 use Rattle.std.specs.Str.{bytes_eq}
-use Rattle.relay_text.specs.Bytes.{is_white, trimmed, folded, has_text, first_of}
+use Rattle.relay_text.specs.Bytes.{is_white, trimmed, folded, first_of}
 use Rattle.relay_text.specs.Lines.{is_ignored}
 use Rattle.relay_text.specs.Addresses.{is_atext, is_domain, is_domain_name, is_empty}
 use Rattle.relay_text.specs.declared.lines.Line.{Line}
 use Rattle.relay_routes.specs.declared.transport.Transport.{Transport}
 use Rattle.relay_routes.specs.declared.transport.Transport.TheVariants.{Smtp, Relay, Lmtp}
-use Rattle.relay_routes.specs.declared.via.Via.{Via}
 use Rattle.relay_routes.specs.Transports.{transport_named}
 use Rattle.relay_routes.specs.Nexthops.{via_setting_of}
 use Rattle.relay_text.specs.Numbers.{number_within}
@@ -56,19 +55,6 @@ seed_value text = number_within 0 18446744073709551615 text
 abbrev pub choice_value : List ℕ → Option Bool
 choice_value text = if bytes_eq text (codes "yes") then Some true else (if bytes_eq text (codes "no") then Some false else None)
 
--- The transport of remote addresses is SMTP, under one of its two names.
-abbrev pub is_remote_transport : List ℕ → Bool
-is_remote_transport text = has_text (codes "smtp" ∷ codes "relay" ∷ []) text
-
--- The transport of mailboxes is LMTP, alone or with a nexthop of its forms.
-abbrev pub is_over_lmtp : Option Via → Bool
-is_over_lmtp None = false
-is_over_lmtp (Some via) = is_lmtp via.transport where
-  is_lmtp : Transport → Bool
-  is_lmtp Smtp = false
-  is_lmtp Relay = false
-  is_lmtp Lmtp = true
-
 -- the keys, and whether a value of each is good
 pub record Key : Type 0 where
   pub name : List ℕ
@@ -87,8 +73,8 @@ keys =
     ∷ key (codes "smtp_destination_recipient_limit") (λ v. is_some (limit_value v))
     ∷ key (codes "relay_destination_recipient_limit") (λ v. is_some (limit_value v))
     ∷ key (codes "lmtp_destination_recipient_limit") (λ v. is_some (limit_value v))
-    ∷ key (codes "default_transport") is_remote_transport
-    ∷ key (codes "mailbox_transport") (λ v. is_over_lmtp (via_setting_of v))
+    ∷ key (codes "default_transport") (λ v. is_some (transport_named v))
+    ∷ key (codes "mailbox_transport") (λ v. is_some (via_setting_of v))
     ∷ key (codes "seed") (λ v. is_some (seed_value v))
     ∷ key (codes "expand_owner_alias") (λ v. is_some (choice_value v))
     ∷ []

@@ -2,6 +2,7 @@
 ghost use Rattle.std.specs.Prelude.{◌≡◌, ◌++◌, ◌<◌, length, map, flat_map, Contains, IfOk, OnOk};
 ghost use Rattle.relay_routes.specs.declared.transport.Transport as names;
 ghost use Rattle.aliasplan.specs.declared.lane.Lane as lane;
+ghost use Rattle.aliasplan.specs.Delivery.{routing_of};
 ghost use Rattle.aliasplan.specs.Settings.{limit_of};
 ghost use Rattle.aliasplan.specs.Plans.{path_cmp, parts_of, batches_of};
 ghost use Rattle.relay_text.specs.TextSets.{IsAscendingBy};
@@ -35,8 +36,9 @@ fn plan_part(
     via: &Via,
     part: Vec<Address>,
 ) -> Result<Planned, AllocError>
-    requires { 0 < length part.items }
-    ensures { IfOk result (λ transaction. IsRoutedVia via.now → transaction ≡ planned_by job.now.sender (via_route via.now) part.items) }
+    requires router { router.now ≡ routing_of job.now }
+    requires some { 0 < length part.items }
+    ensures { IfOk result (λ transaction. IsRoutedVia job.now via.now → transaction ≡ planned_by job.now.sender (via_route job.now via.now) part.items) }
 {
     let Ok(route) = router.route_via(alloc, via, &part[0]) else {
         return Err(AllocError);
@@ -69,9 +71,10 @@ fn put_parts(
     addresses: Vec<Address>,
     transactions: &mut Vec<Planned>,
 ) -> Result<(), AllocError>
+    requires router { router.now ≡ routing_of job.now }
     requires limit { 0 < limit }
     requires some { 0 < length addresses.items }
-    ensures { OnOk result (IsRoutedVia via.now → transactions.new.items ≡ transactions.old.items ++ map (planned_by job.now.sender (via_route via.now)) (parts_of limit addresses.items)) }
+    ensures { OnOk result (IsRoutedVia job.now via.now → transactions.new.items ≡ transactions.old.items ++ map (planned_by job.now.sender (via_route job.now via.now)) (parts_of limit addresses.items)) }
 {
     let mut part = Vec::new(alloc);
     for address in addresses {
@@ -94,8 +97,9 @@ fn put_lane(
     lane: Lane,
     transactions: &mut Vec<Planned>,
 ) -> Result<(), AllocError>
-    requires { 0 < limit_of job.now.settings lane.transport }
-    ensures batches { OnOk result (IsRouted lane.transport lane.nexthop → transactions.new.items ≡ transactions.old.items ++ batches_of job.now (group_of job.now.sender lane)) }
+    requires router { router.now ≡ routing_of job.now }
+    requires limit { 0 < limit_of job.now.settings lane.transport }
+    ensures batches { OnOk result (IsRouted job.now lane.transport lane.nexthop → transactions.new.items ≡ transactions.old.items ++ batches_of job.now (group_of job.now lane)) }
     ensures in_order { OnOk result (AreInOrder lane.to) }
 {
     let Lane {
@@ -126,8 +130,9 @@ pub fn plan_lanes(
     router: &Router,
     lanes: Lanes,
 ) -> Result<Vec<Planned>, AllocError>
-    requires { (t : names.Transport) → 0 < limit_of job.now.settings t }
-    ensures batches { IfOk result (λ transactions. AreRouted (lanes_of lanes) → transactions.items ≡ flat_map (batches_of job.now) (map (group_of job.now.sender) (lanes_of lanes))) }
+    requires router { router.now ≡ routing_of job.now }
+    requires limits { (t : names.Transport) → 0 < limit_of job.now.settings t }
+    ensures batches { IfOk result (λ transactions. AreRouted job.now (lanes_of lanes) → transactions.items ≡ flat_map (batches_of job.now) (map (group_of job.now) (lanes_of lanes))) }
     ensures ascending { OnOk result (IsAscendingBy lane_cmp (lanes_of lanes)) }
     ensures in_order { OnOk result ((l : lane.Lane) → Contains (lanes_of lanes) l → AreInOrder l.to) }
 {

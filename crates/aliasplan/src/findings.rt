@@ -1,12 +1,13 @@
 //! The lines that a plan reports.
-ghost use Rattle.std.specs.Prelude.{◌≡◌, ◌||◌, ℕ, List, IfOk, OnOk};
+ghost use Rattle.std.specs.Prelude.{◌≡◌, ◌||◌, ℕ, List, OnOk};
 ghost use Rattle.std.specs.List.{list_any};
 ghost use Rattle.std.specs.Str.{bytes_eq};
 ghost use Rattle.relay_text.specs.Bytes.{has_text};
 ghost use Rattle.relay_wire.specs.Findings.{finding_text_of};
 ghost use Rattle.aliasplan.specs.Report.{word_of, reason_of};
-ghost use Rattle.aliasplan.specs.Lanes.{fault_line};
+ghost use Rattle.aliasplan.specs.Lanes.{fault_line, table_line};
 
+use crate::table::Table;
 use relay_aliasfile::{FaultKind, LineFault};
 use relay_routes::Unrouted;
 use relay_text::TextSet;
@@ -19,7 +20,8 @@ pub fn report(alloc: Global, finding: &Finding, lines: &mut TextSet) -> Result<(
     ensures { OnOk result ((q : List ℕ) → has_text lines.new q ≡ (bytes_eq q (finding_text_of finding.now) || has_text lines.old q)) }
 {
     let line = finding_line(alloc, finding)?;
-    lines.insert(line.into_bytes())
+    lines.insert(line.into_bytes())?;
+    Ok(())
 }
 
 /// The word of a file's fault.
@@ -48,14 +50,45 @@ pub fn reason_for(unrouted: Unrouted) -> Option<Reason>
     }
 }
 
-/// The lines of the mailboxes' file that are at fault.
-pub fn fault_lines(alloc: Global, faults: &[LineFault]) -> Result<TextSet, AllocError>
-    ensures { IfOk result (λ lines. (q : List ℕ) → has_text lines q ≡ list_any (λ fault. bytes_eq q (fault_line fault)) faults.now) }
+/// Adds the lines of the mailboxes' file that are at fault.
+pub fn report_mailboxes(
+    alloc: Global,
+    faults: &[LineFault],
+    lines: &mut TextSet,
+) -> Result<(), AllocError>
+    ensures { OnOk result ((q : List ℕ) → has_text lines.new q ≡ (has_text lines.old q || list_any (λ fault. bytes_eq q (fault_line fault)) faults.now)) }
 {
-    let mut lines = TextSet::new(alloc);
     for fault in faults {
         let finding = Finding::Mailboxes(fault.line, line_word(fault.kind));
-        report(alloc, &finding, &mut lines)?;
+        report(alloc, &finding, lines)?;
     }
-    Ok(lines)
+    Ok(())
+}
+
+/// Adds the line of a table's fault.
+fn report_table_fault(
+    alloc: Global,
+    table: Table,
+    fault: relay_routes::LineFault,
+    lines: &mut TextSet,
+) -> Result<(), AllocError>
+    ensures { OnOk result ((q : List ℕ) → has_text lines.new q ≡ (bytes_eq q (table_line table fault) || has_text lines.old q)) }
+{
+    let finding = table.finding(fault);
+    report(alloc, &finding, lines)
+}
+
+/// Adds the lines of a table that are at fault.
+pub fn report_table(
+    alloc: Global,
+    table: Table,
+    faults: &[relay_routes::LineFault],
+    lines: &mut TextSet,
+) -> Result<(), AllocError>
+    ensures { OnOk result ((q : List ℕ) → has_text lines.new q ≡ (has_text lines.old q || list_any (λ fault. bytes_eq q (table_line table fault)) faults.now)) }
+{
+    for fault in faults {
+        report_table_fault(alloc, table, *fault, lines)?;
+    }
+    Ok(())
 }

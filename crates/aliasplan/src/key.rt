@@ -1,9 +1,7 @@
 //! The keys of the settings.
 use crate::domains::are_domains;
-use crate::setting_values::{
-    is_host, is_mailbox_transport, is_remote_transport, read_choice, read_delimiter, read_limit,
-    read_seed,
-};
+use crate::setting_values::{is_host, is_via, read_choice, read_delimiter, read_limit, read_seed};
+use relay_routes::Transport;
 use std::alloc::{AllocError, Global};
 
 /// A key of the settings (postconf(5) of Postfix).
@@ -86,8 +84,8 @@ impl Key {
             | Key::SmtpDestinationRecipientLimit
             | Key::RelayDestinationRecipientLimit
             | Key::LmtpDestinationRecipientLimit => Ok(read_limit(value).is_some()),
-            Key::DefaultTransport => Ok(is_remote_transport(value)),
-            Key::MailboxTransport => is_mailbox_transport(alloc, value),
+            Key::DefaultTransport => Ok(Transport::named(value).is_some()),
+            Key::MailboxTransport => is_via(alloc, value),
             Key::Seed => Ok(read_seed(value).is_some()),
             Key::ExpandOwnerAlias => Ok(read_choice(value).is_some()),
         }

@@ -23,13 +23,15 @@ pub mod planning;
 mod raw_line;
 pub mod reading;
 mod recipients;
-pub mod running;
+pub mod routing;
+mod running;
 mod section;
 mod sections;
 mod setting;
 mod setting_values;
 pub mod settings;
 pub mod summary;
+mod table;
 mod target;
 #[cfg(test)]
 mod tests_parsing;

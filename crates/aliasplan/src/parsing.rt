@@ -12,7 +12,7 @@ use crate::sections::Sections;
 use crate::values::Values;
 use std::alloc::Global;
 
-/// The job that a text is: its settings, the mailboxes' bytes and the envelope.
+/// The job that a text is: its settings, the bytes of its mailboxes and tables, and the envelope.
 ///
 /// The first of these faults comes: BadJob at the first line that is no heading of a section, or one of an earlier section, or that
 /// stands before the first heading and isn't of white space alone; BadSetting at the first bad line of the settings; BadEnvelope at
@@ -30,10 +30,14 @@ pub fn parse_job(alloc: Global, bytes: &[u8]) -> Result<Job, RunFault>
         settings.origin.as_bytes(),
     )?;
     let mailboxes = section_bytes(alloc, sections.section(Section::Mailboxes))?;
+    let transport = section_bytes(alloc, sections.section(Section::Transport))?;
+    let mx = section_bytes(alloc, sections.section(Section::Mx))?;
     let Envelope { sender, recipients } = envelope;
     Ok(Job {
         settings,
         mailboxes,
+        transport,
+        mx,
         sender,
         recipients,
     })

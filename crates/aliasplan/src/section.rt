@@ -6,6 +6,8 @@ use relay_text::trimmed_end;
 pub enum Section {
     Settings,
     Mailboxes,
+    Transport,
+    Mx,
     Envelope,
 }
 
@@ -21,6 +23,8 @@ impl Section {
         match trimmed_end(heading) {
             b"%settings" => Some(Section::Settings),
             b"%mailboxes" => Some(Section::Mailboxes),
+            b"%transport" => Some(Section::Transport),
+            b"%mx" => Some(Section::Mx),
             b"%envelope" => Some(Section::Envelope),
             _ => None,
         }

@@ -8,6 +8,8 @@ use crate::section::Section;
 pub struct Sections<'a> {
     pub settings: Option<Place<'a>>,
     pub mailboxes: Option<Place<'a>>,
+    pub transport: Option<Place<'a>>,
+    pub mx: Option<Place<'a>>,
     pub envelope: Option<Place<'a>>,
 }
 
@@ -23,6 +25,8 @@ impl<'a> Sections<'a> {
         Sections {
             settings: None,
             mailboxes: None,
+            transport: None,
+            mx: None,
             envelope: None,
         }
     }
@@ -33,6 +37,8 @@ impl<'a> Sections<'a> {
         match section {
             Section::Settings => self.settings,
             Section::Mailboxes => self.mailboxes,
+            Section::Transport => self.transport,
+            Section::Mx => self.mx,
             Section::Envelope => self.envelope,
         }
     }
@@ -54,6 +60,8 @@ impl<'a> Sections<'a> {
         match section {
             Section::Settings => self.settings = Some(place),
             Section::Mailboxes => self.mailboxes = Some(place),
+            Section::Transport => self.transport = Some(place),
+            Section::Mx => self.mx = Some(place),
             Section::Envelope => self.envelope = Some(place),
         }
     }

@@ -4,7 +4,7 @@ ghost use Rattle.std.specs.List.{list_any};
 ghost use Rattle.relay_text.specs.Bytes.{folded};
 ghost use Rattle.relay_text.specs.Addresses.{is_atext};
 ghost use Rattle.relay_routes.specs.Nexthops.{via_setting_of};
-ghost use Rattle.aliasplan.specs.Settings.{host_value, delimiter_value, limit_value, seed_value, choice_value, is_remote_transport, is_over_lmtp, read_or};
+ghost use Rattle.aliasplan.specs.Settings.{host_value, delimiter_value, limit_value, seed_value, choice_value, read_or};
 ghost use Rattle.aliasplan.specs.SettingValues.{default_via};
 
 use relay_routes::{Transport, Via};
@@ -95,28 +95,12 @@ pub fn read_choice(text: &[u8]) -> Option<bool>
     }
 }
 
-/// Whether a value is the transport of remote addresses: `smtp` or `relay`.
-pub fn is_remote_transport(value: &[u8]) -> bool
-    ensures { result ≡ is_remote_transport value.now }
+/// Whether a value is a transport, alone or with a nexthop of its forms.
+pub fn is_via(alloc: Global, value: &[u8]) -> Result<bool, AllocError>
+    ensures { IfOk result (λ good. good ≡ is_some (via_setting_of value.now)) }
 {
-    match value {
-        b"smtp" => true,
-        b"relay" => true,
-        _ => false,
-    }
-}
-
-/// Whether a value is the transport of mailboxes: `lmtp`, alone or with a nexthop.
-pub fn is_mailbox_transport(alloc: Global, value: &[u8]) -> Result<bool, AllocError>
-    ensures { IfOk result (λ good. good ≡ is_over_lmtp (via_setting_of value.now)) }
-{
-    match Via::parse(alloc, value)? {
-        Some(via) => match via.transport {
-            Transport::Lmtp => Ok(true),
-            _ => Ok(false),
-        },
-        None => Ok(false),
-    }
+    let via = Via::parse(alloc, value)?;
+    Ok(via.is_some())
 }
 
 /// The transport and nexthop of a value, or else LMTP to `unix:mailbox`.

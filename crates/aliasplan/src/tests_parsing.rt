@@ -30,7 +30,7 @@ const ENVELOPE: &[u8] = b"%envelope\nMAIL FROM:<>\nRCPT TO:<joe@example.org>\n";
 fn bad_job_lines(rt: HostRuntime) -> Result<(), Fail> {
     let cases: [(&[u8], usize); 6] = [
         (b"hello", 1),
-        (b"%mx\n", 1),
+        (b"%aliases\n", 1),
         (b"%%settings\n", 1),
         (b"%settings x\n", 1),
         (b"\n%settings\n%settings\n", 3),
@@ -47,7 +47,8 @@ fn bad_job_lines(rt: HostRuntime) -> Result<(), Fail> {
 
 #[test]
 fn headings(rt: HostRuntime) -> Result<(), Fail> {
-    let good: [&[u8]; 3] = [
+    let good: [&[u8]; 4] = [
+        b"%mx\n%transport\n",
         b" \t\n\r\n",
         b"%settings \t\r\n",
         b"%mailboxes\n%%settings\n",
@@ -76,11 +77,11 @@ fn bad_settings(rt: HostRuntime) -> Result<(), Fail> {
         b"smtp_destination_recipient_limit = 65536",
         b"relay_destination_recipient_limit = -1",
         b"lmtp_destination_recipient_limit = ",
-        b"default_transport = lmtp",
         b"default_transport = SMTP",
         b"default_transport = smtp:relay.example.net",
-        b"mailbox_transport = smtp",
-        b"mailbox_transport = relay:mail.example.net",
+        b"default_transport = error",
+        b"mailbox_transport = unix:mbox",
+        b"mailbox_transport = relay:",
         b"mailbox_transport = lmtp:",
         b"mailbox_transport = lmtp:unix:",
         b"seed = 18446744073709551616",
@@ -116,7 +117,7 @@ fn repeated_keys(rt: HostRuntime) -> Result<(), Fail> {
 
 #[test]
 fn good_settings(rt: HostRuntime) -> Result<(), Fail> {
-    let good: [&[u8]; 16] = [
+    let good: [&[u8]; 19] = [
         b"myhostname=a_b-c.Example",
         b"\tmyorigin\t=\tlocalhost\t",
         b"mydestination =",
@@ -127,6 +128,9 @@ fn good_settings(rt: HostRuntime) -> Result<(), Fail> {
         b"smtp_destination_recipient_limit = 65535",
         b"default_transport = relay",
         b"default_transport = smtp",
+        b"default_transport = lmtp",
+        b"mailbox_transport = smtp",
+        b"mailbox_transport = relay:mail.example.net",
         b"mailbox_transport = lmtp",
         b"mailbox_transport = lmtp:mail.example.net:24",
         b"mailbox_transport = lmtp:inet:[192.0.2.1]:lmtp",

@@ -10,6 +10,8 @@ mod standard_input;
 mod tests;
 #[cfg(test)]
 mod tests_devices;
+#[cfg(test)]
+mod tests_tables;
 
 use aliasplan::{Device, Limits, Options, RunFault, run};
 use command_line::{Request, read_words};

@@ -47,7 +47,7 @@ fn planned(
 }
 
 /// A job that is planned whole.
-fn expect_plan(rt: &(impl Abort + AllocGlobal), job: &[u8], plan: &[u8]) {
+pub fn expect_plan(rt: &(impl Abort + AllocGlobal), job: &[u8], plan: &[u8]) {
     let (answer, text) = planned(rt.alloc(), job, usize::MAX, usize::MAX, LIMITS, usize::MAX);
     assert!(rt; answer.is_ok(), "{answer:?}");
     assert_eq!(rt; text.as_slice(), plan);

@@ -1,2 +1,9 @@
 pub mod FirstTexts
 pub mod MailboxNames
+pub mod Rows
+pub mod Outside
+pub mod AddressItems
+pub mod ItemForms
+pub mod ItemLists
+pub mod AliasLines
+pub mod IncludePaths

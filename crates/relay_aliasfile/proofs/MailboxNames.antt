@@ -1,5 +1,5 @@
 -- What the lines of a mailbox file make together.
-use Rattle.std.proofs.Common.{◌≡◌, ℕ, List, [], ◌++◌, sym, ap, ◌∙◌, subst}
+use Rattle.std.proofs.Common.{◌≡◌, ℕ, List, [], ◌++◌, sym, ◌∙◌, subst}
 use Rattle.std.specs.Prelude.{filter_map, flat_map}
 use Rattle.std.proofs.lemmas.List.{append-nil}
 use Rattle.relay_text.specs.Lines.{kept_lines}
@@ -7,7 +7,6 @@ use Rattle.relay_text.specs.declared.lines.Line.{Line}
 use Rattle.relay_aliasfile.specs.DistinctTexts.{with_texts}
 use Rattle.relay_aliasfile.specs.MailboxFiles.{name_in, faults_in, mailbox_file_of}
 use Rattle.relay_aliasfile.specs.declared.fault.LineFault.{LineFault}
-use Rattle.relay_aliasfile.specs.declared.mailboxes.MailboxFile.{MailboxFile}
 use Rattle.relay_aliasfile.proofs.FirstTexts.{with_texts-none}
 
 -- where no line is left, what was gathered is the file

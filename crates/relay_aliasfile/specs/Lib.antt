@@ -1,2 +1,12 @@
 pub mod MailboxFiles
 pub mod DistinctTexts
+pub mod Items
+pub mod AliasFiles
+pub mod IncludeFiles
+pub mod IncludeNames
+pub mod QuoteStates
+pub mod ItemTexts
+pub mod Specials
+pub mod Lists
+pub mod Headings
+pub mod AliasTables

@@ -1,5 +1,5 @@
 -- Mailbox files: the local names that have a mailbox.
-use Rattle.std.specs.Prelude.{ℕ, List, [], ◌∷◌, filter_map, flat_map, Option, Some, None, option_map, is_none, if◌then◌else◌}
+use Rattle.std.specs.Prelude.{ℕ, List, [], ◌∷◌, filter_map, flat_map, Option, option_map, is_none, if◌then◌else◌}
 use Rattle.std.specs.Result.{result_ok}
 use Rattle.std.specs.Str.{bytes_eq}
 use Rattle.relay_text.specs.Bytes.{folded, trimmed, firsts}

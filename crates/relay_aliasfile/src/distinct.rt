@@ -22,7 +22,7 @@ impl Model for DistinctTexts {
     ghost invariant = { λ a. (q : List ℕ) → has_text a.seen q ≡ has_text a.texts.items q };
 }
 
-ghost use Rattle.std.specs.Prelude.{◌≡◌, [], OnOk, OnErr};
+ghost use Rattle.std.specs.Prelude.{◌≡◌, ◌++◌, ◌∷◌, [], OnOk, OnErr};
 ghost use Rattle.relay_aliasfile.specs.DistinctTexts.{with_text};
 
 impl DistinctTexts {
@@ -41,14 +41,24 @@ impl DistinctTexts {
         ensures ok { OnOk result (self.new ≡ with_text self.old text.items) }
         ensures err { OnErr result (self.new ≡ self.old) }
     {
-        if self.seen.contains(text.as_slice()) {
-            return Ok(());
-        }
         let copy = Vec::from_slice(alloc, text.as_slice())?;
         self.texts.reserve(1)?;
-        self.seen.insert(copy)?;
-        self.texts.push_reserved(Text::of(text));
+        if self.seen.insert(copy)? {
+            self.texts.push_reserved(Text::of(text));
+        }
         Ok(())
+    }
+
+    /// Adds a copy of a text, where it isn't there already.
+    pub fn add_copy(&mut self, alloc: Global, text: &[u8]) -> Result<(), AllocError>
+        ensures ok { OnOk result (self.new ≡ with_text self.old text.now) }
+        ensures err { OnErr result (self.new ≡ self.old) }
+    {
+        if self.seen.contains(text) {
+            return Ok(());
+        }
+        let copy = Vec::from_slice(alloc, text)?;
+        self.add(alloc, copy)
     }
 
     pub fn into_seq(self) -> Seq<Text>

@@ -1,13 +1,36 @@
 //! The files that administrators write, read as aliases(5) reads them.
 #![tactic(auto)]
 
+mod alias_table;
+pub mod aliases;
 mod distinct;
+pub mod entry;
 pub mod fault;
+mod heading;
+pub mod includes;
+pub mod item;
+mod item_texts;
+pub mod items;
+mod lists;
 pub mod mailboxes;
 mod names;
-
-pub use fault::{FaultKind, LineFault};
-pub use mailboxes::{MailboxFile, parse_mailboxes};
-
+mod paths;
+mod quotes;
+mod reading;
+mod special;
 #[cfg(test)]
-mod tests;
+mod tests_aliases;
+#[cfg(test)]
+mod tests_includes;
+#[cfg(test)]
+mod tests_mailboxes;
+#[cfg(test)]
+mod tests_shown;
+
+pub use aliases::{AliasFile, include_names, parse_aliases};
+pub use entry::Entry;
+pub use fault::{FaultKind, LineFault};
+pub use includes::{IncludeFile, include_names_of, parse_include};
+pub use item::Item;
+pub use items::Items;
+pub use mailboxes::{MailboxFile, parse_mailboxes};

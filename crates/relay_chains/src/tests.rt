@@ -107,17 +107,18 @@ fn texts_keep_apart(rt: HostRuntime) -> Result<(), Fail> {
     Ok(())
 }
 
-// A count of keys in as many buckets as given, each found again.
-fn fills(rt: &(impl Abort + AllocGlobal), heads: usize, count: u32) -> Result<(), Fail>
+// A count of keys in as many buckets as given, of which the first are found again.
+fn fills(rt: &(impl Abort + AllocGlobal), heads: usize, count: u32, found: u32) -> Result<(), Fail>
     requires heads { 1 ≤ heads }
     requires count { count ≤ 1_000_000 }
+    requires found { found ≤ count }
 {
     let mut set = Chains::new(rt.alloc(), heads, count as usize)?;
     for i in 0..count {
         let key = u64::from(i).wrapping_mul(0x9e37_79b9_7f4a_7c15);
         assert_eq!(rt; set.insert(key)?, (i, true));
     }
-    for i in 0..count {
+    for i in 0..found {
         let key = u64::from(i).wrapping_mul(0x9e37_79b9_7f4a_7c15);
         assert_eq!(rt; set.find(key), Some(i));
         assert_eq!(rt; set.get(i), Some(key));
@@ -128,12 +129,12 @@ fn fills(rt: &(impl Abort + AllocGlobal), heads: usize, count: u32) -> Result<()
 
 #[test]
 fn many_keys_spread(rt: HostRuntime) -> Result<(), Fail> {
-    fills(&rt, 100_000, 100_000)
+    fills(&rt, 100_000, 100_000, 100_000)
 }
 
 #[test]
 fn many_keys_in_one_bucket(rt: HostRuntime) -> Result<(), Fail> {
-    fills(&rt, 1, 20_000)
+    fills(&rt, 1, 100_000, 1_000)
 }
 
 // `u000001@example.net` and the like.

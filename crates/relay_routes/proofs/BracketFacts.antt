@@ -1,5 +1,5 @@
 -- A host in brackets where its text is cut at the first `]`.
-use Rattle.std.proofs.Common.{◌≡◌, ℕ, suc, ◌+◌, ◌-◌, ◌<◌, ◌≤◌, Bool, true, false, cond, ◌&&◌, ◌==◌, List, [], ◌∷◌, ◌++◌, length, take, drop, get_or, refl, sym, ap, ◌∙◌, arith, codes, eq-eqb}
+use Rattle.std.proofs.Common.{◌≡◌, ℕ, suc, ◌+◌, ◌-◌, ◌≤◌, Bool, true, false, ◌&&◌, ◌==◌, List, [], ◌∷◌, length, take, drop, get_or, sym, ap, ◌∙◌, arith, eq-eqb}
 use Rattle.std.specs.Prelude.{Option, Some, None}
 use Rattle.std.specs.List.{list_any, position_or_len, before_first}
 use Rattle.std.specs.Str.{bytes_eq}
@@ -9,7 +9,7 @@ use Rattle.relay_text.specs.Bytes.{folded}
 use Rattle.relay_text.specs.Addresses.{is_literal_content}
 use Rattle.relay_routes.specs.Nexthops.{Nexthop, bracketed_host, is_port}
 use Rattle.relay_routes.proofs.Readings.{any_left, left_over, length-before_first}
-use Rattle.relay_routes.proofs.NexthopFacts.{is_close, host_in, brackets, is_bracketed, nexthop_if}
+use Rattle.relay_routes.proofs.NexthopFacts.{is_close, brackets, is_bracketed, nexthop_if}
 
 abbrev read : Bool → List ℕ → List ℕ → List ℕ → Option Nexthop
 read whole text host port = nexthop_if (whole && is_literal_content host && is_port port) false text host port

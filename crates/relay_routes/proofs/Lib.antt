@@ -4,4 +4,16 @@ pub mod Folding
 pub mod NexthopFacts
 pub mod BracketFacts
 pub mod RouteFacts
+pub mod OwnNames
+pub mod StableSorts
+pub mod MxPlaces
+pub mod MxLookups
+pub mod MxFields
+pub mod FirstHosts
+pub mod Runs
+pub mod HostChoices
+pub mod PlaceFacts
+pub mod PatternFacts
+pub mod TableFacts
+pub mod KeyFacts
 pub mod Rows

@@ -1,7 +1,7 @@
 -- What a setting says where it is cut at its first colon.
-use Rattle.std.proofs.Common.{◌≡◌, ℕ, ◌-◌, ◌<◌, ◌≤◌, Bool, true, false, not, cond, List, length, take, drop, refl, sym, ap, ◌∙◌}
+use Rattle.std.proofs.Common.{◌≡◌, ℕ, ◌-◌, ◌<◌, ◌≤◌, Bool, true, false, not, cond, List, length, take, drop, sym, ap, ◌∙◌}
 use Rattle.std.specs.Prelude.{Option, Some, None, option_map, option_and_then, is_some}
-use Rattle.std.specs.List.{list_any, position_or_len, before_first, after_first}
+use Rattle.std.specs.List.{position_or_len, before_first, after_first}
 use Rattle.relay_routes.specs.declared.transport.Transport.{Transport}
 use Rattle.relay_routes.specs.declared.via.Via.{Via}
 use Rattle.relay_routes.specs.Transports.{transport_named, is_colon}

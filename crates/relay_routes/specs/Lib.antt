@@ -1,5 +1,12 @@
+pub mod TransportLines
+pub mod MxLines
 pub mod Routing
 pub mod Transports
+pub mod Exchanges
+pub mod MxRecords
+pub mod Preferences
 pub mod Nexthops
 pub mod Forms
+pub mod TextPlaces
+pub mod TableSteps
 pub mod Routes

@@ -3,33 +3,45 @@ use Rattle.std.specs.Prelude.{◌≡◌, ℕ, List, [], ◌∷◌, ◌++◌, map
 use Rattle.relay_text.specs.AddressParts.{AddressParts}
 use Rattle.relay_text.specs.Addresses.{result_map}
 use Rattle.relay_routes.specs.declared.transport.Transport as names
+use Rattle.relay_routes.specs.declared.choice.Choice.{Choice}
+use Rattle.relay_routes.specs.declared.choice.Choice.TheVariants as choices
 use Rattle.relay_routes.specs.declared.via.Via as settings
 use Rattle.relay_routes.specs.declared.route.Route.{Route}
 use Rattle.relay_routes.specs.declared.unrouted.Unrouted.{Unrouted}
-use Rattle.relay_routes.specs.declared.unrouted.Unrouted.TheVariants.{Domain, Transport, Memory}
+use Rattle.relay_routes.specs.declared.unrouted.Unrouted.TheVariants.{Transport, Refused, Memory}
+use Rattle.relay_routes.specs.Transports.{choice_for}
 use Rattle.relay_routes.specs.Nexthops.{Nexthop, nexthop_of}
+use Rattle.relay_routes.specs.Exchanges.{hosts_of}
 use Rattle.relay_routes.specs.Routing.{Routing}
 
--- A nexthop's hosts without their ports: the one host that it names. Where mail exchangers are to be looked up there is no table that
--- has the domain.
-abbrev pub nexthop_hosts : Nexthop → Result (List (List ℕ)) Unrouted
-nexthop_hosts n = if n.looks_up then Err Domain else Ok (n.host ∷ [])
+-- a nexthop's hosts without their ports: its mail exchangers where they are looked up, else the one host
+abbrev pub nexthop_hosts : Routing → Nexthop → Result (List (List ℕ)) Unrouted
+nexthop_hosts r n = if n.looks_up then hosts_of r.exchanges n.host r.settings.own_names r.settings.seed else Ok (n.host ∷ [])
 
 -- the route by a transport and a nexthop, whose port follows each host
-abbrev pub route_by : names.Transport → Option Nexthop → Result Route Unrouted
-route_by transport None = Err Transport
-route_by transport (Some n) = result_map (λ hosts. record { transport = transport; nexthop = n.text; hosts = map (λ host. host ++ n.port) hosts }) (nexthop_hosts n)
+abbrev pub route_with : names.Transport → Nexthop → List (List ℕ) → Route
+route_with transport n hosts = record { transport = transport; nexthop = n.text; hosts = map (λ host. host ++ n.port) hosts }
 
-unfoldable pub route_to : names.Transport → List ℕ → Result Route Unrouted
-route_to transport nexthop = route_by transport (nexthop_of transport nexthop)
+abbrev pub route_by : Routing → names.Transport → Option Nexthop → Result Route Unrouted
+route_by r transport None = Err Transport
+route_by r transport (Some n) = result_map (route_with transport n) (nexthop_hosts r n)
 
--- An address goes by the default transport to its domain.
+unfoldable pub route_to : Routing → names.Transport → List ℕ → Result Route Unrouted
+route_to r transport nexthop = route_by r transport (nexthop_of transport nexthop)
+
+-- Where the table names no transport it's the default one, and where it names no nexthop it's the recipient's domain.
+abbrev pub route_for : Routing → Choice → List ℕ → Result Route Unrouted
+route_for r choices.Absent domain = route_to r r.settings.default_transport domain
+route_for r (choices.Via transport nexthop) domain = route_to r (unwrap_or transport r.settings.default_transport) (unwrap_or nexthop domain)
+route_for r (choices.Refused text) domain = Err (Refused text)
+route_for r choices.Unknown domain = Err Transport
+
 abbrev pub route_of : Routing → AddressParts → Result Route Unrouted
-route_of r a = route_to r.settings.default_transport a.domain
+route_of r a = route_for r (choice_for r.transports.entries r.settings.delimiter a) a.domain
 
--- A mailbox goes by its setting; where that names no nexthop it's the address's domain.
-abbrev pub route_via_of : settings.Via → AddressParts → Result Route Unrouted
-route_via_of via a = route_to via.transport (unwrap_or via.nexthop a.domain)
+-- A mailbox goes by its setting, without a look-up in the table; where that names no nexthop it's the address's domain.
+abbrev pub route_via_of : Routing → settings.Via → AddressParts → Result Route Unrouted
+route_via_of r via a = route_to r via.transport (unwrap_or via.nexthop a.domain)
 
 -- What a call answers is what the definition gives, unless memory ran out.
 abbrev pub Fails : {A : Type 0} → Unrouted → Result A Unrouted → Type 0

@@ -19,18 +19,6 @@ pub(crate) enum Form<'a> {
     Unix(&'a [u8]),
 }
 
-impl<'a> Form<'a> {
-    /// Whether the host's mail exchangers are looked up.
-    pub(crate) fn looks_up(&self) -> bool
-        ensures { result ≡ (nexthop_from self.now).looks_up }
-    {
-        match self {
-            Form::Host(form) => form.looks_up,
-            Form::Unix(_) => false,
-        }
-    }
-}
-
 /// The nexthop that a text names to a transport, `None` where it's of none of the transport's forms.
 pub(crate) fn form_of(transport: Transport, text: &[u8]) -> Option<Form<'_>>
     ensures { option_map nexthop_from result ≡ nexthop_of transport text.now }

@@ -17,7 +17,7 @@ impl Model for Hosts {
     ghost view = { λ a. a.hosts.items };
 }
 
-ghost use Rattle.std.specs.Prelude.{◌≡◌, [], ◌∷◌, IfOk};
+ghost use Rattle.std.specs.Prelude.{◌≡◌, [], ◌∷◌, ◌++◌, map, IfOk};
 
 impl Hosts {
     /// One host.
@@ -26,6 +26,27 @@ impl Hosts {
     {
         let mut hosts = Vec::with_capacity(alloc, 1)?;
         hosts.push(host)?;
+        Ok(Hosts { hosts })
+    }
+
+    /// These hosts.
+    pub(crate) fn of(hosts: Vec<Text>) -> Hosts
+        ensures { result ≡ hosts.items }
+    {
+        Hosts { hosts }
+    }
+
+    /// The hosts, each with the same bytes behind it.
+    pub(crate) fn each_with(self, alloc: Global, more: &[u8]) -> Result<Hosts, AllocError>
+        ensures { IfOk result (λ hosts. hosts ≡ map (λ host. host ++ more.now) self) }
+    {
+        let Hosts { hosts: bare } = self;
+        let mut hosts = Vec::with_capacity(alloc, bare.len())?;
+        for host in bare {
+            let mut longer = host;
+            longer.append(more)?;
+            hosts.push(longer)?;
+        }
         Ok(Hosts { hosts })
     }
 

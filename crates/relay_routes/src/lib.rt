@@ -1,20 +1,42 @@
 //! Which transport, nexthop and hosts an address goes to.
 #![tactic(auto)]
 
+pub mod choice;
+mod copies;
+pub mod exchange;
+pub mod fault;
 mod form;
 mod host_form;
 pub mod hosts;
+pub mod mx;
+mod mx_hosts;
+mod mx_line;
+mod mx_record;
+mod mx_records;
+mod pattern;
+mod preferences;
 pub mod route;
 pub mod router;
 #[cfg(test)]
 mod tests;
+#[cfg(test)]
+mod tests_mx;
+#[cfg(test)]
+mod tests_table;
+mod text_places;
 pub mod transport;
+pub mod transport_line;
+pub mod transport_table;
 pub mod unrouted;
 pub mod via;
 
+pub use choice::Choice;
+pub use fault::{FaultKind, LineFault};
 pub use hosts::Hosts;
+pub use mx::MxTable;
 pub use route::{Route, RouteSettings, one_route_per_nexthop};
 pub use router::Router;
 pub use transport::Transport;
+pub use transport_table::TransportTable;
 pub use unrouted::Unrouted;
 pub use via::Via;

@@ -1,74 +1,175 @@
 //! The routes of addresses.
-ghost use Rattle.std.specs.Prelude.{◌≡◌};
-ghost use Rattle.relay_routes.specs.Routes.{Answers, route_to, route_of, route_via_of};
-
-use crate::form::form_of;
-use crate::route::{Route, RouteSettings, route_by};
+use crate::choice::Choice;
+use crate::copies::folded_copy;
+use crate::form::{Form, form_of};
+use crate::host_form::HostForm;
+use crate::hosts::Hosts;
+use crate::mx::MxTable;
+use crate::route::{Route, RouteSettings, route_to_exchangers, route_to_host, route_to_path};
 use crate::transport::Transport;
+use crate::transport_table::TransportTable;
 use crate::unrouted::Unrouted;
 use crate::via::Via;
-use relay_text::Address;
-use std::alloc::Global;
+use relay_text::{Address, Text, TextSet};
+use std::alloc::{AllocError, Global};
 use std::marker::Model;
 
 /// What finds the route of an address.
 #[derive(Drop)]
 pub struct Router {
     settings: RouteSettings,
+    own_names: TextSet,
+    transports: TransportTable,
+    exchanges: MxTable,
 }
 
 impl Model for Router {
+    ghost use Rattle.std.specs.Prelude.{◌≡◌, List, ℕ};
+    ghost use Rattle.relay_text.specs.Bytes.{has_text};
     ghost use Rattle.relay_routes.specs.Routing.{Routing};
 
     ghost Value = { Routing };
 
-    ghost view = { λ a. record { settings = a.settings } };
+    ghost view = { λ a. record { settings = a.settings; transports = a.transports; exchanges = a.exchanges } };
+
+    ghost invariant = { λ a. (q : List ℕ) → has_text a.own_names q ≡ has_text a.settings.own_names q };
 }
 
+ghost use Rattle.std.specs.Prelude.{◌≡◌, Some, option_map, unwrap_or, IfOk};
+ghost use Rattle.relay_text.specs.Bytes.{folded};
+ghost use Rattle.relay_routes.specs.Forms.{hosted};
+ghost use Rattle.relay_routes.specs.Exchanges.{hosts_of};
+ghost use Rattle.relay_routes.specs.Routes.{Answers, route_by, route_to, route_of, route_via_of};
+
 impl Router {
-    /// A router that goes by these settings.
-    pub fn new(settings: RouteSettings) -> Router
-        ensures { result ≡ record { settings = settings } }
+    /// A router that goes by these settings and tables. `Err` where memory runs out.
+    pub fn new(
+        alloc: Global,
+        settings: RouteSettings,
+        transports: TransportTable,
+        exchanges: MxTable,
+    ) -> Result<Router, AllocError>
+        ensures { IfOk result (λ router. router ≡ record { settings = settings; transports = transports; exchanges = exchanges }) }
     {
-        Router { settings }
+        let own_names = TextSet::of(alloc, settings.own_names.as_slice())?;
+        Ok(Router {
+            settings,
+            own_names,
+            transports,
+            exchanges,
+        })
     }
 
-    /// The route of a remote address: by the default transport to its domain (RFC 5321 section 5).
+    /// The route of a remote address: as the transport table says, by the default transport where it names none, and to the address's
+    /// domain where it names no nexthop (transport(5), "RESULT FORMAT"; RFC 5321 section 5).
     ///
-    /// `Transport`: the transport takes no such nexthop. `Domain`: the domain's mail exchangers are to be looked up, and no table
-    /// has it. `Memory`: memory ran out.
+    /// `Refused`: the table refuses the address, with this text. `Transport`: the table names another transport, or the transport
+    /// takes no such nexthop. `Domain`: mail exchangers are to be looked up, and the domain has none and no address. `MxSelf`: none is
+    /// left before the relay itself. `NullMx`: the domain takes no mail. `Memory`: memory ran out.
     pub fn route(&self, alloc: Global, address: &Address) -> Result<Route, Unrouted>
         ensures { Answers result (route_of self.now address.now) }
     {
-        route_to(alloc, self.settings.default_transport, address.domain())
-    }
-
-    /// The route of a mailbox, by its setting: to the nexthop that it names, else to the address's domain (transport(5)).
-    ///
-    /// The errors are those of `route`.
-    pub fn route_via(&self, alloc: Global, via: &Via, address: &Address) -> Result<Route, Unrouted>
-        ensures { Answers result (route_via_of via.now address.now) }
-    {
-        match &via.nexthop {
-            Some(nexthop) => route_to(alloc, via.transport, nexthop.as_bytes()),
-            None => route_to(alloc, via.transport, address.domain()),
+        let Ok(choice) = self
+            .transports
+            .find(alloc, address, self.settings.delimiter)
+        else {
+            return Err(Unrouted::Memory);
+        };
+        match choice {
+            Choice::Absent => {
+                self.route_to(alloc, self.settings.default_transport, address.domain())
+            }
+            Choice::Via { transport, nexthop } => {
+                let transport = transport.unwrap_or(self.settings.default_transport);
+                self.route_or_domain(alloc, transport, nexthop.as_ref(), address)
+            }
+            Choice::Refused(text) => Err(Unrouted::Refused(text)),
+            Choice::Unknown => Err(Unrouted::Transport),
         }
     }
-}
 
-/// The route by a transport to a nexthop.
-#[tactic(auto, unfolding(crate::specs::Routes::route_to))]
-fn route_to(alloc: Global, transport: Transport, nexthop: &[u8]) -> Result<Route, Unrouted>
-    ensures { Answers result (route_to transport nexthop.now) }
-{
-    let Some(form) = form_of(transport, nexthop) else {
-        return Err(Unrouted::Transport);
-    };
-    if form.looks_up() {
-        return Err(Unrouted::Domain);
+    /// The route of a mailbox, by its setting: to the nexthop that it names, else to the address's domain (transport(5)). The table
+    /// isn't looked at.
+    ///
+    /// The errors are those of `route`, without `Refused`.
+    pub fn route_via(&self, alloc: Global, via: &Via, address: &Address) -> Result<Route, Unrouted>
+        ensures { Answers result (route_via_of self.now via.now address.now) }
+    {
+        self.route_or_domain(alloc, via.transport, via.nexthop.as_ref(), address)
     }
-    let Ok(route) = route_by(alloc, transport, &form) else {
-        return Err(Unrouted::Memory);
-    };
-    Ok(route)
+
+    /// The route by a transport to a nexthop, or where there is none to an address's domain.
+    fn route_or_domain(
+        &self,
+        alloc: Global,
+        transport: Transport,
+        nexthop: Option<&Text>,
+        address: &Address,
+    ) -> Result<Route, Unrouted>
+        ensures { Answers result (route_to self.now transport (unwrap_or (option_map (λ text. text.now) nexthop.entry) address.now.domain)) }
+    {
+        match nexthop {
+            Some(nexthop) => self.route_to(alloc, transport, nexthop.as_bytes()),
+            None => self.route_to(alloc, transport, address.domain()),
+        }
+    }
+
+    /// The route by a transport to a nexthop.
+    #[tactic(auto, unfolding(crate::specs::Routes::route_to))]
+    fn route_to(
+        &self,
+        alloc: Global,
+        transport: Transport,
+        nexthop: &[u8],
+    ) -> Result<Route, Unrouted>
+        ensures { Answers result (route_to self.now transport nexthop.now) }
+    {
+        match form_of(transport, nexthop) {
+            Some(Form::Host(form)) => self.route_to_host(alloc, transport, &form),
+            Some(Form::Unix(path)) => {
+                let Ok(route) = route_to_path(alloc, transport, path) else {
+                    return Err(Unrouted::Memory);
+                };
+                Ok(route)
+            }
+            None => Err(Unrouted::Transport),
+        }
+    }
+
+    /// The route to a host, or to its mail exchangers where they are looked up.
+    fn route_to_host(
+        &self,
+        alloc: Global,
+        transport: Transport,
+        form: &HostForm,
+    ) -> Result<Route, Unrouted>
+        ensures { Answers result (route_by self.now transport (Some (hosted form.now))) }
+    {
+        if !form.looks_up {
+            let Ok(route) = route_to_host(alloc, transport, form) else {
+                return Err(Unrouted::Memory);
+            };
+            return Ok(route);
+        }
+        let exchangers = self.exchangers(alloc, form)?;
+        let Ok(route) = route_to_exchangers(alloc, transport, form, exchangers) else {
+            return Err(Unrouted::Memory);
+        };
+        Ok(route)
+    }
+
+    /// The mail exchangers of a host.
+    fn exchangers(&self, alloc: Global, form: &HostForm) -> Result<Hosts, Unrouted>
+        ensures { Answers result (hosts_of self.now.exchanges (folded form.now.host.now) self.now.settings.own_names self.now.settings.seed) }
+    {
+        let Ok(domain) = folded_copy(alloc, form.host) else {
+            return Err(Unrouted::Memory);
+        };
+        self.exchanges.hosts_beside(
+            alloc,
+            domain.as_bytes(),
+            &self.own_names,
+            self.settings.seed,
+        )
+    }
 }

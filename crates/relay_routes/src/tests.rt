@@ -1,6 +1,6 @@
 //! Settings and routes, at the origin `example.org`.
-use crate::{Route, RouteSettings, Router, Transport, Unrouted, Via};
-use relay_text::{Address, Text, TextFault, parse_address};
+use crate::{MxTable, Route, RouteSettings, Router, Transport, TransportTable, Unrouted, Via};
+use relay_text::{Address, Seq, Text, TextFault, parse_address};
 use std::alloc::Global;
 use std::process::Abort;
 use std::test::Fail;
@@ -10,8 +10,29 @@ fn address(alloc: Global, text: &[u8]) -> Result<Address, TextFault> {
     parse_address(alloc, text, b"example.org")
 }
 
-fn router(default_transport: Transport) -> Router {
-    Router::new(RouteSettings { default_transport })
+/// A router over two tables, for the relay `relay.example.org`.
+fn router_over(
+    alloc: Global,
+    default_transport: Transport,
+    transports: &[u8],
+    exchanges: &[u8],
+) -> Result<Router, Fail> {
+    let mut own_names = Vec::new(alloc);
+    own_names.push(Text::of(Vec::from_slice(alloc, b"relay.example.org")?))?;
+    let settings = RouteSettings {
+        own_names: Seq::of(own_names),
+        delimiter: Some(b'+'),
+        default_transport,
+        seed: 0,
+    };
+    let transports = TransportTable::parse(alloc, transports)?;
+    let exchanges = MxTable::parse(alloc, exchanges)?;
+    Ok(Router::new(alloc, settings, transports, exchanges)?)
+}
+
+/// A router without tables.
+fn router(alloc: Global, default_transport: Transport) -> Result<Router, Fail> {
+    router_over(alloc, default_transport, b"", b"")
 }
 
 fn goes_to(rt: &impl Abort, route: &Route, transport: Transport, nexthop: &[u8], only_host: &[u8]) {
@@ -86,23 +107,37 @@ fn reads_settings(rt: HostRuntime) -> Result<(), Fail> {
 #[test]
 fn routes_by_the_default_transport(rt: HostRuntime) -> Result<(), Fail> {
     let alloc = rt.alloc();
-    let literal = address(alloc, b"joe@[192.0.2.1]")?;
-    let route = router(Transport::Smtp)
-        .route(alloc, &literal)
-        .ok()
-        .ok_or("a route")?;
-    goes_to(&rt, &route, Transport::Smtp, b"[192.0.2.1]", b"192.0.2.1");
-    let named = address(alloc, b"joe@Example.com")?;
-    let route = router(Transport::Lmtp)
-        .route(alloc, &named)
-        .ok()
-        .ok_or("a route")?;
-    goes_to(&rt, &route, Transport::Lmtp, b"example.com", b"example.com");
-    assert!(rt;
-        matches!(
-            router(Transport::Smtp).route(alloc, &named),
-            Err(Unrouted::Domain)
-        )
+    let router = router(alloc, Transport::Smtp)?;
+    let literal = (Transport::Smtp, "[192.0.2.1]", "192.0.2.1");
+    sends(&rt, &router, alloc, "joe@[192.0.2.1]", literal)?;
+    fails(&rt, &router, alloc, "joe@Example.com", "domain")
+}
+
+#[test]
+fn routes_by_another_default_transport(rt: HostRuntime) -> Result<(), Fail> {
+    let alloc = rt.alloc();
+    let router = router(alloc, Transport::Lmtp)?;
+    let named = (Transport::Lmtp, "example.com", "example.com");
+    sends(&rt, &router, alloc, "joe@Example.com", named)
+}
+
+/// Compares where a router sends `joe@example.com` by a setting, over LMTP.
+fn sends_by_setting(
+    rt: &impl Abort,
+    router: &Router,
+    alloc: Global,
+    setting: &str,
+    to: (&str, &str),
+) -> Result<(), Fail> {
+    let via = Via::parse(alloc, setting.as_bytes())?.ok_or("a setting")?;
+    let joe = address(alloc, b"joe@example.com")?;
+    let route = router.route_via(alloc, &via, &joe).ok().ok_or("a route")?;
+    goes_to(
+        rt,
+        &route,
+        Transport::Lmtp,
+        to.0.as_bytes(),
+        to.1.as_bytes(),
     );
     Ok(())
 }
@@ -110,46 +145,183 @@ fn routes_by_the_default_transport(rt: HostRuntime) -> Result<(), Fail> {
 #[test]
 fn routes_by_settings(rt: HostRuntime) -> Result<(), Fail> {
     let alloc = rt.alloc();
-    let router = router(Transport::Smtp);
-    let joe = address(alloc, b"joe@example.com")?;
+    let router = router(alloc, Transport::Smtp)?;
     for (setting, nexthop, host) in [
+        ("lmtp:UNIX:/var/Mbox", "unix:/var/Mbox", "unix:/var/Mbox"),
         (
-            b"lmtp:UNIX:/var/Mbox".as_slice(),
-            b"unix:/var/Mbox".as_slice(),
-            b"unix:/var/Mbox".as_slice(),
+            "lmtp:inet:H.example.com:24",
+            "inet:h.example.com:24",
+            "h.example.com:24",
         ),
         (
-            b"lmtp:inet:H.example.com:24",
-            b"inet:h.example.com:24",
-            b"h.example.com:24",
+            "lmtp:[GW.example.com]:Lmtp",
+            "[gw.example.com]:lmtp",
+            "gw.example.com:lmtp",
         ),
-        (
-            b"lmtp:[GW.example.com]:Lmtp",
-            b"[gw.example.com]:lmtp",
-            b"gw.example.com:lmtp",
-        ),
-        (b"lmtp", b"example.com", b"example.com"),
+        ("lmtp", "example.com", "example.com"),
     ] {
-        let via = Via::parse(alloc, setting)?.ok_or("a setting")?;
-        let route = router.route_via(alloc, &via, &joe).ok().ok_or("a route")?;
-        goes_to(&rt, &route, Transport::Lmtp, nexthop, host);
+        sends_by_setting(&rt, &router, alloc, setting, (nexthop, host))?;
     }
-    let looked_up = Via::parse(alloc, b"relay:gw.example.com")?.ok_or("a setting")?;
-    assert!(rt;
-        matches!(
-            router.route_via(alloc, &looked_up, &joe),
-            Err(Unrouted::Domain)
-        )
-    );
+    Ok(())
+}
+
+/// Compares why a router sends `joe@example.com` nowhere by a setting.
+fn fails_by_setting(
+    rt: &impl Abort,
+    router: &Router,
+    alloc: Global,
+    via: &Via,
+    word: &str,
+) -> Result<(), Fail> {
+    let joe = address(alloc, b"joe@example.com")?;
+    match router.route_via(alloc, via, &joe) {
+        Ok(_) => assert!(rt; false, "{word:?}"),
+        Err(unrouted) => assert_eq!(rt; reason(&unrouted), word.as_bytes()),
+    }
+    Ok(())
+}
+
+#[test]
+fn tells_why_a_setting_gives_no_route(rt: HostRuntime) -> Result<(), Fail> {
+    let alloc = rt.alloc();
+    let router = router(alloc, Transport::Smtp)?;
     let socket = Via {
         transport: Transport::Smtp,
         nexthop: Some(Text::of(Vec::from_slice(alloc, b"unix:/mbox")?)),
     };
-    assert!(rt;
-        matches!(
-            router.route_via(alloc, &socket, &joe),
-            Err(Unrouted::Transport)
-        )
-    );
+    fails_by_setting(&rt, &router, alloc, &socket, "transport")?;
+    let looked_up = Via::parse(alloc, b"relay:gw.example.com")?.ok_or("a setting")?;
+    fails_by_setting(&rt, &router, alloc, &looked_up, "domain")
+}
+
+/// Where a router sends an address, which has one host.
+fn sends(
+    rt: &impl Abort,
+    router: &Router,
+    alloc: Global,
+    text: &str,
+    to: (Transport, &str, &str),
+) -> Result<(), Fail> {
+    let address = address(alloc, text.as_bytes())?;
+    let route = router.route(alloc, &address).ok().ok_or("a route")?;
+    goes_to(rt, &route, to.0, to.1.as_bytes(), to.2.as_bytes());
+    Ok(())
+}
+
+/// Tables with each kind of key and of result.
+const TRANSPORTS: &[u8] = b"example.net smtp:[gw.example.com]
+.example.net relay:hub.example.com:2525
+b.example.net :
+c.example.net :[gw.example.com]
+d.example.net lmtp:
+u@e.example.net lmtp:inet:h.example.com:24
+f.example.net uucp:host
+g.example.net smtp:unix:/socket
+* error:no mail
+";
+
+const EXCHANGES: &[u8] = b"b.example.net MX 5 mx.b.example.net
+hub.example.com A
+";
+
+#[test]
+fn routes_by_the_tables(rt: HostRuntime) -> Result<(), Fail> {
+    let alloc = rt.alloc();
+    let router = router_over(alloc, Transport::Smtp, TRANSPORTS, EXCHANGES)?;
+    for (text, transport, nexthop, host) in [
+        (
+            "u@example.net",
+            Transport::Smtp,
+            "[gw.example.com]",
+            "gw.example.com",
+        ),
+        (
+            "u@a.b.example.net",
+            Transport::Relay,
+            "hub.example.com:2525",
+            "hub.example.com:2525",
+        ),
+        (
+            "u@b.example.net",
+            Transport::Smtp,
+            "b.example.net",
+            "mx.b.example.net",
+        ),
+        (
+            "u@c.example.net",
+            Transport::Smtp,
+            "[gw.example.com]",
+            "gw.example.com",
+        ),
+        (
+            "u@d.example.net",
+            Transport::Lmtp,
+            "d.example.net",
+            "d.example.net",
+        ),
+        (
+            "u+x@e.example.net",
+            Transport::Lmtp,
+            "inet:h.example.com:24",
+            "h.example.com:24",
+        ),
+    ] {
+        sends(&rt, &router, alloc, text, (transport, nexthop, host))?;
+    }
+    Ok(())
+}
+
+/// Why there is no route, as a word, or the text of a refusal.
+fn reason(unrouted: &Unrouted) -> &[u8] {
+    match unrouted {
+        Unrouted::Domain => b"domain",
+        Unrouted::MxSelf => b"mxself",
+        Unrouted::Transport => b"transport",
+        Unrouted::Refused(text) => text.as_bytes(),
+        Unrouted::NullMx => b"nullmx",
+        Unrouted::Memory => b"memory",
+    }
+}
+
+/// Compares why a router sends an address nowhere.
+fn fails(
+    rt: &impl Abort,
+    router: &Router,
+    alloc: Global,
+    text: &str,
+    word: &str,
+) -> Result<(), Fail> {
+    let address = address(alloc, text.as_bytes())?;
+    match router.route(alloc, &address) {
+        Ok(_) => assert!(rt; false, "{text:?}"),
+        Err(unrouted) => assert_eq!(rt; reason(&unrouted), word.as_bytes()),
+    }
+    Ok(())
+}
+
+#[test]
+fn tells_why_there_is_no_route(rt: HostRuntime) -> Result<(), Fail> {
+    let alloc = rt.alloc();
+    let router = router_over(
+        alloc,
+        Transport::Smtp,
+        b"f.example.net uucp:host
+g.example.net smtp:unix:/socket
+h.example.net error: no  mail
+",
+        b"i.example.net MX 10 relay.example.org
+j.example.net MX 0 .
+",
+    )?;
+    for (text, word) in [
+        ("u@f.example.net", "transport"),
+        ("u@g.example.net", "transport"),
+        ("u@h.example.net", "no  mail"),
+        ("u@i.example.net", "mxself"),
+        ("u@j.example.net", "nullmx"),
+        ("u@example.net", "domain"),
+    ] {
+        fails(&rt, &router, alloc, text, word)?;
+    }
     Ok(())
 }

@@ -7,3 +7,4 @@ pub mod KeptLines
 pub mod Gathered
 pub mod Numbers
 pub mod TextSets
+pub mod QuotedStrings

@@ -26,6 +26,7 @@ ghost use Rattle.std.specs.List.{list_all, position_or_len};
 ghost use Rattle.relay_text.specs.Addresses.{local_cut, quoted_cut, plain_cut, local_of, is_local_byte, is_quotable, is_atext, is_dot, local_checks, checked, is_empty};
 ghost use Rattle.relay_text.specs.Bytes.{begins_with};
 ghost use Rattle.relay_text.specs.Quotes.{marks, is_quote, without_escapes};
+ghost use Rattle.relay_text.specs.QuotedStrings.{is_whole_string};
 
 impl<'a> Cut<'a> {
     /// The local part at the front of a text.
@@ -78,6 +79,14 @@ impl<'a> Cut<'a> {
         ensures { result.now ≡ self.now.rest }
     {
         self.rest
+    }
+
+    /// Whether a quoted string is all there is.
+    #[tactic(auto, using(crate::proofs::Spellings::is_empty_is))]
+    pub(crate) fn is_whole_string(&self) -> bool
+        ensures { result ≡ is_whole_string self.now }
+    {
+        self.quoted && self.closed && self.rest.is_empty()
     }
 
     /// The first fault of the local part.

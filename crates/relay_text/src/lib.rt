@@ -12,6 +12,7 @@ pub mod lines;
 mod local;
 pub mod number;
 pub mod parse;
+pub mod quoted;
 pub mod scan;
 pub mod seq;
 pub mod split;
@@ -35,6 +36,7 @@ pub use lines::{Line, Lines, logical_lines};
 pub use local::local_text_len;
 pub use number::number_within;
 pub use parse::{parse_address, parse_name, parse_path};
+pub use quoted::quoted_content;
 pub use scan::{
     begins_with_word, fold, is_ignored, line_text, split_line, trimmed, trimmed_end, trimmed_start,
 };

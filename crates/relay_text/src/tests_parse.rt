@@ -3,6 +3,7 @@ use crate::address::Address;
 use crate::domain::is_domain;
 use crate::fault::TextFault;
 use crate::parse::{parse_address, parse_name, parse_path};
+use crate::quoted::quoted_content;
 use std::alloc::{AllocError, Global};
 use std::process::Abort;
 use std::test::Fail;
@@ -172,6 +173,34 @@ fn spells_names(rt: HostRuntime) -> Result<(), Fail> {
     ] {
         let text = long_text(alloc, b"\"", letters, end)?;
         assert_eq!(rt; name_fault_of(alloc, &text), fault, "{letters} letters");
+    }
+    Ok(())
+}
+
+#[test]
+fn reads_the_content_of_a_whole_string(rt: HostRuntime) -> Result<(), Fail> {
+    let alloc = rt.alloc();
+    for (text, content) in [
+        ("\"\"", ""),
+        ("\"|p -x, y\"", "|p -x, y"),
+        ("\"a\\\"b\\\\\"", "a\"b\\"),
+        ("\"\\a\t\"", "a\t"),
+    ] {
+        let found = quoted_content(alloc, text.as_bytes())?.ok_or("a content")?;
+        assert_eq!(rt; found.as_bytes(), content.as_bytes(), "{text}");
+    }
+    for text in [
+        "",
+        "a",
+        "\"",
+        "\"a",
+        "\"a\\\"",
+        "\"a\"b",
+        "\"a\" ",
+        " \"a\"",
+        "\"a\"\"b\"",
+    ] {
+        assert!(rt; quoted_content(alloc, text.as_bytes())?.is_none(), "{text}");
     }
     Ok(())
 }

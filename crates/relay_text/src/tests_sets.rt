@@ -55,8 +55,17 @@ fn has<R: Abort>(rt: &R, set: &TextSet, texts: &[(&str, bool)]) {
 fn keeps_each_text_once_in_order(rt: HostRuntime) -> Result<(), Fail> {
     let alloc = rt.alloc();
     let mut set = TextSet::new(alloc);
-    for text in ["b", "a", "ab", "b", "", "B", "\u{ff}"] {
-        set.insert(Vec::from_slice(alloc, text.as_bytes())?)?;
+    for (text, is_new) in [
+        ("b", true),
+        ("a", true),
+        ("ab", true),
+        ("b", false),
+        ("", true),
+        ("B", true),
+        ("\u{ff}", true),
+    ] {
+        let answer = set.insert(Vec::from_slice(alloc, text.as_bytes())?)?;
+        assert_eq!(rt; answer, is_new, "{text:?}");
     }
     has(
         &rt,

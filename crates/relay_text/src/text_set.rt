@@ -21,7 +21,7 @@ impl Model for TextSet {
     ghost view = { λ a. texts_of a.texts.keys };
 }
 
-ghost use Rattle.std.specs.Prelude.{◌≡◌, ◌||◌, ℕ, List, [], IfOk, OnOk, OnErr};
+ghost use Rattle.std.specs.Prelude.{◌≡◌, not, ◌||◌, ℕ, List, [], IfOk, OnOk, OnErr};
 ghost use Rattle.std.specs.Str.{bytes_eq};
 ghost use Rattle.relay_text.specs.Bytes.{has_text};
 ghost use Rattle.relay_text.specs.TextSets.{IsAscendingBy, text_cmp};
@@ -47,13 +47,15 @@ impl TextSet {
         Ok(set)
     }
 
-    /// Adds a text, where it isn't there already. `Err` where memory runs out; the set is then as it was.
-    pub fn insert(&mut self, text: Vec<u8>) -> Result<(), AllocError>
+    /// Adds a text, where it isn't there already, and answers whether it is new. `Err` where memory runs out; the set is then as it
+    /// was, and the text was new.
+    pub fn insert(&mut self, text: Vec<u8>) -> Result<bool, AllocError>
         ensures ok { OnOk result ((q : List ℕ) → has_text self.new q ≡ (bytes_eq q text.items || has_text self.old q)) }
+        ensures fresh { IfOk result (λ is_new. is_new ≡ not (has_text self.old text.items)) }
         ensures err { OnErr result (self.new ≡ self.old) }
     {
-        self.texts.insert(text)?;
-        Ok(())
+        let is_new = self.texts.insert(text)?;
+        Ok(is_new)
     }
 
     /// Whether a text is there, byte by byte: case counts.

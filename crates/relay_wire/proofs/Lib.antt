@@ -1,2 +1,6 @@
 pub mod Rows
 pub mod Pieces
+pub mod Lines
+pub mod ScriptParts
+pub mod ScriptText
+pub mod LengthSums

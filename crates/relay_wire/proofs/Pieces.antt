@@ -5,7 +5,7 @@ use Rattle.std.proofs.lemmas.List.{take_more, take_all, map-append, append-nil}
 use Rattle.std.proofs.lemmas.List.Concat.{flat_map-append}
 use Rattle.std.proofs.lemmas.List.FromFn.{length-enumerate_from, get_or-enumerate_from}
 use Rattle.relay_wire.specs.Findings.{spaced, after_spaces}
-use Rattle.relay_wire.specs.PlanText.{line, lines_of, transaction_text, numbered_texts}
+use Rattle.relay_wire.specs.PlanText.{line, lines_of, numbered_texts}
 use Rattle.relay_wire.specs.declared.plan.Planned.{Planned}
 
 pub spaced_after : (w : List ℕ) (ws : List (List ℕ)) → join_with_byte 32 (w ∷ ws) ≡ w ++ after_spaces ws
@@ -21,14 +21,14 @@ pieces_more f xs i d h = rw (take_more xs i d h) (one_more f (take i xs) (get_or
 pub lines_more : {X : Type 0} (f : X → List ℕ) (xs : List X) (i : ℕ) (d : X) → i < length xs → lines_of (map f (take (i + 1) xs)) ≡ lines_of (map f (take i xs)) ++ line (f (get_or xs i d))
 lines_more f xs i d h = rw (take_more xs i d h, map-append f (take i xs) (get_or xs i d ∷ [])) (one_more line (map f (take i xs)) (f (get_or xs i d)))
 
-pub numbered_more : (xs : List Planned) (i : ℕ) (d : Planned) → i < length xs → numbered_texts (take (i + 1) (enumerate_from 1 xs)) ≡ numbered_texts (take i (enumerate_from 1 xs)) ++ transaction_text (i + 1) (get_or xs i d)
-numbered_more xs i d h =
+pub numbered_more : (text : ℕ → Planned → List ℕ) (xs : List Planned) (i : ℕ) (d : Planned) → i < length xs → numbered_texts text (take (i + 1) (enumerate_from 1 xs)) ≡ numbered_texts text (take i (enumerate_from 1 xs)) ++ text (i + 1) (get_or xs i d)
+numbered_more text xs i d h =
     let within : i < length (enumerate_from 1 xs) = rw (length-enumerate_from 1 xs) h in
     let item : get_or (enumerate_from 1 xs) i (0, d) ≡ (1 + i, get_or xs i d) = get_or-enumerate_from 1 xs i (0, d) h in
     let next : 1 + i ≡ i + 1 = omega arith in
-    let more : numbered_texts (take (i + 1) (enumerate_from 1 xs)) ≡ numbered_texts (take i (enumerate_from 1 xs)) ++ transaction_text (get_or (enumerate_from 1 xs) i (0, d)).0 (get_or (enumerate_from 1 xs) i (0, d)).1 = pieces_more (λ t. transaction_text t.0 t.1) (enumerate_from 1 xs) i (0, d) within in
-    let here : numbered_texts (take (i + 1) (enumerate_from 1 xs)) ≡ numbered_texts (take i (enumerate_from 1 xs)) ++ transaction_text (1 + i) (get_or xs i d) = subst (λ (p : ℕ × Planned). numbered_texts (take (i + 1) (enumerate_from 1 xs)) ≡ numbered_texts (take i (enumerate_from 1 xs)) ++ transaction_text p.0 p.1) item more in
-    subst (λ (n : ℕ). numbered_texts (take (i + 1) (enumerate_from 1 xs)) ≡ numbered_texts (take i (enumerate_from 1 xs)) ++ transaction_text n (get_or xs i d)) next here
+    let more : numbered_texts text (take (i + 1) (enumerate_from 1 xs)) ≡ numbered_texts text (take i (enumerate_from 1 xs)) ++ text (get_or (enumerate_from 1 xs) i (0, d)).0 (get_or (enumerate_from 1 xs) i (0, d)).1 = pieces_more (λ t. text t.0 t.1) (enumerate_from 1 xs) i (0, d) within in
+    let here : numbered_texts text (take (i + 1) (enumerate_from 1 xs)) ≡ numbered_texts text (take i (enumerate_from 1 xs)) ++ text (1 + i) (get_or xs i d) = subst (λ (p : ℕ × Planned). numbered_texts text (take (i + 1) (enumerate_from 1 xs)) ≡ numbered_texts text (take i (enumerate_from 1 xs)) ++ text p.0 p.1) item more in
+    subst (λ (n : ℕ). numbered_texts text (take (i + 1) (enumerate_from 1 xs)) ≡ numbered_texts text (take i (enumerate_from 1 xs)) ++ text n (get_or xs i d)) next here
 
 pub numbered_all : (xs : List Planned) (i : ℕ) → length xs ≤ i → take i (enumerate_from 1 xs) ≡ enumerate_from 1 xs
 numbered_all xs i h = take_all i (enumerate_from 1 xs) (rw (length-enumerate_from 1 xs) h)
@@ -64,11 +64,22 @@ transaction_is out first second route to =
     let end : (out ++ lines_of (first ∷ second ∷ [])) ++ (lines_of route ++ lines_of to) ≡ out ++ (line first ++ (line second ++ (lines_of route ++ lines_of to))) = ends_here out (line first) (line second) (lines_of route ++ lines_of to) in
     append_assoc (out ++ lines_of (first ∷ second ∷ [])) (lines_of route) (lines_of to) ∙ end ∙ ap (λ l. out ++ (line first ++ (line second ++ l))) (sym joined)
 
-pub numbered_step : (out written new : List ℕ) (xs : List Planned) (i : ℕ) (d : Planned) → i < length xs → d ≡ get_or xs i d → written ≡ out ++ numbered_texts (take i (enumerate_from 1 xs)) → new ≡ written ++ transaction_text (i + 1) d → new ≡ out ++ numbered_texts (take (i + 1) (enumerate_from 1 xs))
-numbered_step out written new xs i d h at before after =
-    let more : numbered_texts (take (i + 1) (enumerate_from 1 xs)) ≡ numbered_texts (take i (enumerate_from 1 xs)) ++ transaction_text (i + 1) (get_or xs i d) = numbered_more xs i d h in
-    let same : transaction_text (i + 1) (get_or xs i d) ≡ transaction_text (i + 1) d = ap (λ p. transaction_text (i + 1) p) (sym at) in
+pub numbered_step : (text : ℕ → Planned → List ℕ) (out written new : List ℕ) (xs : List Planned) (i : ℕ) (d : Planned) → i < length xs → d ≡ get_or xs i d → written ≡ out ++ numbered_texts text (take i (enumerate_from 1 xs)) → new ≡ written ++ text (i + 1) d → new ≡ out ++ numbered_texts text (take (i + 1) (enumerate_from 1 xs))
+numbered_step text out written new xs i d h at before after =
+    let more : numbered_texts text (take (i + 1) (enumerate_from 1 xs)) ≡ numbered_texts text (take i (enumerate_from 1 xs)) ++ text (i + 1) (get_or xs i d) = numbered_more text xs i d h in
+    let same : text (i + 1) (get_or xs i d) ≡ text (i + 1) d = ap (λ p. text (i + 1) p) (sym at) in
     after
-    ∙ ap (λ l. l ++ transaction_text (i + 1) d) before
-    ∙ append_assoc out (numbered_texts (take i (enumerate_from 1 xs))) (transaction_text (i + 1) d)
-    ∙ ap (λ l. out ++ l) (ap (λ l. numbered_texts (take i (enumerate_from 1 xs)) ++ l) (sym same) ∙ sym more)
+    ∙ ap (λ l. l ++ text (i + 1) d) before
+    ∙ append_assoc out (numbered_texts text (take i (enumerate_from 1 xs))) (text (i + 1) d)
+    ∙ ap (λ l. out ++ l) (ap (λ l. numbered_texts text (take i (enumerate_from 1 xs)) ++ l) (sym same) ∙ sym more)
+
+-- A transaction's script stands behind its lines.
+pub scripted_is : (out first : List ℕ) (route : List (List ℕ)) (last script : List ℕ) → (((out ++ line first) ++ lines_of route) ++ line last) ++ script ≡ out ++ (lines_of (first ∷ route ++ last ∷ []) ++ script)
+scripted_is out first route last script =
+    let end : lines_of (route ++ last ∷ []) ≡ lines_of route ++ line last = one_more line route last in
+    let inner : (out ++ line first) ++ lines_of route ≡ out ++ (line first ++ lines_of route) = append_assoc out (line first) (lines_of route) in
+    let middle : ((out ++ line first) ++ lines_of route) ++ line last ≡ out ++ lines_of (first ∷ route ++ last ∷ []) =
+    ap (λ l. l ++ line last) inner
+    ∙ append_assoc out (line first ++ lines_of route) (line last)
+    ∙ ap (λ l. out ++ l) (append_assoc (line first) (lines_of route) (line last) ∙ ap (λ l. line first ++ l) (sym end)) in
+    ap (λ l. l ++ script) middle ∙ append_assoc out (lines_of (first ∷ route ++ last ∷ [])) script

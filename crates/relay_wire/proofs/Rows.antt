@@ -9,7 +9,7 @@ use Rattle.relay_wire.specs.declared.finding.Finding.TheVariants.{Missing, Unrou
 use Rattle.relay_wire.specs.declared.finding.Place.TheVariants as places
 use Rattle.relay_wire.specs.declared.finding.Reason.TheVariants as reasons
 use Rattle.relay_wire.specs.declared.finding.LineWord.TheVariants as words
-use Rattle.relay_wire.specs.PlanText.{plan_text_of}
+use Rattle.relay_wire.specs.PlanText.{plan_text_of, wire_text_of}
 use Rattle.relay_wire.specs.Findings.{finding_text_of}
 
 abbrev pub to_mailbox : Planned
@@ -27,6 +27,10 @@ one_mailbox = record { hostname = codes "relay.example.org"; transactions = to_m
 plan_lines : plan_text_of one_mailbox ≡ codes "plan 1 transactions 1 recipients 0 findings\ntransaction 1\nfrom <a@example.net>\nvia lmtp unix:mbox\nhost unix:mbox\nto <joe@example.org>\nend\n"
 unfolding digits local_text_of
 plan_lines = refl
+
+wire_lines : wire_text_of one_mailbox ≡ codes "plan 1 transactions 1 recipients 0 findings\ntransaction 1\nvia lmtp unix:mbox\nhost unix:mbox\nscript 84\nLHLO relay.example.org\r\nMAIL FROM:<a@example.net>\r\nRCPT TO:<joe@example.org>\r\nDATA\r\nend\n"
+unfolding digits local_text_of
+wire_lines = refl
 
 missing_line : finding_text_of (Missing (codes "kim") (places.Alias (codes "a b"))) ≡ codes "finding missing kim in alias \"a b\""
 unfolding local_text_of

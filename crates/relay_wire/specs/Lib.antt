@@ -1,2 +1,4 @@
 pub mod Findings
+pub mod Script
 pub mod PlanText
+pub mod Lengths

@@ -1,4 +1,4 @@
--- The text of a plan.
+-- The text of a plan, and the text in which each transaction stands as its commands.
 use Rattle.std.specs.Prelude.{ℕ, List, [], ◌∷◌, ◌++◌, map, flat_map, length, sum_by, codes, decimal, Option, Some}
 use Rattle.std.specs.List.{enumerate_from}
 use Rattle.relay_text.specs.AddressParts.{AddressParts}
@@ -7,6 +7,7 @@ use Rattle.relay_routes.specs.Transports.{transport_name}
 use Rattle.relay_wire.specs.declared.plan.Planned.{Planned}
 use Rattle.relay_wire.specs.declared.plan.Plan.{Plan}
 use Rattle.relay_wire.specs.Findings.{spaced}
+use Rattle.relay_wire.specs.Script.{script_of, script_text}
 
 -- All lines end with LF.
 abbrev pub line : List ℕ → List ℕ
@@ -50,11 +51,25 @@ transaction_text number t = lines_of (
     ∷ host_lines t
     ++ map to_line t.to)
 
--- the texts of transactions that stand with their numbers
-abbrev pub numbered_texts : List (ℕ × Planned) → List ℕ
-numbered_texts ts = flat_map (λ t. transaction_text t.0 t.1) ts
+abbrev pub script_line : ℕ → List ℕ
+script_line octets = spaced (codes "script" ∷ decimal octets ∷ [])
 
--- the numbers are from 1
+-- A transaction with its script in place of its addresses.
+abbrev pub scripted_text : List ℕ → ℕ → Planned → List ℕ
+scripted_text hostname number t = let script = script_text (script_of t hostname) in
+    lines_of (transaction_line number ∷ host_lines t ++ script_line (length script) ∷ []) ++ script
+
+-- the texts of transactions that stand with their numbers
+abbrev pub numbered_texts : (ℕ → Planned → List ℕ) → List (ℕ × Planned) → List ℕ
+numbered_texts text ts = flat_map (λ t. text t.0 t.1) ts
+
+-- A plan's text, where the transactions have these texts by their numbers, from 1.
+abbrev pub text_by : (ℕ → Planned → List ℕ) → Plan → List ℕ
+text_by text p =
+    line (first_line p) ++ numbered_texts text (enumerate_from 1 p.transactions) ++ lines_of p.findings ++ line (codes "end")
+
 abbrev pub plan_text_of : Plan → List ℕ
-plan_text_of p =
-    line (first_line p) ++ numbered_texts (enumerate_from 1 p.transactions) ++ lines_of p.findings ++ line (codes "end")
+plan_text_of p = text_by transaction_text p
+
+abbrev pub wire_text_of : Plan → List ℕ
+wire_text_of p = text_by (scripted_text p.hostname) p

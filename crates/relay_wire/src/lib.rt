@@ -1,11 +1,28 @@
-//! The texts of a plan.
+//! The texts of a plan, and the commands of its transactions.
 #![tactic(auto)]
 
+pub mod commands;
 pub mod finding;
+pub mod hostname;
+mod lengths;
 pub mod plan;
+mod reading;
+pub mod scripts;
 #[cfg(test)]
 mod tests_findings;
+#[cfg(test)]
+mod tests_plans;
+#[cfg(test)]
+mod tests_scripts;
+#[cfg(test)]
+mod tests_values;
+pub mod wire;
 mod words;
+mod writing;
 
-pub use finding::{Finding, LineWord, Place, Reason};
-pub use plan::{Plan, Planned};
+pub use commands::{Greeting, Script};
+pub use finding::{Finding, LineWord, Place, Reason, finding_line};
+pub use hostname::is_hostname;
+pub use plan::{Plan, Planned, plan_text};
+pub use scripts::{one_script, read_script, script};
+pub use wire::wire_text;

@@ -2,8 +2,9 @@
 ghost use Rattle.std.specs.Prelude.{◌≡◌, ◌≤◌, ◌^◌, ◌∷◌, ◌++◌, [], map, decimal, option_map, IfOk, IfSome, IfNone, OnOk};
 ghost use Rattle.std.specs.List.{enumerate_from};
 ghost use Rattle.relay_wire.specs.Findings.{after_spaces};
-ghost use Rattle.relay_wire.specs.PlanText.{line, lines_of, recipient_count, counts_line, first_line, via_line, host_line, host_lines, from_line, to_line, transaction_line, transaction_text, numbered_texts, plan_text_of};
+ghost use Rattle.relay_wire.specs.PlanText.{line, lines_of, recipient_count, counts_line, via_line, host_line, host_lines, from_line, to_line, transaction_line, transaction_text, numbered_texts, plan_text_of};
 
+use crate::lengths::plan_len;
 use crate::words::{put_number, put_path, put_word};
 use relay_routes::{Hosts, Transport};
 use relay_text::{Address, Seq, Text};
@@ -34,7 +35,7 @@ pub struct Plan {
 
 // How many recipients the transactions have; `None` where a `usize` holds no such number.
 #[tactic(auto, using(std::proofs::lemmas::List::Sums::sum_by_more_le))]
-fn recipient_count(plan: &Plan) -> Option<usize>
+pub(crate) fn recipient_count(plan: &Plan) -> Option<usize>
     ensures some { IfSome result (λ count. count ≡ recipient_count plan.now) }
     ensures none { IfNone result (2 ^ 64 ≤ recipient_count plan.now) }
 {
@@ -54,7 +55,7 @@ fn put_count(number: usize, counted: &[u8], out: &mut Vec<u8>) -> Result<(), All
 }
 
 // Writes the line that counts.
-fn put_counts(
+pub(crate) fn put_counts(
     transactions: usize,
     recipients: usize,
     findings: usize,
@@ -70,13 +71,22 @@ fn put_counts(
     Ok(())
 }
 
+// Writes the line of a transaction's number.
+pub(crate) fn put_transaction_line(number: usize, out: &mut Vec<u8>) -> Result<(), AllocError>
+    ensures { OnOk result (out.new.items ≡ out.old.items ++ line (transaction_line number)) }
+{
+    out.extend_from_slice(b"transaction")?;
+    put_number(number, out)?;
+    out.push(b'\n')?;
+    Ok(())
+}
+
 // Writes the line of a transaction's number, and the line of its sender.
 fn put_sender(number: usize, from: Option<&Address>, out: &mut Vec<u8>) -> Result<(), AllocError>
     ensures { OnOk result (out.new.items ≡ out.old.items ++ lines_of (transaction_line number ∷ from_line (option_map (λ a. a.now) from.entry) ∷ [])) }
 {
-    out.extend_from_slice(b"transaction")?;
-    put_number(number, out)?;
-    out.extend_from_slice(b"\nfrom")?;
+    put_transaction_line(number, out)?;
+    out.extend_from_slice(b"from")?;
     put_path(from, out)?;
     out.push(b'\n')?;
     Ok(())
@@ -118,7 +128,7 @@ fn put_recipients(to: &[Address], out: &mut Vec<u8>) -> Result<(), AllocError>
 }
 
 // Writes where a transaction goes.
-fn put_route(planned: &Planned, out: &mut Vec<u8>) -> Result<(), AllocError>
+pub(crate) fn put_route(planned: &Planned, out: &mut Vec<u8>) -> Result<(), AllocError>
     ensures { OnOk result (out.new.items ≡ out.old.items ++ lines_of (host_lines planned.now)) }
 {
     put_via(planned, out)?;
@@ -137,7 +147,7 @@ fn put_transaction(number: usize, planned: &Planned, out: &mut Vec<u8>) -> Resul
 // Writes the transactions.
 #[tactic(auto, using(crate::proofs::Pieces::numbered_all))]
 fn put_transactions(transactions: &[Planned], out: &mut Vec<u8>) -> Result<(), AllocError>
-    ensures { OnOk result (out.new.items ≡ out.old.items ++ numbered_texts (enumerate_from 1 transactions.now)) }
+    ensures { OnOk result (out.new.items ≡ out.old.items ++ numbered_texts transaction_text (enumerate_from 1 transactions.now)) }
 {
     for (index, planned) in transactions.iter().enumerate() {
         put_transaction(index + 1, planned, out)?;
@@ -146,7 +156,7 @@ fn put_transactions(transactions: &[Planned], out: &mut Vec<u8>) -> Result<(), A
 }
 
 // Writes lines that are there already.
-fn put_lines(lines: &[Text], out: &mut Vec<u8>) -> Result<(), AllocError>
+pub(crate) fn put_lines(lines: &[Text], out: &mut Vec<u8>) -> Result<(), AllocError>
     ensures { OnOk result (out.new.items ≡ out.old.items ++ lines_of lines.now) }
 {
     for text in lines {
@@ -156,28 +166,21 @@ fn put_lines(lines: &[Text], out: &mut Vec<u8>) -> Result<(), AllocError>
     Ok(())
 }
 
-// Writes the line that counts; an `Err` too where a `usize` doesn't count the recipients.
-fn put_first_line(plan: &Plan, out: &mut Vec<u8>) -> Result<(), AllocError>
-    ensures { OnOk result (out.new.items ≡ out.old.items ++ line (first_line plan.now)) }
-{
-    let Some(recipients) = recipient_count(plan) else {
-        return Err(AllocError);
-    };
-    put_counts(
-        plan.transactions.len(),
-        recipients,
-        plan.findings.len(),
-        out,
-    )
-}
-
 /// The text of a plan: a line of counts, each transaction, the findings, and `end`. A plan whose recipients a `usize` doesn't
 /// count is larger than memory, and gets an `Err`.
 pub fn plan_text(alloc: Global, plan: &Plan) -> Result<Text, AllocError>
     ensures { IfOk result (λ text. text ≡ plan_text_of plan.now) }
 {
-    let mut out = Vec::new(alloc);
-    put_first_line(plan, &mut out)?;
+    let Some(recipients) = recipient_count(plan) else {
+        return Err(AllocError);
+    };
+    let mut out = Vec::with_capacity(alloc, plan_len(plan, recipients))?;
+    put_counts(
+        plan.transactions.len(),
+        recipients,
+        plan.findings.len(),
+        &mut out,
+    )?;
     put_transactions(plan.transactions.as_slice(), &mut out)?;
     put_lines(plan.findings.as_slice(), &mut out)?;
     out.extend_from_slice(b"end\n")?;

@@ -1,17 +1,8 @@
 //! Worked examples of the lines of findings.
 use crate::finding::{Finding, LineWord, Place, Reason, finding_line};
-use relay_text::{Address, Text, TextFault, parse_address};
+use crate::tests_values::{address, text};
 use std::alloc::{AllocError, Global};
 use std::test::Fail;
-
-#[tactic(auto, unfolding(relay_text::specs::Addresses::is_origin, relay_text::specs::Addresses::is_domain))]
-fn address(alloc: Global, path: &[u8]) -> Result<Address, TextFault> {
-    parse_address(alloc, path, b"example.org")
-}
-
-fn text(alloc: Global, bytes: &[u8]) -> Result<Text, AllocError> {
-    Ok(Text::of(Vec::from_slice(alloc, bytes)?))
-}
 
 fn alias(alloc: Global, name: &[u8]) -> Result<Place, AllocError> {
     Ok(Place::Alias(text(alloc, name)?))

@@ -14,7 +14,7 @@ loop-lane-preserved c =
     record {
       batches = λ routed.
           c.in_ok-put_lane.ensures.batches (routed lane (Contains-push done lane))
-          ∙ ap (λ ts. ts ++ batches_of c.args.job.now (group_of c.args.job.now.sender lane)) (c.loop-lane.invariant.batches (λ l has. routed l (Contains-append_left done (lane ∷ []) l has)))
-          ∙ flat_map_push (batches_of c.args.job.now) (group_of c.args.job.now.sender) done lane;
+          ∙ ap (λ ts. ts ++ batches_of c.args.job.now (group_of c.args.job.now lane)) (c.loop-lane.invariant.batches (λ l has. routed l (Contains-append_left done (lane ∷ []) l has)))
+          ∙ flat_map_push (batches_of c.args.job.now) (group_of c.args.job.now) done lane;
       in_order = λ l has. elim (Contains-push_cases done lane l has) [ inl old ↦ c.loop-lane.invariant.in_order l old | inr here ↦ subst P here c.in_ok-put_lane.ensures.in_order ];
     }

@@ -8,6 +8,6 @@ use Rattle.aliasplan.proofs.batches.plan_lanes.Given as goal
 
 abbrev pub invariant-loop-lane : goal.invariant-loop-lane
 invariant-loop-lane l = record {
-  batches : AreRouted l.yielded → l.transactions.items ≡ flat_map (batches_of l.job) (map (group_of l.job.sender) l.yielded);
+  batches : AreRouted l.job l.yielded → l.transactions.items ≡ flat_map (batches_of l.job) (map (group_of l.job) l.yielded);
   in_order : (lane : Lane) → Contains l.yielded lane → AreInOrder lane.to;
 }

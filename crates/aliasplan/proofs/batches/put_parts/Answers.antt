@@ -12,7 +12,7 @@ pub loop-address-preserved : goal.loop-address-preserved
 loop-address-preserved c =
     let pushed : c.push-in-loop-address.new.self.items ≡ c.if-len-limit.part.items ++ c.in-Some.address ∷ [] = c.in_ok-push-2.ensures.items in
     let longer : length c.push-in-loop-address.new.self.items ≡ length c.if-len-limit.part.items + 1 = ap length pushed ∙ length_push c.if-len-limit.part.items c.in-Some.address in
-    let f = planned_by c.args.job.now.sender (via_route c.args.via.now) in
+    let f = planned_by c.args.job.now.sender (via_route c.args.job.now c.args.via.now) in
     elim c.if-len-limit.branch [
       | then-len-limit+in_ok-plan_part+in_ok-push w ↦
           let full : length c.loop-address.part.items ≡ c.args.limit = omega arith in
@@ -42,7 +42,7 @@ loop-address-preserved c =
 pub returns : goal.returns
 returns c =
     λ routed.
-    let f = planned_by c.args.job.now.sender (via_route c.args.via.now) in
+    let f = planned_by c.args.job.now.sender (via_route c.args.job.now c.args.via.now) in
     let given = c.into_iter-address-iterator.ensures.into_iter_gives in
     let road = YieldsList-from_vec {s = c.into_iter-address-iterator.result} c.args.addresses.items given.0 (given.1 ∙ c.args.addresses.ok.0) in
     let ended = YieldsList-end road c.loop-address.yielded c.loop-address.address-iterator c.loop-address.yielded_by c.next.result c.next.new.self c.in-None.is c.next.ensures.steps in

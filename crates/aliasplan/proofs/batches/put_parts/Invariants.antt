@@ -7,5 +7,5 @@ abbrev pub invariant-loop-address : goal.invariant-loop-address
 invariant-loop-address l = record {
   short : length l.part.items ≤ l.limit;
   some : 0 < length l.yielded → 0 < length l.part.items;
-  batches : IsRoutedVia l.via → AreMade (planned_by l.job.sender (via_route l.via)) l.limit l.initial.transactions.items l.transactions.items l.part.items l.yielded;
+  batches : IsRoutedVia l.job l.via → AreMade (planned_by l.job.sender (via_route l.job l.via)) l.limit l.initial.transactions.items l.transactions.items l.part.items l.yielded;
 }

@@ -3,6 +3,7 @@ use Rattle.std.specs.List.{flat_map}
 use Rattle.std.proofs.lemmas.Result.{err_from_is_err_and}
 use Rattle.relay_text.specs.declared.lines.Line.{Line}
 use Rattle.aliasplan.specs.declared.settings.Settings.{Settings}
+use Rattle.aliasplan.specs.declared.section.Section.TheVariants.{Mailboxes, Transport, Mx}
 use Rattle.aliasplan.specs.Settings.{settings_of}
 use Rattle.aliasplan.specs.Places.{content_at}
 use Rattle.aliasplan.specs.SettingValues.{setting_in, value_in}
@@ -10,7 +11,7 @@ use Rattle.aliasplan.specs.JobText.{JobLine, content_of, job_of, settings_part, 
 use Rattle.aliasplan.specs.JobParts.{lines_of, commands_of, commands_at, settings_by, first_bad_command, sender_of, recipients_of}
 use Rattle.aliasplan.proofs.SettingFacts.{settings_of-by}
 use Rattle.aliasplan.proofs.JobFacts.{settings_by-origin}
-use Rattle.aliasplan.proofs.ParseFacts.{Fails-from, Fails-from_stop, settings_lines, envelope_commands, envelope_heading, mailbox_bytes, job-broken, job-bad_setting, job-bad_envelope, job-read}
+use Rattle.aliasplan.proofs.ParseFacts.{Fails-from, Fails-from_stop, settings_lines, envelope_commands, envelope_heading, bytes_of, job-broken, job-bad_setting, job-bad_envelope, job-read}
 use Rattle.aliasplan.proofs.parsing.parse_job.Goals as goal
 
 pub returns-in_err-sections : goal.returns-in_err-sections
@@ -59,6 +60,10 @@ returns c =
     let commands : envelope_lines (envelope_part text) ≡ commands_at c.section-2.result = envelope_commands text c.in_ok-sections.sections found ∙ ap (λ (l : List JobLine). commands_of (lines_of l)) (sym c.section-2.ensures.lines) in
     let unbroken : first_bad_command c.in_ok-settings.settings.origin c.section-2.result.line (commands_at c.section-2.result) ≡ None = ap (λ (o : List ℕ). first_bad_command o c.section-2.result.line (commands_at c.section-2.result)) (sym c.as_bytes.ensures) ∙ c.in_ok-envelope.ensures.unbroken in
     job-read text _ lines c.section-2.result.line (commands_at c.section-2.result) found.unbroken part set.unbroken settings heading commands unbroken
-    (c.in_ok-mailboxes.ensures ∙ ap (flat_map (λ (l : JobLine). content_of l.raw)) c.section-3.ensures.lines ∙ sym (mailbox_bytes text c.in_ok-sections.sections found))
+    (record {
+      mailboxes = c.in_ok-mailboxes.ensures ∙ ap (flat_map (λ (l : JobLine). content_of l.raw)) c.section-3.ensures.lines ∙ sym (bytes_of text c.in_ok-sections.sections found Mailboxes);
+      transport = c.in_ok-transport.ensures ∙ ap (flat_map (λ (l : JobLine). content_of l.raw)) c.section-4.ensures.lines ∙ sym (bytes_of text c.in_ok-sections.sections found Transport);
+      mx = c.in_ok-mx.ensures ∙ ap (flat_map (λ (l : JobLine). content_of l.raw)) c.section-5.ensures.lines ∙ sym (bytes_of text c.in_ok-sections.sections found Mx);
+    })
     (c.in_ok-envelope.ensures.sender ∙ ap (λ (o : List ℕ). sender_of o (commands_at c.section-2.result)) c.as_bytes.ensures)
     (c.in_ok-envelope.ensures.recipients ∙ ap (λ (o : List ℕ). recipients_of o (drop 1 (commands_at c.section-2.result))) c.as_bytes.ensures)

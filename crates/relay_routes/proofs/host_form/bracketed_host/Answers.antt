@@ -1,7 +1,5 @@
-use Rattle.std.proofs.Common.{◌≡◌, ◌&&◌, ◌-◌, true, false, length, take, drop, get_or, refl, sym, ◌∙◌}
-use Rattle.relay_text.specs.Addresses.{is_literal_content}
-use Rattle.relay_routes.specs.Nexthops.{is_port, bracketed_host}
-use Rattle.relay_routes.proofs.NexthopFacts.{nexthop_if}
+use Rattle.std.proofs.Common.{◌≡◌, ◌-◌, length, take, drop, get_or, refl, sym, ◌∙◌}
+use Rattle.relay_routes.specs.Nexthops.{bracketed_host}
 use Rattle.relay_routes.proofs.BracketFacts.{bracketed_is, bracketed_found, bracketed_bad_content, bracketed_bad_port}
 use Rattle.relay_routes.proofs.host_form.bracketed_host.Goals as goal
 use Rattle.relay_routes.proofs.host_form.bracketed_host.Goals.{else-is_literal_content-via-then-is_literal_content+else-is_port, else-is_literal_content-via-else-is_literal_content}

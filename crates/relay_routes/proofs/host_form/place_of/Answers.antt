@@ -1,5 +1,4 @@
-use Rattle.std.proofs.Common.{rules, tests, ◌≡◌, ◌==◌, ◌∙◌, ap, length, not, arith}
-use Rattle.std.specs.List.{position}
+use Rattle.std.proofs.Common.{rules, tests, ◌==◌, ◌∙◌, ap, length}
 use Rattle.std.specs.Option.{unwrap_or}
 use Rattle.std.proofs.lemmas.Iterator.{YieldsList-from_slice}
 use Rattle.std.proofs.lemmas.Iterator.Search.{position_from_yields_List}

@@ -1,5 +1,4 @@
-use Rattle.std.proofs.Common.{◌≡◌, ◌-◌, ◌∙◌, length, take, drop, ap, sym}
-use Rattle.std.specs.Prelude.{Some}
+use Rattle.std.proofs.Common.{◌-◌, ◌∙◌, length, take, drop, ap}
 use Rattle.relay_routes.specs.Nexthops.{via_setting_of}
 use Rattle.relay_routes.proofs.ViaFacts.{via_to, via_refused, via_taken, to}
 use Rattle.relay_routes.proofs.via.Via.parse.Goals as goal

@@ -1,0 +1,58 @@
+//! The router of a job.
+ghost use Rattle.std.specs.Prelude.{◌≡◌, ◌∷◌, ◌++◌, IfOk, OnOk};
+ghost use Rattle.relay_routes.specs.Transports.{transport_table_of};
+ghost use Rattle.relay_routes.specs.Exchanges.{mx_table_of};
+ghost use Rattle.aliasplan.specs.Delivery.{routing_of};
+
+use crate::job::Job;
+use crate::settings::Settings;
+use relay_routes::{MxTable, RouteSettings, Router, TransportTable};
+use relay_text::{Seq, Text};
+use std::alloc::{AllocError, Global};
+
+fn copy_of(alloc: Global, text: &Text) -> Result<Text, AllocError>
+    ensures { IfOk result (λ copy. copy ≡ text.now) }
+{
+    Ok(Text::of(Vec::from_slice(alloc, text.as_bytes())?))
+}
+
+/// Puts copies at the end.
+fn push_copies(alloc: Global, texts: &[Text], names: &mut Vec<Text>) -> Result<(), AllocError>
+    ensures { OnOk result (names.new.items ≡ names.old.items ++ texts.now) }
+{
+    for text in texts {
+        names.push(copy_of(alloc, text)?)?;
+    }
+    Ok(())
+}
+
+/// The relay's own names: its host name, its origin and its local domains.
+fn own_names(alloc: Global, settings: &Settings) -> Result<Seq<Text>, AllocError>
+    ensures { IfOk result (λ names. names ≡ settings.now.hostname ∷ settings.now.origin ∷ settings.now.destinations) }
+{
+    let mut names = Vec::new(alloc);
+    names.push(copy_of(alloc, &settings.hostname)?)?;
+    names.push(copy_of(alloc, &settings.origin)?)?;
+    push_copies(alloc, settings.destinations.as_slice(), &mut names)?;
+    Ok(Seq::of(names))
+}
+
+/// What routes a job's addresses.
+pub fn router_of(
+    alloc: Global,
+    job: &Job,
+    transports: TransportTable,
+    exchanges: MxTable,
+) -> Result<Router, AllocError>
+    requires transports { transports ≡ transport_table_of job.now.transport }
+    requires exchanges { exchanges ≡ mx_table_of job.now.mx }
+    ensures { IfOk result (λ router. router ≡ routing_of job.now) }
+{
+    let settings = RouteSettings {
+        own_names: own_names(alloc, &job.settings)?,
+        delimiter: job.settings.delimiter,
+        default_transport: job.settings.default_transport,
+        seed: job.settings.seed,
+    };
+    Router::new(alloc, settings, transports, exchanges)
+}

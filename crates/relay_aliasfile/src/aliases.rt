@@ -1,0 +1,52 @@
+//! Alias files.
+ghost use Rattle.std.specs.Prelude.{◌≡◌, IfOk};
+ghost use Rattle.relay_aliasfile.specs.AliasFiles.{alias_file_of, entry_items};
+ghost use Rattle.relay_aliasfile.specs.IncludeNames.{include_names_in};
+
+use crate::alias_table::AliasTable;
+use crate::distinct::DistinctTexts;
+use crate::entry::Entry;
+use crate::fault::LineFault;
+use crate::paths::add_paths;
+use relay_text::{Seq, Text, logical_lines};
+use std::alloc::{AllocError, Global};
+
+/// The entries of an alias file, and the lines at fault.
+#[derive(Drop)]
+pub struct AliasFile {
+    /// The first entry of each name, in order.
+    pub entries: Seq<Entry>,
+    /// What is wrong with the lines, by their numbers, and on one line by the places of its bad items.
+    pub faults: Seq<LineFault>,
+}
+
+/// The entries of an alias file (aliases(5)). Each logical line is a name, spelled as the local part of an address is and folded, white
+/// space or none, a colon outside quotes, and a list of items between commas outside quotes, where empty items are skipped.
+///
+/// Every text is accepted. `BadLine` stands for a line that has no such name and colon, or that continues no logical line; `Duplicate`
+/// for an entry whose name was there before, which is dropped with its list unread; `Empty` for an entry whose list has no item, good or
+/// bad, and which stays; `BadItem` for each item that is none of `Item`'s kinds, has a byte other than tab and 32 to 126, or leaves a
+/// quote open. `Err` where memory runs out.
+pub fn parse_aliases(alloc: Global, bytes: &[u8]) -> Result<AliasFile, AllocError>
+    ensures { IfOk result (λ file. file ≡ alias_file_of bytes.now) }
+{
+    let lines = logical_lines(alloc, bytes)?;
+    let mut table = AliasTable::new(alloc);
+    table.add_orphans(lines.orphans.as_slice())?;
+    for line in lines.lines.as_slice() {
+        table.add_line(alloc, line)?;
+    }
+    Ok(table.into_file())
+}
+
+/// The distinct paths of an alias file's include items, each by its first place, byte by byte: case counts. `Err` where memory runs
+/// out.
+pub fn include_names(alloc: Global, file: &AliasFile) -> Result<Seq<Text>, AllocError>
+    ensures { IfOk result (λ names. names ≡ include_names_in (entry_items file.now.entries)) }
+{
+    let mut paths = DistinctTexts::new(alloc);
+    for entry in file.entries.as_slice() {
+        add_paths(alloc, entry.items.as_slice(), &mut paths)?;
+    }
+    Ok(paths.into_seq())
+}

@@ -1,0 +1,72 @@
+//! Include files.
+ghost use Rattle.std.specs.Prelude.{◌≡◌, ◌++◌, IfOk, OnOk};
+ghost use Rattle.relay_aliasfile.specs.IncludeFiles.{include_file_of, bad_item_faults};
+ghost use Rattle.relay_aliasfile.specs.Items.{good_items};
+ghost use Rattle.relay_aliasfile.specs.IncludeNames.{include_names_in};
+
+use crate::distinct::DistinctTexts;
+use crate::fault::LineFault;
+use crate::item::Item;
+use crate::item_texts::ItemTexts;
+use crate::lists::read_item;
+use crate::paths::add_paths;
+use relay_text::{KeptLines, Seq, Text};
+use std::alloc::{AllocError, Global};
+
+/// The items of an include file, and the lines at fault.
+#[derive(Drop)]
+pub struct IncludeFile {
+    /// The good items of all lines, in order.
+    pub items: Seq<Item>,
+    /// A `BadItem` for each bad item, by line.
+    pub faults: Seq<LineFault>,
+}
+
+/// The items of an include file (aliases(5), ":include:/file/name"). Each line that isn't ignored is a list by itself, as an entry of
+/// an alias file has it; a line that begins with white space continues none. Every text is accepted, and `BadItem` is the one fault
+/// that it may have. `Err` where memory runs out.
+#[tactic(auto, unfolding(crate::specs::IncludeFiles::include_file_of))]
+pub fn parse_include(alloc: Global, bytes: &[u8]) -> Result<IncludeFile, AllocError>
+    ensures { IfOk result (λ file. file ≡ include_file_of bytes.now) }
+{
+    let mut items: Vec<Item> = Vec::new(alloc);
+    let mut faults: Vec<LineFault> = Vec::new(alloc);
+    let mut lines = KeptLines::new(bytes);
+    while let Some(line) = lines.next_line() {
+        read_line_items(alloc, line.number, line.text, &mut items, &mut faults)?;
+    }
+    Ok(IncludeFile {
+        items: Seq::of(items),
+        faults: Seq::of(faults),
+    })
+}
+
+/// Reads the items of a line. A bad item is a fault at the line, and doesn't touch the others.
+fn read_line_items(
+    alloc: Global,
+    line: usize,
+    list: &[u8],
+    items: &mut Vec<Item>,
+    faults: &mut Vec<LineFault>,
+) -> Result<(), AllocError>
+    ensures items { OnOk result (items.new.items ≡ items.old.items ++ good_items list.now) }
+    ensures faults { OnOk result (faults.new.items ≡ faults.old.items ++ bad_item_faults line list.now) }
+{
+    let mut texts = ItemTexts::new(list);
+    while let Some(text) = texts.next_text() {
+        if let Some(item) = read_item(alloc, line, text, faults)? {
+            items.push(item)?;
+        }
+    }
+    Ok(())
+}
+
+/// The distinct paths of an include file's include items, each by its first place, byte by byte: case counts. `Err` where memory runs
+/// out.
+pub fn include_names_of(alloc: Global, file: &IncludeFile) -> Result<Seq<Text>, AllocError>
+    ensures { IfOk result (λ names. names ≡ include_names_in file.now.items) }
+{
+    let mut paths = DistinctTexts::new(alloc);
+    add_paths(alloc, file.items.as_slice(), &mut paths)?;
+    Ok(paths.into_seq())
+}

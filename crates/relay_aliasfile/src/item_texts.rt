@@ -1,0 +1,65 @@
+//! The texts of a list's items.
+ghost use Rattle.std.specs.Prelude.{◌≡◌, ◌∷◌, ◌++◌, ◌≤◌, ◌<◌, not, [], length, filter, IfSome, IfNone};
+ghost use Rattle.relay_text.specs.Bytes.{trimmed};
+ghost use Rattle.relay_text.specs.Addresses.{is_empty};
+ghost use Rattle.relay_aliasfile.specs.Items.{item_texts, is_text};
+ghost use Rattle.relay_aliasfile.specs.ItemTexts.{texts_left};
+
+use crate::quotes::first_outside;
+use relay_text::trimmed;
+
+/// A reader over the texts of a list's items: what stands between the commas outside quotes, trimmed, unless it is empty (aliases(5)).
+/// It lends them in place, takes no memory and reads each byte once.
+#[derive(Clone, Copy, Debug)]
+pub(crate) struct ItemTexts<'a> {
+    rest: &'a [u8],
+}
+
+impl<'a> ItemTexts<'a> {
+    /// A reader that begins at the first item.
+    pub(crate) fn new(list: &'a [u8]) -> Self
+        ensures { texts_left result ≡ item_texts list.now }
+    {
+        ItemTexts { rest: list }
+    }
+
+    /// The next item's text; `None` at the end, and again from then on.
+    pub(crate) fn next_text(&mut self) -> Option<&'a [u8]>
+        ensures none { IfNone result (texts_left self.old ≡ []) }
+        ensures some { IfSome result (λ text. texts_left self.old ≡ text.now ∷ texts_left self.new) }
+    {
+        while !self.rest.is_empty() {
+            let text = trimmed(self.next_piece());
+            if !text.is_empty() {
+                return Some(text);
+            }
+        }
+        None
+    }
+
+    /// What stands before the next comma outside quotes, or all that is left.
+    fn next_piece(&mut self) -> &'a [u8]
+        requires { 1 ≤ length self.old.rest.now }
+        ensures texts { texts_left self.old ≡ filter is_text (trimmed result.now ∷ []) ++ texts_left self.new }
+        ensures shorter { length self.new.rest.now < length self.old.rest.now }
+    {
+        let rest = self.rest;
+        match first_outside(b',', rest) {
+            Some(place) => {
+                self.rest = &rest[place + 1..];
+                &rest[..place]
+            }
+            None => {
+                self.rest = &rest[rest.len()..];
+                rest
+            }
+        }
+    }
+}
+
+/// Whether a list has an item, good or bad.
+pub(crate) fn has_items(list: &[u8]) -> bool
+    ensures { result ≡ not (is_empty (item_texts list.now)) }
+{
+    ItemTexts::new(list).next_text().is_some()
+}

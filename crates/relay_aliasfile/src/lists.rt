@@ -1,0 +1,52 @@
+//! The items of lists, and the faults of bad ones.
+ghost use Rattle.std.specs.Prelude.{◌≡◌, ◌++◌, IfOk, OnOk};
+ghost use Rattle.relay_aliasfile.specs.Items.{item_of, good_items};
+ghost use Rattle.relay_aliasfile.specs.IncludeFiles.{bad_item_faults};
+ghost use Rattle.relay_aliasfile.specs.Lists.{text_faults};
+
+use crate::fault::{FaultKind, LineFault};
+use crate::item::Item;
+use crate::item_texts::ItemTexts;
+use crate::items::Items;
+use crate::reading::item_in;
+use std::alloc::{AllocError, Global};
+
+/// Reads the items of an entry's list. A bad item is a fault at the line, and doesn't touch the others.
+pub(crate) fn read_entry_items(
+    alloc: Global,
+    line: usize,
+    list: &[u8],
+    items: &mut Items,
+    faults: &mut Vec<LineFault>,
+) -> Result<(), AllocError>
+    ensures items { OnOk result (items.new ≡ items.old ++ good_items list.now) }
+    ensures faults { OnOk result (faults.new.items ≡ faults.old.items ++ bad_item_faults line list.now) }
+{
+    let mut texts = ItemTexts::new(list);
+    while let Some(text) = texts.next_text() {
+        if let Some(item) = read_item(alloc, line, text, faults)? {
+            items.push(item)?;
+        }
+    }
+    Ok(())
+}
+
+/// The item that a text is; where it is none, a fault at the line.
+pub(crate) fn read_item(
+    alloc: Global,
+    line: usize,
+    text: &[u8],
+    faults: &mut Vec<LineFault>,
+) -> Result<Option<Item>, AllocError>
+    ensures item { IfOk result (λ item. item ≡ item_of text.now) }
+    ensures faults { OnOk result (faults.new.items ≡ faults.old.items ++ text_faults line text.now) }
+{
+    let item = item_in(alloc, text)?;
+    if item.is_none() {
+        faults.push(LineFault {
+            line,
+            kind: FaultKind::BadItem,
+        })?;
+    }
+    Ok(item)
+}

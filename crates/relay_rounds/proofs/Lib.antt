@@ -1,0 +1,7 @@
+pub mod Keys
+pub mod Rising
+pub mod Numbers
+pub mod Sharding
+pub mod Winners
+pub mod Pieces
+pub mod Search

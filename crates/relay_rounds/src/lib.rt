@@ -1,0 +1,23 @@
+//! All keys that can be reached, in rounds, by several threads.
+//!
+//! A [`Steps`] names for each key the list of its next keys. [`reach`] gives all keys that some chain of steps from a root ends in.
+//! A round offers the next keys of all keys that were new in the round before, with their repeats. Threads claim them, so that each key is won once (`relay_claims`); a key that was won and is not settled yet is new.
+#![tactic(auto)]
+
+mod expanding;
+mod fault;
+mod gate;
+mod reaching;
+mod settled;
+mod shard;
+mod steps;
+#[cfg(test)]
+mod tests;
+mod winning;
+mod workers;
+
+pub use fault::ReachFault;
+pub use gate::{Gate, NoGate};
+pub use reaching::reach;
+pub use relay_chains::Key;
+pub use steps::Steps;

@@ -1,0 +1,61 @@
+-- Host names that are kept by their first places.
+use Rattle.std.proofs.Common.{◌≡◌, ℕ, ◌<◌, Bool, true, false, ◌||◌, ◌&&◌, cond, List, [], ◌∷◌, ◌++◌, length, refl, sym, ap, ◌∙◌, arith}
+use Rattle.std.specs.Prelude.{not, filter}
+use Rattle.std.specs.Str.{bytes_eq}
+use Rattle.std.proofs.lemmas.Bool.{true≢false}
+use Rattle.std.proofs.lemmas.List.{append_assoc, append-nil}
+use Rattle.std.proofs.lemmas.List.Folds.{list_any-append}
+use Rattle.std.proofs.lemmas.Slice.Eq.{bytes_eq-Decides}
+use Rattle.relay_text.specs.Bytes.{has_text, firsts}
+use Rattle.relay_routes.specs.Preferences.{with_hosts}
+use Rattle.relay_routes.proofs.MxLookups.{bytes_eq_swap}
+
+-- one test after another is one test
+both_tests : {X : Type 0} (p q r : X → Bool) → ((x : X) → r x ≡ (q x && p x)) → (xs : List X) → filter p (filter q xs) ≡ filter r xs
+both_tests p q r h [] = refl
+both_tests {X} p q r h (x ∷ xs) = at (q x) (h x) (both_tests p q r h xs) where
+  at : (b : Bool) → r x ≡ (b && p x) → filter p (filter q xs) ≡ filter r xs → filter p (cond b (x ∷ filter q xs) (filter q xs)) ≡ cond (r x) (x ∷ filter r xs) (filter r xs)
+  at true e rest = ap (λ t. cond t (x ∷ filter p (filter q xs)) (filter p (filter q xs))) (sym e) ∙ ap (λ t. cond (r x) (x ∷ t) t) rest
+  at false e rest = rest ∙ ap (λ t. cond t (x ∷ filter r xs) (filter r xs)) (sym e)
+
+not_or : (a b c : Bool) → b ≡ c → not (a || (c || false)) ≡ (not b && not a)
+not_or true true c e = refl
+not_or true false c e = refl
+not_or false true true e = refl
+not_or false false false e = refl
+not_or false true false e = absurd (true≢false e)
+not_or false false true e = absurd (true≢false (sym e))
+
+-- not among the hosts and the new one: neither the new one nor among the hosts
+not_among : (hs : List (List ℕ)) (x y : List ℕ) → not (has_text (hs ++ x ∷ []) y) ≡ (not (bytes_eq x y) && not (has_text hs y))
+not_among hs x y = ap (λ t. not t) (list_any-append (bytes_eq y) hs (x ∷ [])) ∙ not_or (has_text hs y) (bytes_eq x y) (bytes_eq y x) (bytes_eq_swap x y)
+
+-- where the new one is among the hosts, what isn't among them isn't the new one
+not_again : (hs : List (List ℕ)) (x y : List ℕ) → has_text hs x ≡ true → not (has_text hs y) ≡ (not (bytes_eq x y) && not (has_text hs y))
+not_again hs x y e = at (bytes_eq x y) refl (has_text hs y) refl where
+  at : (a : Bool) → bytes_eq x y ≡ a → (b : Bool) → has_text hs y ≡ b → not b ≡ (not a && not b)
+  at false f b g = refl
+  at true f true g = refl
+  at true f false g = absurd (true≢false (sym e ∙ ap (has_text hs) ((bytes_eq-Decides x y).0 f) ∙ g))
+
+-- hosts that are added one by one are those that were there, and then the first of each other
+with_hosts-is : (hs xs : List (List ℕ)) → with_hosts hs xs ≡ hs ++ filter (λ y. not (has_text hs y)) (firsts bytes_eq xs)
+with_hosts-is hs [] = sym (append-nil hs)
+with_hosts-is hs (x ∷ xs) = at (has_text hs x) refl (with_hosts-is hs xs) (with_hosts-is (hs ++ x ∷ []) xs) where
+  at : (b : Bool) → has_text hs x ≡ b
+      → with_hosts hs xs ≡ hs ++ filter (λ y. not (has_text hs y)) (firsts bytes_eq xs)
+      → with_hosts (hs ++ x ∷ []) xs ≡ (hs ++ x ∷ []) ++ filter (λ y. not (has_text (hs ++ x ∷ []) y)) (firsts bytes_eq xs)
+      → with_hosts (cond b hs (hs ++ x ∷ [])) xs ≡ hs ++ cond (not b) (x ∷ filter (λ y. not (has_text hs y)) (filter (λ y. not (bytes_eq x y)) (firsts bytes_eq xs))) (filter (λ y. not (has_text hs y)) (filter (λ y. not (bytes_eq x y)) (firsts bytes_eq xs)))
+  at true e was more = was ∙ ap (λ t. hs ++ t) (sym (both_tests (λ y. not (has_text hs y)) (λ y. not (bytes_eq x y)) (λ y. not (has_text hs y)) (λ y. not_again hs x y e) (firsts bytes_eq xs)))
+  at false e was more = more ∙ append_assoc hs (x ∷ []) _ ∙ ap (λ t. hs ++ x ∷ t) (sym (both_tests (λ y. not (has_text hs y)) (λ y. not (bytes_eq x y)) (λ y. not (has_text (hs ++ x ∷ []) y)) (λ y. not_among hs x y) (firsts bytes_eq xs)))
+
+all_kept : (xs : List (List ℕ)) → filter (λ y. true) xs ≡ xs
+all_kept [] = refl
+all_kept (x ∷ xs) = ap (λ t. x ∷ t) (all_kept xs)
+
+pub with_hosts-none : (xs : List (List ℕ)) → with_hosts [] xs ≡ firsts bytes_eq xs
+with_hosts-none xs = with_hosts-is [] xs ∙ all_kept (firsts bytes_eq xs)
+
+pub firsts-some : {X : Type 0} (same : X → X → Bool) (xs : List X) → 0 < length xs → 0 < length (firsts same xs)
+firsts-some same [] h = h
+firsts-some same (x ∷ xs) h = omega arith

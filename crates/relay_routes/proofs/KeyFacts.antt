@@ -1,0 +1,96 @@
+-- What a table gives at the first of several keys.
+use Rattle.std.proofs.Common.{◌≡◌, ◌≢◌, ℕ, ◌+◌, ◌<◌, ◌≤◌, Bool, true, false, cond, List, [], ◌∷◌, ◌++◌, length, take, drop, get_or, map, filter, refl, sym, ap, ◌∙◌, codes, append_assoc, drop-cons, add-one, eq-eqb, ne_eqb}
+use Rattle.std.specs.Prelude.{Option, Some, None, option_map}
+use Rattle.std.specs.List.{enumerate_from}
+use Rattle.std.proofs.lemmas.List.{drop-drop, drop_all}
+use Rattle.relay_text.specs.Bytes.{first_of}
+use Rattle.relay_text.specs.AddressParts.{AddressParts}
+use Rattle.relay_text.specs.Addresses.{is_dot, is_literal, base_of, split_place_of}
+use Rattle.relay_routes.specs.declared.transport_line.TransportLine.{TransportLine}
+use Rattle.relay_routes.specs.Transports.{address_key, result_at, found_result, parent_keys, base_keys, keys_of}
+use Rattle.relay_routes.specs.TableSteps.{domain_keys, later_keys, dot_ends}
+
+pub found_first : (es : List TransportLine) (key : List ℕ) (keys : List (List ℕ)) (r : List ℕ) → Some r ≡ result_at es key → Some r ≡ found_result es (key ∷ keys)
+found_first es key keys r h = ap (λ o. first_of (o ∷ map (result_at es) keys)) h
+
+pub found_next : (es : List TransportLine) (key : List ℕ) (keys : List (List ℕ)) → None ≡ result_at es key → found_result es keys ≡ found_result es (key ∷ keys)
+found_next es key keys h = ap (λ o. first_of (o ∷ map (result_at es) keys)) h
+
+pub found_front : (es : List TransportLine) (xs ys : List (List ℕ)) (r : List ℕ) → Some r ≡ found_result es xs → Some r ≡ found_result es (xs ++ ys)
+found_front es [] ys r h = absurd (let bad : ⊥ = cc in bad)
+found_front es (x ∷ xs) ys r h = at (result_at es x) (found_front es xs ys r) h where
+  at : (o : Option (List ℕ)) → (Some r ≡ found_result es xs → Some r ≡ found_result es (xs ++ ys)) → Some r ≡ first_of (o ∷ map (result_at es) xs) → Some r ≡ first_of (o ∷ map (result_at es) (xs ++ ys))
+  at None more h = more h
+  at (Some s) more h = h
+
+pub found_behind : (es : List TransportLine) (xs ys : List (List ℕ)) → None ≡ found_result es xs → found_result es ys ≡ found_result es (xs ++ ys)
+found_behind es [] ys h = refl
+found_behind es (x ∷ xs) ys h = at (result_at es x) (found_behind es xs ys) h where
+  at : (o : Option (List ℕ)) → (None ≡ found_result es xs → found_result es ys ≡ found_result es (xs ++ ys)) → None ≡ first_of (o ∷ map (result_at es) xs) → found_result es ys ≡ first_of (o ∷ map (result_at es) (xs ++ ys))
+  at None more h = more h
+  at (Some s) more h = absurd (let bad : ⊥ = cc in bad)
+
+-- The keys of an address are the whole address and the later ones.
+pub keys_later : (a : AddressParts) (delimiter : Option ℕ) → keys_of a delimiter ≡ address_key a.local a.domain ∷ later_keys a delimiter
+keys_later a delimiter = ap (λ keys. address_key a.local a.domain ∷ keys) (append_assoc (base_keys a (base_of a.local delimiter)) (a.domain ∷ parent_keys a.domain) (codes "*" ∷ []))
+
+-- The later keys begin with the address without its extension, where it has one.
+pub later_unsplit : (a : AddressParts) (delimiter : Option ℕ) → None ≡ split_place_of a.local delimiter → domain_keys a.domain ≡ later_keys a delimiter
+later_unsplit a delimiter h = ap (λ o. base_keys a (option_map (λ place. take place a.local) o) ++ domain_keys a.domain) h
+
+pub later_split : (a : AddressParts) (delimiter : Option ℕ) (place : ℕ) → Some place ≡ split_place_of a.local delimiter → address_key (take place a.local) a.domain ∷ domain_keys a.domain ≡ later_keys a delimiter
+later_split a delimiter place h = ap (λ o. base_keys a (option_map (λ place. take place a.local) o) ++ domain_keys a.domain) h
+
+-- The parents of a domain name are the ends that begin at its dots.
+parents_from : (whole xs : List ℕ) (i : ℕ) → drop i whole ≡ xs → map (λ p. drop p.0 whole) (filter (λ (p : ℕ × ℕ). is_dot p.1) (enumerate_from i xs)) ≡ dot_ends xs
+parents_from whole [] i h = refl
+parents_from whole (b ∷ bs) i h = at (is_dot b) (parents_from whole bs (i + 1) (sym (drop-drop 1 i whole) ∙ ap (drop 1) h)) where
+  at : (t : Bool) → map (λ p. drop p.0 whole) (filter (λ (p : ℕ × ℕ). is_dot p.1) (enumerate_from (i + 1) bs)) ≡ dot_ends bs
+      → map (λ (p : ℕ × ℕ). drop p.0 whole) (cond t ((i, b) ∷ filter (λ (p : ℕ × ℕ). is_dot p.1) (enumerate_from (i + 1) bs)) (filter (λ (p : ℕ × ℕ). is_dot p.1) (enumerate_from (i + 1) bs))) ≡ cond t ((b ∷ bs) ∷ dot_ends bs) (dot_ends bs)
+  at true later = ap (λ x. x ∷ map (λ (p : ℕ × ℕ). drop p.0 whole) (filter (λ (p : ℕ × ℕ). is_dot p.1) (enumerate_from (i + 1) bs))) h ∙ ap (λ rest. (b ∷ bs) ∷ rest) later
+  at false later = later
+
+pub parents_named : (domain : List ℕ) → is_literal domain ≡ false → dot_ends domain ≡ parent_keys domain
+parents_named domain h =
+    sym (parents_from domain domain 0 refl)
+    ∙ sym (ap (λ t. cond t [] (map (λ (p : ℕ × ℕ). drop p.0 domain) (filter (λ (p : ℕ × ℕ). is_dot p.1) (enumerate_from 0 domain)))) h)
+
+pub parents_literal : (domain : List ℕ) → is_literal domain ≡ true → [] ≡ parent_keys domain
+parents_literal domain h = sym (ap (λ t. cond t [] (map (λ (p : ℕ × ℕ). drop p.0 domain) (filter (λ (p : ℕ × ℕ). is_dot p.1) (enumerate_from 0 domain)))) h)
+
+-- the ends that begin at a place or behind it
+pub ends_at : (domain : List ℕ) (place : ℕ) → place < length domain → (let b = get_or domain place 0 in dot_ends (drop place domain) ≡ cond (is_dot b) (drop place domain ∷ dot_ends (drop (place + 1) domain)) (dot_ends (drop (place + 1) domain)))
+ends_at domain place inside =
+    let cut : drop place domain ≡ get_or domain place 0 ∷ drop (place + 1) domain = rw (add-one, drop-cons domain place 0) refl in
+    ap dot_ends cut ∙ ap (λ ys. cond (is_dot (get_or domain place 0)) (ys ∷ dot_ends (drop (place + 1) domain)) (dot_ends (drop (place + 1) domain))) (sym cut)
+
+pub ends_at_dot : (domain : List ℕ) (place : ℕ) → place < length domain → get_or domain place 0 ≡ 46 → drop place domain ∷ dot_ends (drop (place + 1) domain) ≡ dot_ends (drop place domain)
+ends_at_dot domain place inside dot =
+    sym (ends_at domain place inside ∙ ap (λ t. cond t (drop place domain ∷ dot_ends (drop (place + 1) domain)) (dot_ends (drop (place + 1) domain))) (eq-eqb _ 46 dot))
+
+pub ends_elsewhere : (domain : List ℕ) (place : ℕ) → place < length domain → get_or domain place 0 ≢ 46 → dot_ends (drop (place + 1) domain) ≡ dot_ends (drop place domain)
+ends_elsewhere domain place inside apart =
+    sym (ends_at domain place inside ∙ ap (λ t. cond t (drop place domain ∷ dot_ends (drop (place + 1) domain)) (dot_ends (drop (place + 1) domain))) (ne_eqb _ 46 apart))
+
+-- Behind the last place no end is left.
+pub ends_done : (es : List TransportLine) (domain : List ℕ) (place : ℕ) → length domain ≤ place → None ≡ found_result es (dot_ends (drop place domain))
+ends_done es domain place none = ap (λ (t : List ℕ). found_result es (dot_ends t)) (sym (drop_all place domain none))
+
+-- what stands for a domain: itself, a parent, or `*`
+pub found_parent : (es : List TransportLine) (domain : List ℕ) (r : List ℕ) → None ≡ result_at es domain → Some r ≡ found_result es (parent_keys domain) → Some r ≡ found_result es (domain_keys domain)
+found_parent es domain r none h = found_front es (parent_keys domain) (codes "*" ∷ []) r h ∙ found_next es domain (parent_keys domain ++ codes "*" ∷ []) none
+
+star_alone : (es : List TransportLine) → result_at es (codes "*") ≡ found_result es (codes "*" ∷ [])
+star_alone es = at (result_at es (codes "*")) where
+  at : (o : Option (List ℕ)) → o ≡ first_of (o ∷ [])
+  at None = refl
+  at (Some r) = refl
+
+pub found_star : (es : List TransportLine) (domain : List ℕ) → None ≡ result_at es domain → None ≡ found_result es (parent_keys domain) → result_at es (codes "*") ≡ found_result es (domain_keys domain)
+found_star es domain none no_parent = star_alone es ∙ found_behind es (parent_keys domain) (codes "*" ∷ []) no_parent ∙ found_next es domain (parent_keys domain ++ codes "*" ∷ []) none
+
+pub found_at_address : (es : List TransportLine) (a : AddressParts) (delimiter : Option ℕ) (r : List ℕ) → Some r ≡ result_at es (address_key a.local a.domain) → Some r ≡ found_result es (keys_of a delimiter)
+found_at_address es a delimiter r h = found_first es (address_key a.local a.domain) (later_keys a delimiter) r h ∙ ap (found_result es) (sym (keys_later a delimiter))
+
+pub found_past_address : (es : List TransportLine) (a : AddressParts) (delimiter : Option ℕ) → None ≡ result_at es (address_key a.local a.domain) → found_result es (later_keys a delimiter) ≡ found_result es (keys_of a delimiter)
+found_past_address es a delimiter none = found_next es (address_key a.local a.domain) (later_keys a delimiter) none ∙ ap (found_result es) (sym (keys_later a delimiter))

@@ -1,0 +1,45 @@
+//! Copies of bytes.
+ghost use Rattle.std.specs.Prelude.{◌≡◌, ◌++◌, IfOk};
+ghost use Rattle.relay_text.specs.Bytes.{folded};
+
+use relay_text::{Text, fold};
+use std::alloc::{AllocError, Global};
+
+/// A text, as it is.
+pub(crate) fn copy(alloc: Global, text: &[u8]) -> Result<Text, AllocError>
+    ensures { IfOk result (λ copy. copy ≡ text.now) }
+{
+    Ok(Text::of(Vec::from_slice(alloc, text)?))
+}
+
+/// A text, folded.
+pub(crate) fn folded_copy(alloc: Global, text: &[u8]) -> Result<Text, AllocError>
+    ensures { IfOk result (λ copy. copy ≡ folded text.now) }
+{
+    Ok(folded_text(Vec::from_slice(alloc, text)?))
+}
+
+/// A text, folded in place.
+pub(crate) fn folded_text(mut text: Vec<u8>) -> Text
+    ensures { result ≡ folded text.items }
+{
+    fold(&mut text);
+    Text::of(text)
+}
+
+/// Two texts in one.
+pub(crate) fn joined(alloc: Global, first: &[u8], second: &[u8]) -> Result<Vec<u8>, AllocError>
+    ensures { IfOk result (λ text. text.items ≡ first.now ++ second.now) }
+{
+    let mut text = Vec::with_capacity(alloc, first.len().saturating_add(second.len()))?;
+    text.extend_from_slice(first)?;
+    text.extend_from_slice(second)?;
+    Ok(text)
+}
+
+/// Two texts in one, folded.
+pub(crate) fn folded_joined(alloc: Global, first: &[u8], second: &[u8]) -> Result<Text, AllocError>
+    ensures { IfOk result (λ text. text ≡ folded first.now ++ folded second.now) }
+{
+    Ok(folded_text(joined(alloc, first, second)?))
+}

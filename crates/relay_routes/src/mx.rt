@@ -1,0 +1,156 @@
+//! The MX table.
+use crate::exchange::Exchange;
+use crate::fault::{FaultKind, LineFault};
+use crate::hosts::Hosts;
+use crate::mx_line::record_in;
+use crate::mx_records::MxRecords;
+use crate::preferences::{before_relay, hosts_in_order, without_null};
+use crate::unrouted::Unrouted;
+use relay_text::{KeptLines, Seq, Text, TextSet};
+use std::alloc::{AllocError, Global};
+use std::marker::Model;
+
+/// The MX records of domains, which mail is sent by (RFC 5321 section 5.1), and the lines at fault.
+#[derive(Drop)]
+pub struct MxTable {
+    records: MxRecords,
+    faults: Seq<LineFault>,
+}
+
+impl Model for MxTable {
+    ghost use Rattle.std.specs.Prelude.{filter_map};
+    ghost use Rattle.relay_routes.specs.MxLines.{MxLines};
+    ghost use Rattle.relay_routes.specs.Exchanges.{exchange_in, address_in};
+
+    ghost Value = { MxLines };
+
+    ghost view = { λ a. record { exchanges = filter_map exchange_in a.records; addresses = filter_map address_in a.records; faults = a.faults } };
+}
+
+ghost use Rattle.std.specs.Prelude.{◌≡◌, ◌<◌, ℕ, Bool, true, List, [], length, IfOk};
+ghost use Rattle.relay_routes.specs.Exchanges.{mx_table_of, hosts_of, hosts_before_relay, exchangers};
+ghost use Rattle.relay_routes.specs.Preferences.{exchanges_of};
+ghost use Rattle.relay_routes.specs.Routes.{Answers};
+
+impl MxTable {
+    /// The records of a table: on each line that isn't ignored `domain MX number host` or `domain A`, fields apart by white space, the
+    /// words in any case. The number is of decimal digits and up to 65535, leading zeros taken; domain and host are names, not address
+    /// literals, and the host may be the `.` of the null MX with the number 0 (RFC 7505 section 3). Names are put into lower case.
+    /// Every text is accepted: any other line is `BadLine`. `Err` where memory runs out.
+    pub fn parse(alloc: Global, bytes: &[u8]) -> Result<MxTable, AllocError>
+        ensures { IfOk result (λ table. table ≡ mx_table_of bytes.now) }
+    {
+        let mut records = Vec::new(alloc);
+        let mut faults: Vec<LineFault> = Vec::new(alloc);
+        let mut lines = KeptLines::new(bytes);
+        while let Some(line) = lines.next_line() {
+            match record_in(alloc, line.text)? {
+                Some(record) => records.push(record)?,
+                None => faults.push(LineFault {
+                    line: line.number,
+                    kind: FaultKind::BadLine,
+                })?,
+            }
+        }
+        Ok(MxTable {
+            records: MxRecords::of(alloc, records)?,
+            faults: Seq::of(faults),
+        })
+    }
+
+    /// The lines that are no record, in table order.
+    pub fn faults(&self) -> &[LineFault]
+        ensures { result.now ≡ self.now.faults }
+    {
+        self.faults.as_slice()
+    }
+
+    /// The hosts that take the mail of a domain, which is given in lower case, for a relay of these names: in rising preference (RFC 5321
+    /// section 5.1), those of one preference in table order, each once, and rotated left by `seed` modulo their number. Where the relay
+    /// is an exchanger itself, those of its preference and worse ones are left out. A domain without exchangers that has an address
+    /// is its own exchanger.
+    ///
+    /// `Domain`: the table has no record of the domain. `NullMx`: all its exchangers are the null MX (RFC 7505); where others stand beside
+    /// it, it's left out. `MxSelf`: no exchanger is left before the relay. `Memory`: memory ran out.
+    pub fn hosts(
+        &self,
+        alloc: Global,
+        domain: &[u8],
+        own_names: &[Text],
+        seed: u64,
+    ) -> Result<Hosts, Unrouted>
+        ensures { Answers result (hosts_of self.now domain.now own_names.now seed) }
+    {
+        let Ok(own_names) = TextSet::of(alloc, own_names) else {
+            return Err(Unrouted::Memory);
+        };
+        self.hosts_beside(alloc, domain, &own_names, seed)
+    }
+
+    /// The same, for a relay whose names are in a set.
+    pub(crate) fn hosts_beside(
+        &self,
+        alloc: Global,
+        domain: &[u8],
+        own_names: &TextSet,
+        seed: u64,
+    ) -> Result<Hosts, Unrouted>
+        ensures { Answers result (hosts_of self.now domain.now own_names.now seed) }
+    {
+        let Ok(found) = self.records.exchangers_of(alloc, domain) else {
+            return Err(Unrouted::Memory);
+        };
+        if !found.is_empty() {
+            return explicit_hosts(alloc, &found, own_names, seed);
+        }
+        if self.records.has_address(domain) {
+            implicit_host(alloc, domain, own_names)
+        } else {
+            Err(Unrouted::Domain)
+        }
+    }
+}
+
+/// The hosts of a domain's mail exchangers: those that aren't null, before the relay itself, in rising preference.
+fn explicit_hosts(
+    alloc: Global,
+    found: &[&Exchange],
+    own_names: &TextSet,
+    seed: u64,
+) -> Result<Hosts, Unrouted>
+    requires { 0 < length found.now }
+    ensures { (domain : List ℕ) (has_address : Bool) → Answers result (hosts_before_relay (exchangers (exchanges_of found.now) has_address domain) own_names.now seed) }
+{
+    let Ok(exchangers) = without_null(alloc, found) else {
+        return Err(Unrouted::Memory);
+    };
+    if exchangers.is_empty() {
+        return Err(Unrouted::NullMx);
+    }
+    let Ok(exchangers) = before_relay(alloc, &exchangers, own_names) else {
+        return Err(Unrouted::Memory);
+    };
+    let Ok(hosts) = hosts_in_order(alloc, exchangers, seed) else {
+        return Err(Unrouted::Memory);
+    };
+    if hosts.is_empty() {
+        return Err(Unrouted::MxSelf);
+    }
+    Ok(Hosts::of(hosts))
+}
+
+/// The host of a domain without mail exchangers that has an address: itself (RFC 5321 section 5.1, the implicit MX).
+fn implicit_host(alloc: Global, domain: &[u8], own_names: &TextSet) -> Result<Hosts, Unrouted>
+    ensures { (seed : ℕ) → Answers result (hosts_before_relay (exchangers [] true domain.now) own_names.now seed) }
+{
+    if own_names.contains(domain) {
+        return Err(Unrouted::MxSelf);
+    }
+    let Ok(host) = Vec::from_slice(alloc, domain) else {
+        return Err(Unrouted::Memory);
+    };
+    let Ok(hosts) = Hosts::one(alloc, Text::of(host)) else {
+        return Err(Unrouted::Memory);
+    };
+    Ok(hosts)
+}

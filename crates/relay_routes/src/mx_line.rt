@@ -1,0 +1,125 @@
+//! The lines of an MX table.
+ghost use Rattle.std.specs.Prelude.{◌≡◌, ◌≤◌, length, [], ◌∷◌, IfOk, IfSome, IfNone};
+ghost use Rattle.std.specs.List.{position_or_len};
+ghost use Rattle.relay_text.specs.Bytes.{is_white, is_word, folded};
+ghost use Rattle.relay_text.specs.Numbers.{number_within};
+ghost use Rattle.relay_routes.specs.Exchanges.{fields_of, record_of, exchange_of, is_exchange_host};
+
+use crate::exchange::Exchange;
+use crate::mx_record::MxRecord;
+use relay_text::{Text, begins_with_word, fold, is_domain_name, number_within, trimmed_start};
+use std::alloc::{AllocError, Global};
+
+/// The record that a line spells, `None` where it spells none. `Err` where memory runs out.
+pub(crate) fn record_in(alloc: Global, line: &[u8]) -> Result<Option<MxRecord>, AllocError>
+    ensures { IfOk result (λ r. r ≡ record_of (fields_of line.now)) }
+{
+    let Some((domain, rest)) = split_field(line) else {
+        return Ok(None);
+    };
+    let Some((word, rest)) = split_field(rest) else {
+        return Ok(None);
+    };
+    let Some((number, rest)) = split_field(rest) else {
+        return address_record(alloc, domain, word);
+    };
+    let Some((host, rest)) = split_field(rest) else {
+        return Ok(None);
+    };
+    if split_field(rest).is_some() {
+        return Ok(None);
+    }
+    exchange_record(alloc, domain, word, number, host)
+}
+
+/// The record of a line `domain A`.
+fn address_record(alloc: Global, domain: &[u8], word: &[u8]) -> Result<Option<MxRecord>, AllocError>
+    ensures { IfOk result (λ r. r ≡ record_of (domain.now ∷ word.now ∷ [])) }
+{
+    if is_word(b"a", word) && is_domain_name(domain) {
+        let folded = folded_text(alloc, domain)?;
+        Ok(Some(MxRecord::Address(folded)))
+    } else {
+        Ok(None)
+    }
+}
+
+/// The record of a line `domain MX number host`.
+fn exchange_record(
+    alloc: Global,
+    domain: &[u8],
+    word: &[u8],
+    number: &[u8],
+    host: &[u8],
+) -> Result<Option<MxRecord>, AllocError>
+    ensures { IfOk result (λ r. r ≡ record_of (domain.now ∷ word.now ∷ number.now ∷ host.now ∷ [])) }
+{
+    if !is_word(b"mx", word) {
+        return Ok(None);
+    }
+    match preference_of(number) {
+        Some(preference) if is_domain_name(domain) && is_exchange_host(preference, host) => {
+            let domain = folded_text(alloc, domain)?;
+            let host = folded_text(alloc, host)?;
+            Ok(Some(MxRecord::Mx(Exchange {
+                domain,
+                preference,
+                host,
+            })))
+        }
+        _ => Ok(None),
+    }
+}
+
+/// The preference that decimal digits spell, where it takes no more than 16 bits.
+fn preference_of(digits: &[u8]) -> Option<u16>
+    ensures { result ≡ number_within 0 65535 digits.now }
+{
+    let number = number_within(0, 65535, digits)?;
+    u16::try_from(number).ok()
+}
+
+/// Whether a text is a domain name, or the `.` of the null MX, whose preference is 0 (RFC 7505 section 3).
+fn is_exchange_host(preference: u16, host: &[u8]) -> bool
+    ensures { result ≡ is_exchange_host preference host.now }
+{
+    is_domain_name(host) || (host == b".".as_slice() && preference == 0)
+}
+
+/// Whether a text is a word, which is given in lower case; its letters may be in any case.
+fn is_word(word: &[u8], text: &[u8]) -> bool
+    ensures { result ≡ is_word word.now text.now }
+{
+    text.len() == word.len() && begins_with_word(word, text)
+}
+
+/// A copy of a text in lower case.
+fn folded_text(alloc: Global, text: &[u8]) -> Result<Text, AllocError>
+    ensures { IfOk result (λ copy. copy ≡ folded text.now) }
+{
+    let mut copy = Vec::from_slice(alloc, text)?;
+    fold(&mut copy);
+    Ok(Text::of(copy))
+}
+
+/// The first field of a text, behind white space, and what follows it; `None` where there is none.
+fn split_field(text: &[u8]) -> Option<(&[u8], &[u8])>
+    ensures none { IfNone result (fields_of text.now ≡ []) }
+    ensures some { IfSome result (λ split. fields_of text.now ≡ split.0.now ∷ fields_of split.1.now) }
+{
+    let start = trimmed_start(text);
+    if start.is_empty() {
+        return None;
+    }
+    Some(start.split_at(field_len(start)))
+}
+
+/// How many bytes stand before the first white space.
+fn field_len(text: &[u8]) -> usize
+    ensures place { result ≡ position_or_len is_white text.now }
+    ensures within { result ≤ length text.now }
+{
+    text.iter()
+        .position(|byte| *byte == b' ' || *byte == b'\t')
+        .unwrap_or(text.len())
+}

@@ -1,0 +1,147 @@
+//! Mail exchangers in the order in which they are tried.
+ghost use Rattle.std.specs.Prelude.{◌≡◌, ◌<◌, ◌≤◌, not, length, take, drop, map, filter, IfOk};
+ghost use Rattle.std.specs.Str.{bytes_eq};
+ghost use Rattle.relay_text.specs.Bytes.{firsts};
+ghost use Rattle.relay_routes.specs.Exchanges.{is_null, in_preference_order, rotated};
+ghost use Rattle.relay_routes.specs.Preferences.{exchanges_of, is_within, with_own, least_own, IsRising, IsFirstRun};
+
+use crate::exchange::Exchange;
+use crate::mx_hosts::DistinctHosts;
+use relay_text::{Text, TextSet};
+use std::alloc::{AllocError, Global};
+
+/// The exchangers without the null ones, in their order. `Err` where memory runs out.
+pub(crate) fn without_null<'a>(
+    alloc: Global,
+    exchangers: &[&'a Exchange],
+) -> Result<Vec<&'a Exchange>, AllocError>
+    ensures { IfOk result (λ kept. kept.items ≡ filter (λ e. not (is_null e.now)) exchangers.now) }
+{
+    let mut kept = Vec::new(alloc);
+    for exchange in exchangers {
+        if !exchange.is_null() {
+            kept.push(*exchange)?;
+        }
+    }
+    Ok(kept)
+}
+
+/// The exchangers that are tried before the relay itself, in their order. `Err` where memory runs out.
+pub(crate) fn before_relay<'a>(
+    alloc: Global,
+    exchangers: &[&'a Exchange],
+    own_names: &TextSet,
+) -> Result<Vec<&'a Exchange>, AllocError>
+    ensures { IfOk result (λ kept. kept.items ≡ filter (λ e. is_within (least_own own_names.now (exchanges_of exchangers.now)) e.now.preference) exchangers.now) }
+{
+    let limit = own_preference(exchangers, own_names);
+    let mut kept = Vec::new(alloc);
+    for exchange in exchangers {
+        if is_within(limit, exchange.preference) {
+            kept.push(*exchange)?;
+        }
+    }
+    Ok(kept)
+}
+
+/// The least preference at which the relay itself is an exchanger.
+fn own_preference(exchangers: &[&Exchange], own_names: &TextSet) -> Option<u16>
+    ensures { result ≡ least_own own_names.now (exchanges_of exchangers.now) }
+{
+    let mut least = None;
+    for exchange in exchangers {
+        least = with_own(own_names, least, exchange);
+    }
+    least
+}
+
+/// The least such preference so far, with one more exchanger.
+fn with_own(own_names: &TextSet, least: Option<u16>, exchange: &Exchange) -> Option<u16>
+    ensures { result ≡ with_own own_names.now least exchange.now }
+{
+    if own_names.contains(exchange.host.as_bytes()) && is_within(least, exchange.preference) {
+        Some(exchange.preference)
+    } else {
+        least
+    }
+}
+
+/// Whether a preference comes before a limit, if there is one.
+fn is_within(limit: Option<u16>, preference: u16) -> bool
+    ensures { result ≡ is_within limit preference }
+{
+    match limit {
+        Some(limit) => preference < limit,
+        None => true,
+    }
+}
+
+/// The hosts of these exchangers in rising preference (RFC 5321 section 5.1). Those of one preference stand in their order, each once,
+/// rotated by `seed` places. `Err` where memory runs out.
+pub(crate) fn hosts_in_order(
+    alloc: Global,
+    mut exchangers: Vec<&Exchange>,
+    seed: u64,
+) -> Result<Vec<Text>, AllocError>
+    ensures { IfOk result (λ hosts. hosts.items ≡ in_preference_order seed (exchanges_of exchangers.entry.items)) }
+{
+    exchangers.sort_by_key(|exchange| exchange.preference)?;
+    hosts_of_runs(alloc, exchangers.as_slice(), seed)
+}
+
+/// The hosts of one run of equal preference after another.
+fn hosts_of_runs(
+    alloc: Global,
+    exchangers: &[&Exchange],
+    seed: u64,
+) -> Result<Vec<Text>, AllocError>
+    requires { IsRising (map (λ e. e.preference) (exchanges_of exchangers.now)) }
+    ensures { IfOk result (λ hosts. hosts.items ≡ in_preference_order seed (exchanges_of exchangers.now)) }
+{
+    let mut hosts = Vec::new(alloc);
+    let mut start = 0;
+    while start < exchangers.len() {
+        let rest = &exchangers[start..];
+        let count = run_len(rest);
+        let mut run = rotated_hosts(alloc, &rest[..count], seed)?;
+        hosts.append(&mut run)?;
+        start += count;
+    }
+    Ok(hosts)
+}
+
+/// How many exchangers at the front are of the first's preference.
+fn run_len(exchangers: &[&Exchange]) -> usize
+    requires some { 0 < length exchangers.now }
+    requires rising { IsRising (map (λ e. e.preference) (exchanges_of exchangers.now)) }
+    ensures within { result ≤ length exchangers.now }
+    ensures run { IsFirstRun (exchanges_of exchangers.now) (exchanges_of (take result exchangers.now)) (exchanges_of (drop result exchangers.now)) }
+{
+    let preference = exchangers[0].preference;
+    exchangers
+        .iter()
+        .position(|exchange| exchange.preference != preference)
+        .unwrap_or(exchangers.len())
+}
+
+/// The distinct hosts of exchangers of one preference, rotated.
+fn rotated_hosts(alloc: Global, run: &[&Exchange], seed: u64) -> Result<Vec<Text>, AllocError>
+    requires { 0 < length run.now }
+    ensures { IfOk result (λ hosts. hosts.items ≡ rotated seed (firsts bytes_eq (map (λ e. e.host) (exchanges_of run.now)))) }
+{
+    let mut hosts = distinct_hosts(alloc, run)?;
+    let turn = seed % hosts.len() as u64;
+    hosts.rotate_left(turn as usize);
+    Ok(hosts)
+}
+
+/// The hosts of exchangers, each by its first place.
+fn distinct_hosts(alloc: Global, exchangers: &[&Exchange]) -> Result<Vec<Text>, AllocError>
+    ensures { IfOk result (λ hosts. hosts.items ≡ firsts bytes_eq (map (λ e. e.host) (exchanges_of exchangers.now))) }
+{
+    let mut hosts = DistinctHosts::new(alloc);
+    for exchange in exchangers {
+        hosts.add(alloc, exchange.host.as_bytes())?;
+    }
+    Ok(hosts.into_vec())
+}

@@ -1,0 +1,74 @@
+//! The lines of a transport table.
+use relay_text::Text;
+
+/// A pattern in lower case and its one spelling, and its result as it is written (transport(5), "TABLE FORMAT").
+#[derive(Drop)]
+pub struct TransportLine {
+    pub pattern: Text,
+    pub result: Text,
+}
+
+ghost use Rattle.std.specs.Prelude.{◌≡◌, ◌≤◌, not, length, drop, Some, None, option_map, IfOk, if◌then◌else◌, codes};
+ghost use Rattle.std.specs.List.{list_all, list_any, prefix_len};
+ghost use Rattle.relay_text.specs.Bytes.{is_white, begins_with};
+ghost use Rattle.relay_routes.specs.Transports.{line_of, is_result, is_result_byte};
+
+use crate::copies::copy;
+use crate::pattern::pattern_of;
+use relay_text::trimmed;
+use std::alloc::{AllocError, Global};
+
+/// The line that a logical line's text is: a pattern without white space, and a result. `None` where it is no such line.
+pub(crate) fn line_of(alloc: Global, line: &[u8]) -> Result<Option<TransportLine>, AllocError>
+    ensures { IfOk result (λ read. read ≡ line_of line.now) }
+{
+    let (pattern, rest) = line.split_at(pattern_len(line));
+    let result = trimmed(rest);
+    if !is_result(result) {
+        return Ok(None);
+    }
+    let Some(pattern) = pattern_of(alloc, pattern)? else {
+        return Ok(None);
+    };
+    let result = copy(alloc, result)?;
+    Ok(Some(TransportLine { pattern, result }))
+}
+
+/// What follows `error:` in a result.
+pub(crate) fn refusal(text: &[u8]) -> Option<&[u8]>
+    ensures { option_map (λ rest. rest.now) result ≡ (if begins_with (codes "error:") text.now then Some (drop 6 text.now) else None) }
+{
+    text.strip_prefix(b"error:")
+}
+
+/// How many bytes stand before the first white space.
+fn pattern_len(line: &[u8]) -> usize
+    ensures len { result ≡ prefix_len (λ b. not (is_white b)) line.now }
+    ensures within { result ≤ length line.now }
+{
+    line.iter()
+        .position(|byte| *byte == b' ' || *byte == b'\t')
+        .unwrap_or(line.len())
+}
+
+/// Whether a text may be a result: bytes that print, and tabs; white space only where it begins with `error:`.
+fn is_result(text: &[u8]) -> bool
+    ensures { result ≡ is_result text.now }
+{
+    !text.is_empty() && all_result_bytes(text) && (refusal(text).is_some() || !has_white(text))
+}
+
+/// Whether every byte prints, or is white space.
+fn all_result_bytes(text: &[u8]) -> bool
+    ensures { result ≡ list_all is_result_byte text.now }
+{
+    text.iter()
+        .all(|byte| *byte == b'\t' || (*byte >= 32 && *byte <= 126))
+}
+
+/// Whether white space stands in a text.
+fn has_white(text: &[u8]) -> bool
+    ensures { result ≡ list_any is_white text.now }
+{
+    text.iter().any(|byte| *byte == b' ' || *byte == b'\t')
+}

@@ -1,0 +1,7 @@
+use Rattle.std.proofs.Common.{◌≡◌, ◌++◌, take}
+use Rattle.std.specs.List.{enumerate_from}
+use Rattle.relay_wire.specs.PlanText.{numbered_texts, scripted_text}
+use Rattle.relay_wire.proofs.wire.put_scripted_transactions.Given as goal
+
+abbrev pub invariant-loop-index : goal.invariant-loop-index
+invariant-loop-index l = l.out.items ≡ l.initial.out.items ++ numbered_texts (scripted_text l.hostname) (take l.index (enumerate_from 1 l.transactions))

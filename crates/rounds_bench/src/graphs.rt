@@ -1,0 +1,69 @@
+//! Graphs to search.
+ghost use Rattle.std.specs.Prelude.{◌+◌, ◌*◌, ◌%◌, ◌∷◌, [], cond, nat_eq};
+ghost use Rattle.std.proofs.Common.{rules};
+ghost use Rattle.std.proofs.lemmas.Grind.{common_steps};
+
+use relay_rounds::{Key, Steps};
+
+/// A key leads to the next one, up to the last.
+#[derive(Drop)]
+pub struct Path {
+    pub keys: u32,
+}
+
+impl Steps for Path {
+    ghost key_bound = { λ s. s.keys };
+
+    ghost next_keys = { λ s k. cond (nat_eq (k + 1) s.keys) [] ((k + 1) ∷ []) };
+
+    ghost stays_below = { Prim.search (rules, common_steps) };
+
+    fn bound(&self) -> u64 {
+        self.keys as u64
+    }
+
+    fn count(&self, key: Key) -> usize {
+        let keys = self.keys as u64;
+        if key + 1 == keys { 0 } else { 1 }
+    }
+
+    fn at(&self, key: Key, _i: usize) -> Key {
+        let _keys = self.keys;
+        key + 1
+    }
+}
+
+/// A key leads to four others, all over the graph.
+#[derive(Drop)]
+pub struct Wide {
+    pub keys: u32,
+}
+
+impl Steps for Wide {
+    ghost key_bound = { λ s. s.keys };
+
+    ghost next_keys = { λ s k. (2 * k + 1) % s.keys ∷ ((2 * k + 2) % s.keys ∷ ((2654435 * k + 7) % s.keys ∷ (1597334 * k % s.keys ∷ []))) };
+
+    ghost stays_below = { Prim.search (rules, common_steps) };
+
+    fn bound(&self) -> u64 {
+        self.keys as u64
+    }
+
+    fn count(&self, _key: Key) -> usize {
+        4
+    }
+
+    fn at(&self, key: Key, i: usize) -> Key {
+        let keys = self.keys as u64;
+        if i == 0 {
+            (2 * key + 1) % keys
+        } else if i == 1 {
+            (2 * key + 2) % keys
+        } else if i == 2 {
+            (2654435 * key + 7) % keys
+        } else {
+            1597334 * key % keys
+        }
+    }
+}
