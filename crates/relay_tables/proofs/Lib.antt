@@ -1,0 +1,17 @@
+pub mod Rows
+pub mod Places
+pub mod LocalParts
+pub mod Resolving
+pub mod Cuts
+pub mod Edges
+pub mod Placing
+pub mod Turning
+pub mod Runs
+pub mod NodeKeys
+pub mod Firsts
+pub mod Numbers
+pub mod Resolved
+pub mod RowSteps
+pub mod SenderSteps
+pub mod Assembled
+pub mod ParsedFiles

@@ -1,0 +1,134 @@
+-- Lemmas on nodes: which are the same, and that a node's key tells it.
+use Rattle.std.proofs.Common.{◌≡◌, ℕ, zero, suc, ◌+◌, ◌<◌, Bool, true, false, ◌||◌, cond, eqb, ltb, Some, None, List, [], ◌∷◌, length, map, take, drop, slice_get, position, refl, sym, ap, ◌∙◌, subst, arith}
+use Rattle.std.specs.Prelude.{not}
+use Rattle.std.specs.List.{list_any, position_or_len}
+use Rattle.std.specs.Str.{bytes_eq}
+use Rattle.std.proofs.lemmas.Bool.{false≢true, true≢false, eqb-true, eq-eqb, and_parts, and_from, or_left, or_right, or_parts, or_from, false_from_ne_true, lt-ltb, cond-true}
+use Rattle.std.proofs.lemmas.List.{drop_at, take_at}
+use Rattle.std.proofs.lemmas.Option.{none-some, same_Some}
+use Rattle.std.proofs.lemmas.Slice.Eq.{bytes_eq-Decides}
+use Rattle.relay_text.specs.AddressParts.{AddressParts}
+use Rattle.relay_tables.specs.declared.node.Node.{Node}
+use Rattle.relay_tables.specs.declared.node.Node.TheVariants.{Alias, Include, Mailbox, Remote, Missing, NoInclude, Command, File}
+use Rattle.relay_tables.specs.Graphs.{same_address, same_node}
+use Rattle.relay_tables.specs.Numbering.{is_final, key_of, address_key}
+
+bytes_true : (xs ys : List ℕ) → bytes_eq xs ys ≡ true → xs ≡ ys
+bytes_true xs ys e = (bytes_eq-Decides xs ys).0 e
+
+pub bytes_same : (xs ys : List ℕ) → xs ≡ ys → bytes_eq xs ys ≡ true
+bytes_same xs ys e = (bytes_eq-Decides xs ys).1 e
+
+abbrev address_at : List ℕ → List ℕ → AddressParts
+address_at local domain = record { local = local; domain = domain }
+
+same_parts : (a b : AddressParts) → a.local ≡ b.local → a.domain ≡ b.domain → a ≡ b
+same_parts a b l d = ap (λ (x : List ℕ). address_at x a.domain) l ∙ ap (address_at b.local) d
+
+address_true : (a b : AddressParts) → same_address a b ≡ true → a ≡ b
+address_true a b e =
+    let p = and_parts (bytes_eq a.local b.local) (bytes_eq a.domain b.domain) e in
+    same_parts a b (bytes_true a.local b.local p.0) (bytes_true a.domain b.domain p.1)
+
+address_same : (a : AddressParts) → same_address a a ≡ true
+address_same a = and_from (bytes_eq a.local a.local) (bytes_eq a.domain a.domain) (bytes_same a.local a.local refl) (bytes_same a.domain a.domain refl)
+
+-- nodes that pass the test are the same
+pub node_true : (m n : Node) → same_node m n ≡ true → m ≡ n
+node_true (Alias m) (Alias n) e = ap Alias (eqb-true m n e)
+node_true (Include m) (Include n) e = ap Include (eqb-true m n e)
+node_true (Mailbox a) (Mailbox b) e = ap Mailbox (address_true a b e)
+node_true (Remote a) (Remote b) e = ap Remote (address_true a b e)
+node_true (Missing s) (Missing t) e = ap Missing (bytes_true s t e)
+node_true (NoInclude s) (NoInclude t) e = ap NoInclude (bytes_true s t e)
+node_true (Command s) (Command t) e = ap Command (bytes_true s t e)
+node_true (File s) (File t) e = ap File (bytes_true s t e)
+node_true m n e = absurd (false≢true e)
+
+itself : (n : Node) → same_node n n ≡ true
+itself (Alias n) = eq-eqb n n refl
+itself (Include n) = eq-eqb n n refl
+itself (Mailbox a) = address_same a
+itself (Remote a) = address_same a
+itself (Missing t) = bytes_same t t refl
+itself (NoInclude t) = bytes_same t t refl
+itself (Command t) = bytes_same t t refl
+itself (File t) = bytes_same t t refl
+
+pub node_same : (m n : Node) → m ≡ n → same_node m n ≡ true
+node_same m n e = subst (λ (x : Node). same_node m x ≡ true) e (itself m)
+
+-- A final node is told by its key.
+pub address_from : List ℕ → AddressParts
+address_from [] = address_at [] []
+address_from (n ∷ text) = address_at (drop n text) (take n text)
+
+node_from : List ℕ → Node
+node_from [] = Alias 0
+node_from (k ∷ rest) =
+    cond (eqb k 1) (Mailbox (address_from rest)) (cond (eqb k 2) (Remote (address_from rest)) (cond (eqb k 3) (Missing rest) (cond (eqb k 4) (NoInclude rest) (cond (eqb k 5) (Command rest) (File rest)))))
+
+pub address_back : (a : AddressParts) → address_from (address_key a) ≡ a
+unfolding address_from
+address_back a = same_parts (address_from (address_key a)) a (drop_at a.domain a.local (length a.domain) refl) (take_at a.domain a.local (length a.domain) refl)
+
+node_back : (n : Node) → is_final n ≡ true → node_from (key_of n) ≡ n
+unfolding node_from key_of
+node_back (Alias n) e = absurd (false≢true e)
+node_back (Include n) e = absurd (false≢true e)
+node_back (Mailbox a) e = ap Mailbox (address_back a)
+node_back (Remote a) e = ap Remote (address_back a)
+node_back (Missing t) e = refl
+node_back (NoInclude t) e = refl
+node_back (Command t) e = refl
+node_back (File t) e = refl
+
+pub key_tells : (m n : Node) → is_final m ≡ true → is_final n ≡ true → key_of m ≡ key_of n → m ≡ n
+key_tells m n fm fn e = sym (node_back m fm) ∙ ap node_from e ∙ node_back n fn
+
+-- a final node is no entry
+pub final_alias : (n : Node) → is_final n ≡ true → (k : ℕ) → same_node n (Alias k) ≡ false
+final_alias (Alias n) e k = absurd (false≢true e)
+final_alias (Include n) e k = absurd (false≢true e)
+final_alias (Mailbox a) e k = refl
+final_alias (Remote a) e k = refl
+final_alias (Missing t) e k = refl
+final_alias (NoInclude t) e k = refl
+final_alias (Command t) e k = refl
+final_alias (File t) e k = refl
+
+pub final_include : (n : Node) → is_final n ≡ true → (k : ℕ) → same_node n (Include k) ≡ false
+final_include (Alias n) e k = absurd (false≢true e)
+final_include (Include n) e k = absurd (false≢true e)
+final_include (Mailbox a) e k = refl
+final_include (Remote a) e k = refl
+final_include (Missing t) e k = refl
+final_include (NoInclude t) e k = refl
+final_include (Command t) e k = refl
+final_include (File t) e k = refl
+
+-- a node that stands somewhere is among them
+pub any_at : (nodes : List Node) (k : ℕ) (n : Node) → slice_get nodes k ≡ Some n → list_any (same_node n) nodes ≡ true
+any_at [] k n e = absurd (none-some n e)
+any_at (x ∷ xs) zero n e = or_left (same_node n x) (list_any (same_node n) xs) (node_same n x (sym (same_Some x n e)))
+any_at (x ∷ xs) (suc k) n e = or_right (same_node n x) (list_any (same_node n) xs) (any_at xs k n e)
+
+-- where no key is this one, no node is
+pub none_by_key : {X : Type 0} (p : X → Bool) (q : List ℕ → Bool) (key : X → List ℕ) → (xs : List X) → ((x : X) → p x ≡ true → q (key x) ≡ true) → list_any q (map key xs) ≡ false → list_any p xs ≡ false
+none_by_key p q key [] tells none = refl
+none_by_key p q key (x ∷ xs) tells none =
+    let parts = or_parts (q (key x)) (list_any q (map key xs)) none in
+    or_from (p x) (list_any p xs) (false_from_ne_true (p x) (λ e. absurd (true≢false (sym (tells x e) ∙ parts.0)))) (none_by_key p q key xs tells parts.1)
+
+first_within : {X : Type 0} (p : X → Bool) (xs : List X) → list_any p xs ≡ true → position_or_len p xs < length xs
+first_within p [] e = absurd (false≢true e)
+first_within p (x ∷ xs) e = at (p x) e (first_within p xs) where
+  at : (b : Bool) → (b || list_any p xs) ≡ true → (list_any p xs ≡ true → position_or_len p xs < length xs) → cond (not b) (1 + position_or_len p xs) 0 < suc (length xs)
+  at true f rest = omega arith
+  at false f rest = let r = rest f in omega arith
+
+-- where there is no place, no element passes
+pub none_by_place : {X : Type 0} (p : X → Bool) (xs : List X) → position p xs ≡ None → list_any p xs ≡ false
+none_by_place p xs none =
+    false_from_ne_true (list_any p xs) (λ some.
+    none-some (position_or_len p xs) (sym none ∙ cond-true (ltb (position_or_len p xs) (length xs)) (Some (position_or_len p xs)) None (lt-ltb (position_or_len p xs) (length xs) (first_within p xs some))))

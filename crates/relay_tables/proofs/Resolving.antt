@@ -1,0 +1,81 @@
+-- What a name stands for, step by step.
+use Rattle.std.proofs.Common.{◌≡◌, ℕ, suc, ◌+◌, arith, not, Bool, true, false, cond, ◌||◌, ltb, Option, Some, None, is_some, List, [], ◌∷◌, length, position, refl, sym, ap, ◌∙◌}
+use Rattle.std.specs.Prelude.{option_map, option_and_then, option_to_list}
+use Rattle.std.specs.List.{list_any, position_or_len}
+use Rattle.std.proofs.lemmas.Bool.{lt-ltb}
+use Rattle.std.proofs.lemmas.Bool.Decides.{nat_tests}
+use Rattle.relay_text.specs.Bytes.{first_of}
+use Rattle.relay_tables.specs.Directory.{Directory}
+use Rattle.relay_tables.specs.Targets.{resolved, target_from, alias_beside, base_name, has_mailbox, mailbox_of}
+use Rattle.relay_tables.specs.declared.target.Target.{Target}
+use Rattle.relay_tables.specs.declared.target.Target.TheVariants.{Alias, Mailbox, Missing}
+
+first_below : {X : Type 0} (p : X → Bool) (xs : List X) → ltb (position_or_len p xs) (length xs) ≡ list_any p xs
+first_below p [] = refl
+first_below p (x ∷ xs) = at (p x) (first_below p xs) where
+  at : (b : Bool) → ltb (position_or_len p xs) (length xs) ≡ list_any p xs → ltb (cond (not b) (1 + position_or_len p xs) 0) (suc (length xs)) ≡ (b || list_any p xs)
+  at true h = lt-ltb 0 (suc (length xs)) (omega arith)
+  at false h = let same : ltb (1 + position_or_len p xs) (suc (length xs)) ≡ ltb (position_or_len p xs) (length xs) = grind (arith, nat_tests) in same ∙ h
+
+-- an element of a list passes where there is a place
+pub is_some-position : {X : Type 0} (p : X → Bool) (xs : List X) → is_some (position p xs) ≡ list_any p xs
+is_some-position p xs = at (ltb (position_or_len p xs) (length xs)) (position_or_len p xs) ∙ first_below p xs where
+  at : (b : Bool) (first : ℕ) → is_some (cond b (Some first) None) ≡ b
+  at true first = refl
+  at false first = refl
+
+module _ (d : Directory) (name : List ℕ) (parent : Option ℕ) where
+  -- the alias of the name or of a base, and whether one of them has a mailbox
+  abbrev alias_with : Option (List ℕ) → Option ℕ
+  alias_with base = first_of (alias_beside d parent name ∷ option_and_then (alias_beside d parent) base ∷ [])
+
+  abbrev mailbox_with : Option (List ℕ) → Bool
+  mailbox_with base = has_mailbox d name || list_any (has_mailbox d) (option_to_list base)
+
+  alias_first : (a b : Option ℕ) (more : List (Option Target)) (number : ℕ) → first_of (a ∷ b ∷ []) ≡ Some number
+      → Alias number ≡ target_from d (first_of (option_map Alias a ∷ option_map Alias b ∷ more))
+  alias_first (Some n) b more number e = cc
+  alias_first None (Some n) more number e = cc
+  alias_first None None more number e = cc
+
+  no_alias : (a b : Option ℕ) (more : List (Option Target)) → first_of (a ∷ b ∷ []) ≡ None
+      → first_of (option_map Alias a ∷ option_map Alias b ∷ more) ≡ first_of more
+  no_alias (Some n) b more e = cc
+  no_alias None (Some n) more e = cc
+  no_alias None None more e = refl
+
+  mailbox_first : (base : Option (List ℕ)) → (has_mailbox d name || list_any (has_mailbox d) (option_to_list base)) ≡ true
+      → target_from d (first_of (mailbox_of d name ∷ option_and_then (mailbox_of d) base ∷ [])) ≡ Mailbox
+  mailbox_first None h = one (has_mailbox d name) h where
+    one : (b : Bool) → (b || false) ≡ true → target_from d (first_of (cond b (Some Mailbox) None ∷ None ∷ [])) ≡ Mailbox
+    one true e = refl
+    one false e = cc
+  mailbox_first (Some base) h = two (has_mailbox d name) (has_mailbox d base) h where
+    two : (a b : Bool) → (a || (b || false)) ≡ true → target_from d (first_of (cond a (Some Mailbox) None ∷ cond b (Some Mailbox) None ∷ [])) ≡ Mailbox
+    two true b e = refl
+    two false true e = refl
+    two false false e = cc
+
+  no_mailbox : (base : Option (List ℕ)) → (has_mailbox d name || list_any (has_mailbox d) (option_to_list base)) ≡ false
+      → target_from d (first_of (mailbox_of d name ∷ option_and_then (mailbox_of d) base ∷ [])) ≡ Missing
+  no_mailbox None h = one (has_mailbox d name) h where
+    one : (b : Bool) → (b || false) ≡ false → target_from d (first_of (cond b (Some Mailbox) None ∷ None ∷ [])) ≡ Missing
+    one true e = cc
+    one false e = refl
+  no_mailbox (Some base) h = two (has_mailbox d name) (has_mailbox d base) h where
+    two : (a b : Bool) → (a || (b || false)) ≡ false → target_from d (first_of (cond a (Some Mailbox) None ∷ cond b (Some Mailbox) None ∷ [])) ≡ Missing
+    two true b e = cc
+    two false true e = cc
+    two false false e = refl
+
+  pub resolved_alias : (base : Option (List ℕ)) → base ≡ base_name d name → (number : ℕ) → Some number ≡ alias_with base → Alias number ≡ resolved d name parent
+  unfolding resolved
+  resolved_alias base is number e = alias_first _ _ _ number (sym (e ∙ ap alias_with is))
+
+  pub resolved_mailbox : (base : Option (List ℕ)) → base ≡ base_name d name → None ≡ alias_with base → true ≡ mailbox_with base → Mailbox ≡ resolved d name parent
+  unfolding resolved
+  resolved_mailbox base is e h = sym (ap (target_from d) (no_alias _ _ _ (sym (e ∙ ap alias_with is))) ∙ mailbox_first (base_name d name) (sym (h ∙ ap mailbox_with is)))
+
+  pub resolved_missing : (base : Option (List ℕ)) → base ≡ base_name d name → None ≡ alias_with base → false ≡ mailbox_with base → Missing ≡ resolved d name parent
+  unfolding resolved
+  resolved_missing base is e h = sym (ap (target_from d) (no_alias _ _ _ (sym (e ∙ ap alias_with is))) ∙ no_mailbox (base_name d name) (sym (h ∙ ap mailbox_with is)))

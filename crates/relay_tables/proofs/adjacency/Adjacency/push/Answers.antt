@@ -1,0 +1,22 @@
+use Rattle.std.proofs.Common.{rules, ◌≡◌, ◌++◌, length}
+use Rattle.relay_chains.proofs.Texts.{cut-push, texts-push}
+use Rattle.relay_tables.proofs.adjacency.Adjacency.push.Goals as goal
+
+pub invariant_of-self-2 : goal.invariant_of-self-2
+invariant_of-self-2 c =
+    let numbers = c.self.inside.numbers.items in
+    let ends = c.self.inside.ends.items in
+    let row = c.args.row.now in
+    let grown : c.extend_from_slice.new.self.items ≡ numbers ++ row = c.in_ok-extend_from_slice.ensures.items in
+    let end : c.len-end.result ≡ length (numbers ++ row) = search rules in
+    rw (c.push_reserved.ensures.items, c.reserve.ensures.items, grown, end) (cut-push numbers row ends c.self.invariant)
+
+pub returns-clause-ok : goal.returns-clause-ok
+returns-clause-ok c =
+    let numbers = c.self.inside.numbers.items in
+    let ends = c.self.inside.ends.items in
+    let row = c.args.row.now in
+    let grown : c.extend_from_slice.new.self.items ≡ numbers ++ row = c.in_ok-extend_from_slice.ensures.items in
+    let end : c.len-end.result ≡ length (numbers ++ row) = search rules in
+    rw (← c.self.view_is, c.push_reserved.ensures.items, c.reserve.ensures.items, grown, end)
+    (texts-push numbers row 0 ends c.self.invariant.within c.self.invariant.whole)

@@ -1,0 +1,60 @@
+use Rattle.std.proofs.Common.{arith, ◌≡◌, ◌<◌, Err, length, map, ap}
+use Rattle.std.specs.List.{concat}
+use Rattle.std.proofs.lemmas.List.Elements.{All-weaker}
+use Rattle.std.proofs.lemmas.Result.{err_from_is_err_and}
+use Rattle.relay_tables.specs.declared.fault.TableFault.{TableFault}
+use Rattle.relay_tables.specs.GraphParts.{GraphParts}
+use Rattle.relay_tables.specs.Targets.{targets_of}
+use Rattle.relay_tables.specs.Graphs.{entry_nodes}
+use Rattle.relay_tables.proofs.Assembled.{rows_below, rows_count, entries_within, graph_is, too_many_owners, not_refused, refused_by}
+use Rattle.relay_tables.proofs.graph.Graph.build.Goals as goal
+
+pub transposed-requires-clause-numbers : goal.transposed-requires-clause-numbers
+transposed-requires-clause-numbers c =
+    let r = c.in_ok-rows.rows in
+    let d = c.args.tables.now in
+    let all = rows_below r.nodes.items r.children (map (targets_of d) (entry_nodes d)) c.in_ok-rows.ensures.rows.rows_are in
+    All-weaker (λ n. n < length r.nodes.items) (λ n. n < c.len-count.result) (λ n below. omega (arith, c.len-count.ensures, r.nodes.ok.0)) (concat r.children) all
+
+pub transposed-requires-clause-rows : goal.transposed-requires-clause-rows
+transposed-requires-clause-rows c =
+    let r = c.in_ok-rows.rows in
+    let d = c.args.tables.now in
+    let rs = c.args.recipients.now in
+    let count = rows_count d rs r.nodes.items r.children r.roots.items c.in_ok-rows.ensures.rows in
+    let within = entries_within d rs r.nodes.items r.children r.roots.items c.in_ok-rows.ensures.rows in
+    omega (arith, ap length c.in_ok-rows.ensures.rows.nodes_are, c.in_ok-rows.ensures.within, c.requires.names)
+
+pub returns-in_err-rows-clause-refusal : goal.returns-in_err-rows-clause-refusal
+returns-in_err-rows-clause-refusal c =
+    let p = err_from_is_err_and c.from_residual.result c.from_residual.ensures.1 in
+    rw (p.1, p.2)
+    (refused_by c.args.tables.now c.args.recipients.now GraphParts c.in_err-rows.field-0.0 c.args.names c.args.owners
+    (λ e. c.in_err-rows.ensures.full (ap (λ (x : TableFault). Err x) e)) (λ e. c.in_err-rows.ensures.owners (ap (λ (x : TableFault). Err x) e)))
+
+pub returns-then-owned-owners-clause-refusal : goal.returns-then-owned-owners-clause-refusal
+returns-then-owned-owners-clause-refusal c =
+    too_many_owners c.args.tables.now c.args.recipients.now c.args.names c.args.owners c.in_ok-rows.ensures.within (omega (arith, c.count_owners-owned.ensures))
+
+pub invariant_of-result : goal.invariant_of-result
+invariant_of-result c =
+    let r = c.in_ok-rows.rows in
+    let d = c.args.tables.now in
+    let rs = c.args.recipients.now in
+    let count = rows_count d rs r.nodes.items r.children r.roots.items c.in_ok-rows.ensures.rows in
+    let within = entries_within d rs r.nodes.items r.children r.roots.items c.in_ok-rows.ensures.rows in
+    let size : c.len-count.result ≡ length r.nodes.items = omega (arith, c.len-count.ensures, r.nodes.ok.0) in
+    record { few = omega arith; parents_are = rw size at c.in_ok-parents.ensures }
+
+pub returns-clause-graph : goal.returns-clause-graph
+returns-clause-graph c =
+    let r = c.in_ok-rows.rows in
+    let d = c.args.tables.now in
+    let rs = c.args.recipients.now in
+    rw c.into_vec.ensures.senders
+    (graph_is d rs r.nodes.items r.children r.roots.items c.in_ok-rows.ensures.rows _ c.number_owners.new.senders c.in_ok-numbers.numbers.items
+    (c.in_ok-numbers.ensures _ c.in_ok-senders.ensures) c.into_vec.ensures.distinct)
+
+pub returns-clause-refusal : goal.returns-clause-refusal
+returns-clause-refusal c =
+    not_refused c.args.tables.now c.args.recipients.now c.args.names c.args.owners c.in_ok-rows.ensures.within (omega (arith, c.count_owners-owned.ensures, c.if-owned-owners.false))

@@ -1,0 +1,14 @@
+pub mod Directory
+pub mod Parts
+pub mod Targets
+pub mod Senders
+pub mod FirstPlaces
+pub mod Tables
+pub mod GraphParts
+pub mod Graphs
+pub mod Adjacency
+pub mod Transpose
+pub mod Numbering
+pub mod Rowing
+pub mod Sending
+pub mod Building

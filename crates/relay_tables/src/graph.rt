@@ -1,0 +1,150 @@
+//! The numbered graph of what leads to what.
+ghost use Rattle.std.specs.Prelude.{◌≡◌, ◌<◌, ◌≤◌, ◌^◌, ◌+◌, ◌++◌, length, slice_get, Some, Err, IfOk, OnOk, option_map, option_copied};
+ghost use Rattle.relay_tables.specs.Graphs.{IsGraphOf, refusal_of, Refuses, child_numbers, parent_numbers, sender_number_after};
+
+use crate::adjacency::Adjacency;
+use crate::building::{Rows, number_all};
+use crate::fault::TableFault;
+use crate::node::Node;
+use crate::sending::{SenderList, count_owners, number_owners};
+use crate::tables::Tables;
+use crate::transpose::transposed;
+use relay_text::Address;
+use std::alloc::Global;
+use std::marker::Model;
+
+/// Every alias of the tables, every include file and every target of an item or a recipient as a numbered node, and which leads to
+/// which; and the senders that owners give, numbered too.
+///
+/// Aliases have the first numbers, then include files, then all other targets as they first stand in the items of aliases, of include
+/// files, and among the recipients. Children and parents lie in one vector each: 4 bytes for an item, and 8 for a node.
+#[derive(Drop)]
+pub struct Graph {
+    nodes: Vec<Node>,
+    children: Adjacency,
+    parents: Adjacency,
+    roots: Vec<u32>,
+    senders: Vec<Option<Address>>,
+    owners: Vec<Option<u32>>,
+}
+
+impl Model for Graph {
+    ghost use Rattle.std.specs.Prelude.{length};
+    ghost use Rattle.relay_tables.specs.GraphParts.{GraphParts};
+    ghost use Rattle.relay_tables.specs.Building.{AreParents};
+
+    ghost Value = { GraphParts };
+
+    ghost view = { λ a. record { nodes = a.nodes.items; children = a.children; roots = a.roots.items; senders = a.senders.items; owners = a.owners.items } };
+
+    ghost invariant = { λ a. AreParents (length a.nodes.items) a.children a.parents };
+}
+
+impl Graph {
+    /// The graph of the tables, and of the envelope's sender, `None` for the null sender, and recipients.
+    ///
+    /// `TooManyNames` where there are more nodes than `names`, otherwise `TooManyOwners` where more aliases have an owner than
+    /// `owners`, whatever they give as sender. The time is near linear in the items and recipients.
+    pub fn build(
+        alloc: Global,
+        tables: &Tables,
+        sender: Option<&Address>,
+        recipients: &[Address],
+        names: usize,
+        owners: usize,
+    ) -> Result<Graph, TableFault>
+        requires names { names ≤ 2 ^ 24 }
+        requires owners { owners ≤ 2 ^ 24 }
+        ensures graph { IfOk result (IsGraphOf tables.now (option_map (λ a. a.now) sender.entry) recipients.now) }
+        ensures refusal { Refuses result (refusal_of tables.now recipients.now names owners) }
+    {
+        let rows = number_all(alloc, tables, recipients, names)?;
+        let owned = count_owners(tables);
+        if owned > owners {
+            return Err(TableFault::TooManyOwners);
+        }
+        let Rows {
+            nodes,
+            children,
+            roots,
+        } = rows;
+        let count = nodes.len();
+        let parents = transposed(alloc, &children, count)?;
+        let mut senders = SenderList::new(alloc, owned + 1, sender)?;
+        let numbers = number_owners(alloc, tables, &mut senders)?;
+        Ok(Graph {
+            nodes,
+            children,
+            parents,
+            roots,
+            senders: senders.into_vec(),
+            owners: numbers,
+        })
+    }
+
+    /// How many nodes there are.
+    pub fn nodes(&self) -> usize
+        ensures { result ≡ length self.now.nodes }
+    {
+        self.nodes.len()
+    }
+
+    /// A node by its number.
+    pub fn node(&self, n: u32) -> &Node
+        requires { n < length self.now.nodes }
+        ensures { slice_get self.now.nodes n ≡ Some result.now }
+    {
+        &self.nodes[n as usize]
+    }
+
+    /// The targets of a node's items, in item order, with repeats; none of a node that is no alias or include file.
+    pub fn children(&self, n: u32) -> &[u32]
+        requires { n < length self.now.nodes }
+        ensures { result.now ≡ child_numbers self.now n }
+    {
+        self.children.row(n as usize)
+    }
+
+    /// The nodes with this child, ascending, each once.
+    pub fn parents(&self, n: u32) -> &[u32]
+        requires { n < length self.now.nodes }
+        ensures { result.now ≡ parent_numbers self.now n }
+    {
+        self.parents.row(n as usize)
+    }
+
+    /// The recipients' targets, in the recipients' order, with repeats.
+    pub fn roots(&self) -> &[u32]
+        ensures { result.now ≡ self.now.roots }
+    {
+        self.roots.as_slice()
+    }
+
+    /// How many senders there are: at least one, since the envelope's has number 0.
+    pub fn senders(&self) -> usize
+        ensures { result ≡ length self.now.senders }
+    {
+        self.senders.len()
+    }
+
+    /// A sender by its number, `None` for the null sender.
+    pub fn sender(&self, s: u32) -> Option<&Address>
+        requires { s < length self.now.senders }
+        ensures { slice_get self.now.senders s ≡ Some (option_copied result) }
+    {
+        self.senders[s as usize].as_ref()
+    }
+
+    /// The number of the sender of what a node leads to, where the node is reached under the sender `s`: an alias with an owner sets
+    /// its owner's, and any other node leaves it (local(8), "delivery status notifications").
+    pub fn sender_after(&self, s: u32, n: u32) -> u32
+        requires sender { s < length self.now.senders }
+        requires node { n < length self.now.nodes }
+        ensures { result ≡ sender_number_after self.now s n }
+    {
+        match self.owners.get(n as usize) {
+            Some(Some(owner)) => *owner,
+            _ => s,
+        }
+    }
+}

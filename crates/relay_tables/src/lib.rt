@@ -1,0 +1,35 @@
+//! What each local name stands for, who owns a list, and the graph of what leads to what.
+#![tactic(auto)]
+
+mod adjacency;
+mod building;
+pub mod fault;
+mod first_places;
+pub mod graph;
+pub mod include_entry;
+mod indexing;
+mod keys;
+mod lead;
+mod leading;
+pub mod local;
+pub mod node;
+mod numbering;
+pub mod parsed;
+mod rowing;
+mod sending;
+pub mod tables;
+pub mod target;
+#[cfg(test)]
+mod tests_graph;
+#[cfg(test)]
+mod tests_tables;
+mod transpose;
+
+pub use fault::TableFault;
+pub use graph::Graph;
+pub use include_entry::IncludeEntry;
+pub use local::Local;
+pub use node::Node;
+pub use parsed::parsed_files;
+pub use tables::Tables;
+pub use target::Target;

@@ -1,0 +1,154 @@
+//! Nodes by their numbers.
+ghost use Rattle.std.specs.Prelude.{◌≡◌, ◌<◌, ◌≤◌, ◌+◌, ◌^◌, ◌∷◌, ◌++◌, [], true, length, map, slice_get, Some, IfOk, OnOk, Err};
+ghost use Rattle.std.specs.List.{range_with_len};
+ghost use Rattle.relay_tables.specs.declared.node.Node.TheVariants.{Alias, Include};
+ghost use Rattle.relay_tables.specs.Numbering.{node_of, entries_of, with_all, with_nodes, is_final, Numbers, IsGood};
+
+use crate::fault::TableFault;
+use crate::keys::{make_node, put_key};
+use crate::lead::Lead;
+use crate::node::Node;
+use relay_chains::Interner;
+use std::alloc::{AllocError, Global};
+use std::marker::Model;
+
+/// Nodes in the order of their numbers, each once: the aliases first, then the include files, and then all others as they come.
+///
+/// An alias or include file has its number by its place; any other node is found by its kind and its bytes.
+#[derive(Drop)]
+pub(crate) struct Numbering {
+    nodes: Vec<Node>,
+    texts: Interner,
+    key: Vec<u8>,
+    aliases: usize,
+    includes: usize,
+    limit: usize,
+}
+
+impl Model for Numbering {
+    ghost use Rattle.relay_tables.specs.Numbering.{Numbered, AreNumbered};
+
+    ghost Value = { Numbered };
+
+    ghost view = { λ a. record { nodes = a.nodes.items; aliases = a.aliases; includes = a.includes; limit = a.limit } };
+
+    ghost invariant = { λ a. AreNumbered a.nodes.items a.aliases a.includes a.limit a.texts.keys a.texts.limit };
+}
+
+impl Numbering {
+    /// The aliases and include files, where there are so many, and at most `limit` nodes ever. Take about as many heads as other
+    /// nodes are expected.
+    pub(crate) fn new(
+        alloc: Global,
+        aliases: usize,
+        includes: usize,
+        heads: usize,
+        limit: usize,
+    ) -> Result<Numbering, TableFault>
+        requires heads { 1 ≤ heads }
+        requires limit { limit ≤ 2 ^ 24 }
+        ensures made { IfOk result (λ s. s ≡ record { nodes = entries_of aliases includes; aliases = aliases; includes = includes; limit = limit }) }
+        ensures full { result ≡ Err TableFault.TooManyNames → limit < aliases + includes }
+        ensures owners { result ≡ Err TableFault.TooManyOwners → ⊥ }
+    {
+        if limit < aliases || limit - aliases < includes {
+            return Err(TableFault::TooManyNames);
+        }
+        let texts = Interner::new(alloc, heads, limit - aliases - includes)?;
+        let mut nodes = Vec::with_capacity(alloc, aliases + includes)?;
+        push_aliases(aliases, &mut nodes)?;
+        push_includes(includes, &mut nodes)?;
+        Ok(Numbering {
+            nodes,
+            texts,
+            key: Vec::new(alloc),
+            aliases,
+            includes,
+            limit,
+        })
+    }
+
+    /// The number of a node. A new one gets the next number, where there is room for it.
+    pub(crate) fn number(&mut self, alloc: Global, lead: Lead<'_>) -> Result<u32, TableFault>
+        requires { IsGood self.old.aliases self.old.includes (node_of lead) }
+        ensures number { IfOk result (λ number. slice_get self.new.nodes number ≡ Some (node_of lead.entry)) }
+        ensures numbers { Numbers self.old (node_of lead.entry ∷ []) result self.new }
+    {
+        let first_include = self.aliases as u32;
+        match lead {
+            Lead::Alias(number) => Ok(number),
+            Lead::Include(number) => Ok(first_include + number),
+            _ => self.number_final(alloc, lead),
+        }
+    }
+
+    // The same of a node that is no entry.
+    fn number_final(&mut self, alloc: Global, lead: Lead<'_>) -> Result<u32, TableFault>
+        requires good { IsGood self.old.aliases self.old.includes (node_of lead) }
+        requires behind { is_final (node_of lead) ≡ true }
+        ensures number { IfOk result (λ number. slice_get self.new.nodes number ≡ Some (node_of lead.entry)) }
+        ensures numbers { Numbers self.old (node_of lead.entry ∷ []) result self.new }
+    {
+        put_key(lead, &mut self.key)?;
+        if let Some(number) = self.texts.find(&self.key) {
+            return Ok((self.aliases + self.includes) as u32 + number);
+        }
+        let number = self.nodes.len();
+        if number == self.limit {
+            return Err(TableFault::TooManyNames);
+        }
+        // What can fail comes first, and changes nothing that is seen.
+        let node = make_node(alloc, lead)?;
+        self.nodes.reserve(1)?;
+        if self.texts.intern(&self.key).is_err() {
+            return Err(TableFault::Memory);
+        }
+        self.nodes.push_reserved(node);
+        Ok(number as u32)
+    }
+
+    /// How many aliases there are.
+    pub(crate) fn aliases(&self) -> usize
+        ensures { result ≡ self.now.aliases }
+    {
+        self.aliases
+    }
+
+    /// The nodes in the order of their numbers, without taking memory.
+    pub(crate) fn into_nodes(self) -> Vec<Node>
+        ensures nodes { result.items ≡ self.nodes }
+        ensures within { length self.nodes ≤ self.limit }
+    {
+        let Numbering {
+            nodes,
+            texts: _,
+            key: _,
+            aliases: _,
+            includes: _,
+            limit: _,
+        } = self;
+        nodes
+    }
+}
+
+// Puts so many aliases at the end.
+fn push_aliases(count: usize, nodes: &mut Vec<Node>) -> Result<(), AllocError>
+    requires { count ≤ 2 ^ 24 }
+    ensures { OnOk result (nodes.new.items ≡ nodes.old.items ++ map Alias (range_with_len 0 count)) }
+{
+    for number in 0..count {
+        nodes.push(Node::Alias(number as u32))?;
+    }
+    Ok(())
+}
+
+// Puts so many include files at the end.
+fn push_includes(count: usize, nodes: &mut Vec<Node>) -> Result<(), AllocError>
+    requires { count ≤ 2 ^ 24 }
+    ensures { OnOk result (nodes.new.items ≡ nodes.old.items ++ map Include (range_with_len 0 count)) }
+{
+    for number in 0..count {
+        nodes.push(Node::Include(number as u32))?;
+    }
+    Ok(())
+}

@@ -1,0 +1,249 @@
+//! The tables by which names are resolved.
+use crate::first_places::FirstPlaces;
+use crate::include_entry::IncludeEntry;
+use crate::indexing::{entry_owners, entry_places, include_places, mailbox_places};
+use crate::local::Local;
+use crate::target::Target;
+use relay_aliasfile::{AliasFile, Entry, Item, MailboxFile};
+use relay_text::{Address, Seq, Text, TextSet, split_place};
+use std::alloc::{AllocError, Global};
+use std::marker::Model;
+
+/// The local domains, the alias table, the job's include files and the mailboxes, with indices by which a name is found.
+///
+/// Each index holds a copy of its texts. Look-ups take no memory and need about one comparison, whatever the size of the tables;
+/// a domain takes as many as the logarithm of their number.
+#[derive(Drop)]
+pub struct Tables {
+    local: Local,
+    aliases: Seq<Entry>,
+    includes: Seq<IncludeEntry>,
+    mailboxes: Seq<Text>,
+    domains: TextSet,
+    alias_places: FirstPlaces,
+    include_places: FirstPlaces,
+    mailbox_places: FirstPlaces,
+    owners: Vec<Option<u32>>,
+}
+
+impl Model for Tables {
+    ghost use Rattle.relay_tables.specs.Directory.{Directory};
+    ghost use Rattle.relay_tables.specs.Tables.{AreTables};
+
+    ghost Value = { Directory };
+
+    ghost view = { λ a. record { local = a.local; aliases = a.aliases; includes = a.includes; mailboxes = a.mailboxes } };
+
+    ghost invariant = { λ a. AreTables (record { local = a.local; aliases = a.aliases; includes = a.includes; mailboxes = a.mailboxes }) a.domains a.alias_places a.include_places a.mailbox_places a.owners.items };
+}
+
+ghost use Rattle.std.specs.Prelude.{◌≡◌, ◌≢◌, ◌<◌, ◌-◌, ◌^◌, ◌||◌, [], ◌∷◌, length, Some, option_map, option_and_then, option_to_list, IsTrue, IsSome, IfOk, IfSome, All, AllPairs};
+ghost use Rattle.std.specs.List.{list_all, list_any};
+ghost use Rattle.relay_text.specs.Bytes.{folded, first_of};
+ghost use Rattle.relay_text.specs.Addresses.{is_origin};
+ghost use Rattle.relay_tables.specs.Parts.{is_local_part, is_good_item, is_good_entry, is_good_include};
+ghost use Rattle.relay_tables.specs.Tables.{IsLawful};
+ghost use Rattle.relay_tables.specs.Targets.{resolved, is_local_address, include_number, alias_beside, base_name, has_mailbox, at_origin};
+ghost use Rattle.relay_tables.specs.Senders.{owner_number, owner_entry, one_address, sender_by};
+
+impl Tables {
+    /// The tables of these settings and files.
+    ///
+    /// Names of entries, bare items and the origin are what relay_aliasfile's parsers and relay_text give: local parts of at most 64
+    /// octets as they are written, and a folded domain of at most 189 octets. Of entries with one name the first holds. `Err` where
+    /// memory runs out.
+    pub fn build(
+        alloc: Global,
+        local: Local,
+        aliases: AliasFile,
+        includes: Vec<IncludeEntry>,
+        mailboxes: MailboxFile,
+    ) -> Result<Tables, AllocError>
+        requires origin { IsTrue (is_origin local.origin) }
+        requires domains { All (λ domain. folded domain ≡ domain) local.domains }
+        requires distinct { AllPairs (λ a b. a.path ≢ b.path) includes.items }
+        requires entries { IsTrue (list_all is_good_entry aliases.entries) }
+        requires items { IsTrue (list_all is_good_include includes.items) }
+        requires few_entries { length aliases.entries < 2 ^ 32 - 2 }
+        requires few_includes { length includes.items < 2 ^ 32 - 2 }
+        requires few_mailboxes { length mailboxes.names < 2 ^ 32 - 2 }
+        ensures { IfOk result (λ tables. tables ≡ record { local = local; aliases = aliases.entries; includes = includes.items; mailboxes = mailboxes.names }) }
+    {
+        let AliasFile { entries, faults: _ } = aliases;
+        let MailboxFile { names, faults: _ } = mailboxes;
+        let domains = TextSet::of(alloc, local.domains.as_slice())?;
+        let alias_places = entry_places(alloc, entries.as_slice())?;
+        let include_places = include_places(alloc, &includes)?;
+        let mailbox_places = mailbox_places(alloc, names.as_slice())?;
+        let owners = entry_owners(alloc, entries.as_slice(), &alias_places)?;
+        Ok(Tables {
+            local,
+            aliases: entries,
+            includes: Seq::of(includes),
+            mailboxes: names,
+            domains,
+            alias_places,
+            include_places,
+            mailbox_places,
+            owners,
+        })
+    }
+
+    /// What a folded name stands for where it stands in the alias `parent`, or where that is `None`, in an include file or the
+    /// envelope: an alias before a mailbox (local(8)), and the name before its base, which stands before the delimiter (local(8),
+    /// "address extension"). The alias `parent` itself isn't taken again, so an entry that lists its own name means the mailbox.
+    pub fn resolve(&self, name: &[u8], parent: Option<u32>) -> Target
+        requires name { folded name.now ≡ name.now }
+        requires parent { IfSome parent (λ number. number < length self.now.aliases) }
+        ensures { result ≡ resolved self.now name.now parent }
+    {
+        let base = self.base_of(name);
+        if let Some(number) = self.alias_among(name, base, parent) {
+            Target::Alias(number)
+        } else if self.has_mailbox_among(name, base) {
+            Target::Mailbox
+        } else {
+            Target::Missing
+        }
+    }
+
+    /// Whether an address's domain is local: the origin, or one of the other local domains (postconf(5), "mydestination").
+    pub fn is_local(&self, address: &Address) -> bool
+        ensures { result ≡ is_local_address self.now.local address.now }
+    {
+        let domain = address.domain();
+        domain == self.local.origin.as_bytes() || self.domains.contains(domain)
+    }
+
+    /// The alias `owner-NAME` of an alias NAME, or `None` where there is none (local(8), "delivery status notifications").
+    pub fn owner_of(&self, alias: u32) -> Option<u32>
+        requires { alias < length self.now.aliases }
+        ensures { result ≡ owner_number self.now alias }
+    {
+        self.owners[alias as usize]
+    }
+
+    /// The sender of what an alias with an owner expands to: the owner alias's own address at the origin. Where the settings say
+    /// `expand`, and the owner alias lists exactly one item and that is an address, it is that address, a bare name at the origin
+    /// in the case as spelled (postconf(5), "expand_owner_alias"). `Err` where memory runs out.
+    pub fn owner_sender(&self, alloc: Global, alias: u32) -> Result<Address, AllocError>
+        requires { IsSome (owner_number self.now alias) }
+        ensures { IfOk result (λ a. option_map (sender_by self.now) (owner_entry self.now alias) ≡ Some a) }
+    {
+        let Some(owner) = self.owner_of(alias) else {
+            unreachable!()
+        };
+        let entry = &self.aliases.as_slice()[owner as usize];
+        if self.local.expand
+            && let Some(address) = self.one_address(alloc, entry.items.as_slice())?
+        {
+            return Ok(address);
+        }
+        self.at_origin(alloc, entry.name.as_bytes())
+    }
+
+    // The entries of the alias table.
+    pub(crate) fn aliases(&self) -> &[Entry]
+        ensures entries { result.now ≡ self.now.aliases }
+        ensures lawful { IsLawful self.now }
+    {
+        self.aliases.as_slice()
+    }
+
+    // The include files.
+    pub(crate) fn includes(&self) -> &[IncludeEntry]
+        ensures entries { result.now ≡ self.now.includes }
+        ensures lawful { IsLawful self.now }
+    {
+        self.includes.as_slice()
+    }
+
+    // The number of the include file of a path.
+    pub(crate) fn include_of(&self, path: &[u8]) -> Option<u32>
+        ensures { result ≡ include_number self.now path.now }
+    {
+        self.include_places.find(path)
+    }
+
+    // The domain of a name that has none.
+    pub(crate) fn origin(&self) -> &[u8]
+        ensures origin { result.now ≡ self.now.local.origin }
+        ensures valid { IsTrue (is_origin self.now.local.origin) }
+    {
+        self.local.origin.as_bytes()
+    }
+
+    // A local part at the origin.
+    pub(crate) fn at_origin(&self, alloc: Global, local: &[u8]) -> Result<Address, AllocError>
+        requires { IsTrue (is_local_part local.now) }
+        ensures { IfOk result (λ a. a ≡ at_origin self.now local.now) }
+    {
+        Address::new(alloc, local, self.local.origin.as_bytes())
+    }
+
+    // The one address that a list of items is.
+    fn one_address(&self, alloc: Global, items: &[Item]) -> Result<Option<Address>, AllocError>
+        requires { IsTrue (list_all is_good_item items.now) }
+        ensures { IfOk result (λ a. a ≡ one_address self.now items.now) }
+    {
+        match items {
+            [Item::Bare(name)] => {
+                let address = self.at_origin(alloc, name.as_bytes())?;
+                Ok(Some(address))
+            }
+            [Item::Full(address)] => {
+                let address = address.copy(alloc)?;
+                Ok(Some(address))
+            }
+            _ => Ok(None),
+        }
+    }
+
+    // A name without its extension, where it's split.
+    fn base_of<'a>(&self, name: &'a [u8]) -> Option<&'a [u8]>
+        ensures { option_map (λ base. base.now) result ≡ base_name self.now name.now }
+    {
+        let place = split_place(name, self.local.delimiter)?;
+        Some(&name[..place])
+    }
+
+    // The number of the alias of a name, unless it's the parent's own.
+    fn alias_beside(&self, name: &[u8], parent: Option<u32>) -> Option<u32>
+        ensures { result ≡ alias_beside self.now parent name.now }
+    {
+        let number = self.alias_places.find(name)?;
+        if parent == Some(number) {
+            None
+        } else {
+            Some(number)
+        }
+    }
+
+    // The same of a name, or else of its base.
+    fn alias_among(&self, name: &[u8], base: Option<&[u8]>, parent: Option<u32>) -> Option<u32>
+        ensures { result ≡ first_of (alias_beside self.now parent name.now ∷ option_and_then (alias_beside self.now parent) (option_map (λ b. b.now) base.entry) ∷ []) }
+    {
+        let number = self.alias_beside(name, parent);
+        if number.is_some() {
+            return number;
+        }
+        self.alias_beside(base?, parent)
+    }
+
+    // Whether there is a mailbox of a name.
+    fn has_mailbox(&self, name: &[u8]) -> bool
+        ensures { result ≡ has_mailbox self.now name.now }
+    {
+        self.mailbox_places.find(name).is_some()
+    }
+
+    // Whether there is one of a name or of its base.
+    fn has_mailbox_among(&self, name: &[u8], base: Option<&[u8]>) -> bool
+        ensures { result ≡ (has_mailbox self.now name.now || list_any (has_mailbox self.now) (option_to_list (option_map (λ b. b.now) base.entry))) }
+    {
+        match base {
+            Some(base) => self.has_mailbox(name) || self.has_mailbox(base),
+            None => self.has_mailbox(name),
+        }
+    }
+}
