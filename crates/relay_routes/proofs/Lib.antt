@@ -4,6 +4,7 @@ pub mod Folding
 pub mod NexthopFacts
 pub mod BracketFacts
 pub mod RouteFacts
+pub mod DestinationFacts
 pub mod OwnNames
 pub mod StableSorts
 pub mod MxPlaces

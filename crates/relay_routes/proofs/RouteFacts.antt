@@ -10,7 +10,7 @@ use Rattle.relay_routes.specs.Routing.{Routing}
 use Rattle.relay_routes.specs.Routes.{route_to, route_by, route_with, nexthop_hosts}
 use Rattle.relay_routes.proofs.NexthopFacts.{nexthop_again}
 
-route_parts : (router : Routing) (transport : names.Transport) (n : Nexthop) (r : Route) → route_by router transport (Some n) ≡ Ok r → (r.transport ≡ transport) × (r.nexthop ≡ n.text)
+pub route_parts : (router : Routing) (transport : names.Transport) (n : Nexthop) (r : Route) → route_by router transport (Some n) ≡ Ok r → (r.transport ≡ transport) × (r.nexthop ≡ n.text)
 route_parts router transport n r e = at (nexthop_hosts router n) e where
   at : (found : Result (List (List ℕ)) Unrouted) → result_map (route_with transport n) found ≡ Ok r → (r.transport ≡ transport) × (r.nexthop ≡ n.text)
   at (Err reason) h = absurd (let no : ⊥ = cc in no)

@@ -10,6 +10,7 @@ use Rattle.relay_routes.specs.Transports.{transport_table_of, keys_of}
 use Rattle.relay_routes.specs.Nexthops.{via_setting_of}
 use Rattle.relay_routes.specs.Exchanges.{mx_table_of, hosts_of}
 use Rattle.relay_routes.specs.Routes.{route_to, route_of, route_via_of}
+use Rattle.relay_routes.specs.Destinations.{destination_to, destination_of, destination_via_of}
 use Rattle.relay_routes.specs.Routing.{Routing}
 
 abbrev pub at : List ℕ → List ℕ → AddressParts
@@ -159,3 +160,11 @@ no_form = refl
 port_to_each : route_of (routing (codes "example.net :relay.example.com:25\n") (codes "relay.example.com MX 5 b.example.com\nrelay.example.com MX 1 a.example.com\n")) (u (codes "example.net")) ≡ Ok (record { transport = Smtp; nexthop = codes "relay.example.com:25"; hosts = codes "a.example.com:25" ∷ codes "b.example.com:25" ∷ [] })
 unfolding route_to hosts_of transport_table_of mx_table_of logical_lines_of is_domain spelling_of local_text_of split_place_of
 port_to_each = refl
+
+to_parent : destination_of keyed (u (codes "a.b.example.net")) ≡ Ok (record { transport = Relay; nexthop = codes "hub.example.com:2525" })
+unfolding destination_to transport_table_of logical_lines_of is_domain spelling_of local_text_of split_place_of
+to_parent = refl
+
+to_folded_host : destination_via_of (record { transport = Lmtp; nexthop = Some (codes "INET:H.example.com:24") }) (u (codes "example.org")) ≡ Ok (record { transport = Lmtp; nexthop = codes "inet:h.example.com:24" })
+unfolding destination_to
+to_folded_host = refl

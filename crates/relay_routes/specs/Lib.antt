@@ -10,3 +10,4 @@ pub mod Forms
 pub mod TextPlaces
 pub mod TableSteps
 pub mod Routes
+pub mod Destinations

@@ -7,8 +7,11 @@ ghost use Rattle.relay_text.specs.Bytes.{folded};
 ghost use Rattle.relay_routes.specs.Nexthops.{nexthop_of, unix_form};
 ghost use Rattle.relay_routes.specs.Forms.{at_path, nexthop_from};
 
+use crate::copies::{folded_copy, joined};
 use crate::host_form::{HostForm, after_word, host_form, inet_form};
 use crate::transport::Transport;
+use relay_text::Text;
+use std::alloc::{AllocError, Global};
 
 /// A nexthop, read in place.
 #[derive(Drop)]
@@ -17,6 +20,18 @@ pub(crate) enum Form<'a> {
     Host(HostForm<'a>),
     /// A socket of this path, without `unix:`.
     Unix(&'a [u8]),
+}
+
+impl<'a> Form<'a> {
+    /// The nexthop as the plan writes it.
+    pub(crate) fn written(&self, alloc: Global) -> Result<Text, AllocError>
+        ensures { IfOk result (λ text. text ≡ (nexthop_from self.now).text) }
+    {
+        match self {
+            Form::Host(form) => folded_copy(alloc, form.text),
+            Form::Unix(path) => Ok(Text::of(joined(alloc, b"unix:", path)?)),
+        }
+    }
 }
 
 /// The nexthop that a text names to a transport, `None` where it's of none of the transport's forms.

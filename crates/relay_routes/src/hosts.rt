@@ -1,12 +1,14 @@
 //! The hosts of a route.
 use relay_text::Text;
+use smallvec::SmallVec;
 use std::alloc::{AllocError, Global};
 use std::marker::Model;
 
-/// Host names in the order in which they are tried, each with its `:port` if one is given. Contracts see them as their list.
+/// Host names in the order in which they are tried, each with its `:port` if one is given. Contracts see them as their list. Up to two
+/// lie in the value itself, more of them in memory of their own.
 #[derive(Drop)]
 pub struct Hosts {
-    hosts: Vec<Text>,
+    hosts: SmallVec<Text, 2, Global>,
 }
 
 impl Model for Hosts {
@@ -17,23 +19,43 @@ impl Model for Hosts {
     ghost view = { λ a. a.hosts.items };
 }
 
-ghost use Rattle.std.specs.Prelude.{◌≡◌, [], ◌∷◌, ◌++◌, map, IfOk};
+ghost use Rattle.std.specs.Prelude.{◌≡◌, [], ◌∷◌, ◌++◌, ◌==◌, length, map, IfOk, OnOk};
 
 impl Hosts {
+    /// No hosts, without taking memory.
+    pub(crate) fn new(alloc: Global) -> Hosts
+        ensures { result ≡ [] }
+    {
+        Hosts {
+            hosts: SmallVec::new(alloc),
+        }
+    }
+
     /// One host.
     pub fn one(alloc: Global, host: Text) -> Result<Hosts, AllocError>
         ensures { IfOk result (λ hosts. hosts ≡ host ∷ []) }
     {
-        let mut hosts = Vec::with_capacity(alloc, 1)?;
+        let mut hosts = Hosts::new(alloc);
         hosts.push(host)?;
-        Ok(Hosts { hosts })
+        Ok(hosts)
     }
 
-    /// These hosts.
-    pub(crate) fn of(hosts: Vec<Text>) -> Hosts
-        ensures { result ≡ hosts.items }
+    /// Puts a host at the end.
+    pub(crate) fn push(&mut self, host: Text) -> Result<(), AllocError>
+        ensures { OnOk result (self.new ≡ self.old ++ host ∷ []) }
     {
-        Hosts { hosts }
+        self.hosts.push(host)?;
+        Ok(())
+    }
+
+    /// Puts hosts at the end.
+    pub(crate) fn append(&mut self, more: Vec<Text>) -> Result<(), AllocError>
+        ensures { OnOk result (self.new ≡ self.old ++ more.items) }
+    {
+        for host in more {
+            self.push(host)?;
+        }
+        Ok(())
     }
 
     /// The hosts, each with the same bytes behind it.
@@ -41,13 +63,20 @@ impl Hosts {
         ensures { IfOk result (λ hosts. hosts ≡ map (λ host. host ++ more.now) self) }
     {
         let Hosts { hosts: bare } = self;
-        let mut hosts = Vec::with_capacity(alloc, bare.len())?;
+        let mut hosts = Hosts::new(alloc);
         for host in bare {
             let mut longer = host;
             longer.append(more)?;
             hosts.push(longer)?;
         }
-        Ok(Hosts { hosts })
+        Ok(hosts)
+    }
+
+    /// Whether there is none.
+    pub(crate) fn is_empty(&self) -> bool
+        ensures { result ≡ (length self.now == 0) }
+    {
+        self.hosts.is_empty()
     }
 
     /// The hosts in place.

@@ -3,6 +3,7 @@
 
 pub mod choice;
 mod copies;
+pub mod destination;
 pub mod exchange;
 pub mod fault;
 mod form;
@@ -31,10 +32,11 @@ pub mod unrouted;
 pub mod via;
 
 pub use choice::Choice;
+pub use destination::Destination;
 pub use fault::{FaultKind, LineFault};
 pub use hosts::Hosts;
 pub use mx::MxTable;
-pub use route::{Route, RouteSettings, one_route_per_nexthop};
+pub use route::{Route, RouteSettings, one_route_per_nexthop, route_by_destination};
 pub use router::Router;
 pub use transport::Transport;
 pub use transport_table::TransportTable;

@@ -101,7 +101,7 @@ impl MxTable {
             return Err(Unrouted::Memory);
         };
         if !found.is_empty() {
-            return explicit_hosts(alloc, &found, own_names, seed);
+            return explicit_hosts(alloc, found, own_names, seed);
         }
         if self.records.has_address(domain) {
             implicit_host(alloc, domain, own_names)
@@ -114,29 +114,25 @@ impl MxTable {
 /// The hosts of a domain's mail exchangers: those that aren't null, before the relay itself, in rising preference.
 fn explicit_hosts(
     alloc: Global,
-    found: &[&Exchange],
+    found: Vec<&Exchange>,
     own_names: &TextSet,
     seed: u64,
 ) -> Result<Hosts, Unrouted>
-    requires { 0 < length found.now }
-    ensures { (domain : List ℕ) (has_address : Bool) → Answers result (hosts_before_relay (exchangers (exchanges_of found.now) has_address domain) own_names.now seed) }
+    requires { 0 < length found.items }
+    ensures { (domain : List ℕ) (has_address : Bool) → Answers result (hosts_before_relay (exchangers (exchanges_of found.entry.items) has_address domain) own_names.now seed) }
 {
-    let Ok(exchangers) = without_null(alloc, found) else {
-        return Err(Unrouted::Memory);
-    };
+    let exchangers = without_null(found);
     if exchangers.is_empty() {
         return Err(Unrouted::NullMx);
     }
-    let Ok(exchangers) = before_relay(alloc, &exchangers, own_names) else {
-        return Err(Unrouted::Memory);
-    };
+    let exchangers = before_relay(exchangers, own_names);
     let Ok(hosts) = hosts_in_order(alloc, exchangers, seed) else {
         return Err(Unrouted::Memory);
     };
     if hosts.is_empty() {
         return Err(Unrouted::MxSelf);
     }
-    Ok(Hosts::of(hosts))
+    Ok(hosts)
 }
 
 /// The host of a domain without mail exchangers that has an address: itself (RFC 5321 section 5.1, the implicit MX).

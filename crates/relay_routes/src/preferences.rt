@@ -1,47 +1,35 @@
 //! Mail exchangers in the order in which they are tried.
-ghost use Rattle.std.specs.Prelude.{◌≡◌, ◌<◌, ◌≤◌, not, length, take, drop, map, filter, IfOk};
+ghost use Rattle.std.specs.Prelude.{◌≡◌, ◌<◌, ◌≤◌, ◌++◌, not, length, take, drop, map, filter, IfOk, OnOk};
 ghost use Rattle.std.specs.Str.{bytes_eq};
 ghost use Rattle.relay_text.specs.Bytes.{firsts};
 ghost use Rattle.relay_routes.specs.Exchanges.{is_null, in_preference_order, rotated};
 ghost use Rattle.relay_routes.specs.Preferences.{exchanges_of, is_within, with_own, least_own, IsRising, IsFirstRun};
 
+use crate::copies::copy;
 use crate::exchange::Exchange;
+use crate::hosts::Hosts;
 use crate::mx_hosts::DistinctHosts;
 use relay_text::{Text, TextSet};
 use std::alloc::{AllocError, Global};
 
-/// The exchangers without the null ones, in their order. `Err` where memory runs out.
-pub(crate) fn without_null<'a>(
-    alloc: Global,
-    exchangers: &[&'a Exchange],
-) -> Result<Vec<&'a Exchange>, AllocError>
-    ensures { IfOk result (λ kept. kept.items ≡ filter (λ e. not (is_null e.now)) exchangers.now) }
+/// The exchangers without the null ones, in their order.
+pub(crate) fn without_null(mut exchangers: Vec<&Exchange>) -> Vec<&Exchange>
+    ensures { result.items ≡ filter (λ e. not (is_null e.now)) exchangers.entry.items }
 {
-    let mut kept = Vec::new(alloc);
-    for exchange in exchangers {
-        if !exchange.is_null() {
-            kept.push(*exchange)?;
-        }
-    }
-    Ok(kept)
+    exchangers.retain(|exchange| !exchange.is_null());
+    exchangers
 }
 
-/// The exchangers that are tried before the relay itself, in their order. `Err` where memory runs out.
+/// The exchangers that are tried before the relay itself, in their order.
 pub(crate) fn before_relay<'a>(
-    alloc: Global,
-    exchangers: &[&'a Exchange],
+    mut exchangers: Vec<&'a Exchange>,
     own_names: &TextSet,
-) -> Result<Vec<&'a Exchange>, AllocError>
-    ensures { IfOk result (λ kept. kept.items ≡ filter (λ e. is_within (least_own own_names.now (exchanges_of exchangers.now)) e.now.preference) exchangers.now) }
+) -> Vec<&'a Exchange>
+    ensures { result.items ≡ filter (λ e. is_within (least_own own_names.now (exchanges_of exchangers.entry.items)) e.now.preference) exchangers.entry.items }
 {
-    let limit = own_preference(exchangers, own_names);
-    let mut kept = Vec::new(alloc);
-    for exchange in exchangers {
-        if is_within(limit, exchange.preference) {
-            kept.push(*exchange)?;
-        }
-    }
-    Ok(kept)
+    let limit = own_preference(&exchangers, own_names);
+    exchangers.retain(|exchange| is_within(limit, exchange.preference));
+    exchangers
 }
 
 /// The least preference at which the relay itself is an exchanger.
@@ -82,29 +70,24 @@ pub(crate) fn hosts_in_order(
     alloc: Global,
     mut exchangers: Vec<&Exchange>,
     seed: u64,
-) -> Result<Vec<Text>, AllocError>
-    ensures { IfOk result (λ hosts. hosts.items ≡ in_preference_order seed (exchanges_of exchangers.entry.items)) }
+) -> Result<Hosts, AllocError>
+    ensures { IfOk result (λ hosts. hosts ≡ in_preference_order seed (exchanges_of exchangers.entry.items)) }
 {
     exchangers.sort_by_key(|exchange| exchange.preference)?;
     hosts_of_runs(alloc, exchangers.as_slice(), seed)
 }
 
 /// The hosts of one run of equal preference after another.
-fn hosts_of_runs(
-    alloc: Global,
-    exchangers: &[&Exchange],
-    seed: u64,
-) -> Result<Vec<Text>, AllocError>
+fn hosts_of_runs(alloc: Global, exchangers: &[&Exchange], seed: u64) -> Result<Hosts, AllocError>
     requires { IsRising (map (λ e. e.preference) (exchanges_of exchangers.now)) }
-    ensures { IfOk result (λ hosts. hosts.items ≡ in_preference_order seed (exchanges_of exchangers.now)) }
+    ensures { IfOk result (λ hosts. hosts ≡ in_preference_order seed (exchanges_of exchangers.now)) }
 {
-    let mut hosts = Vec::new(alloc);
+    let mut hosts = Hosts::new(alloc);
     let mut start = 0;
     while start < exchangers.len() {
         let rest = &exchangers[start..];
         let count = run_len(rest);
-        let mut run = rotated_hosts(alloc, &rest[..count], seed)?;
-        hosts.append(&mut run)?;
+        put_run(alloc, &rest[..count], seed, &mut hosts)?;
         start += count;
     }
     Ok(hosts)
@@ -122,6 +105,17 @@ fn run_len(exchangers: &[&Exchange]) -> usize
         .iter()
         .position(|exchange| exchange.preference != preference)
         .unwrap_or(exchangers.len())
+}
+
+/// Puts the hosts of exchangers of one preference at the end: each once, rotated.
+fn put_run(alloc: Global, run: &[&Exchange], seed: u64, hosts: &mut Hosts) -> Result<(), AllocError>
+    requires { 0 < length run.now }
+    ensures { OnOk result (hosts.new ≡ hosts.old ++ rotated seed (firsts bytes_eq (map (λ e. e.host) (exchanges_of run.now)))) }
+{
+    if let [only] = run {
+        return hosts.push(copy(alloc, only.host.as_bytes())?);
+    }
+    hosts.append(rotated_hosts(alloc, run, seed)?)
 }
 
 /// The distinct hosts of exchangers of one preference, rotated.

@@ -1,9 +1,12 @@
 //! Routes.
 ghost use Rattle.std.specs.Prelude.{◌≡◌, ℕ, List, [], ◌∷◌, ◌++◌, false, Ok, IfOk};
+ghost use Rattle.relay_text.specs.AddressParts.{AddressParts};
 ghost use Rattle.relay_text.specs.Bytes.{folded};
+ghost use Rattle.relay_routes.specs.declared.via.Via as settings;
 ghost use Rattle.relay_routes.specs.Forms.{hosted, at_path};
 ghost use Rattle.relay_routes.specs.Routing.{Routing};
-ghost use Rattle.relay_routes.specs.Routes.{route_to, route_with};
+ghost use Rattle.relay_routes.specs.Routes.{route_to, route_with, route_of, route_via_of};
+ghost use Rattle.relay_routes.specs.Destinations.{destination_of, destination_via_of, Determines};
 
 use crate::copies::{folded_copy, folded_joined, joined};
 use crate::host_form::HostForm;
@@ -37,6 +40,12 @@ pub struct RouteSettings {
 /// The written nexthop of a route and its transport determine its hosts.
 pub fn one_route_per_nexthop()
     ensures { (router : Routing) (t : Transport) (n m : List ℕ) (r q : Route) → route_to router t n ≡ Ok r → route_to router t m ≡ Ok q → r.nexthop ≡ q.nexthop → r ≡ q }
+{}
+
+/// The destination of an address, or of a mailbox by its setting, determines its route.
+pub fn route_by_destination()
+    ensures of_address { (r : Routing) (a : AddressParts) → Determines r (destination_of r a) (route_of r a) }
+    ensures of_mailbox { (r : Routing) (via : settings.Via) (a : AddressParts) → Determines r (destination_via_of via a) (route_via_of r via a) }
 {}
 
 /// The route to a host, whose mail exchangers aren't looked up.

@@ -1,6 +1,7 @@
 //! The routes of addresses.
 use crate::choice::Choice;
 use crate::copies::folded_copy;
+use crate::destination::{Destination, destination_or_domain, destination_to};
 use crate::form::{Form, form_of};
 use crate::host_form::HostForm;
 use crate::hosts::Hosts;
@@ -10,7 +11,7 @@ use crate::transport::Transport;
 use crate::transport_table::TransportTable;
 use crate::unrouted::Unrouted;
 use crate::via::Via;
-use relay_text::{Address, Text, TextSet};
+use relay_text::{Address, TextSet};
 use std::alloc::{AllocError, Global};
 use std::marker::Model;
 
@@ -35,11 +36,12 @@ impl Model for Router {
     ghost invariant = { λ a. (q : List ℕ) → has_text a.own_names q ≡ has_text a.settings.own_names q };
 }
 
-ghost use Rattle.std.specs.Prelude.{◌≡◌, Some, option_map, unwrap_or, IfOk};
+ghost use Rattle.std.specs.Prelude.{◌≡◌, Some, IfOk};
 ghost use Rattle.relay_text.specs.Bytes.{folded};
 ghost use Rattle.relay_routes.specs.Forms.{hosted};
 ghost use Rattle.relay_routes.specs.Exchanges.{hosts_of};
 ghost use Rattle.relay_routes.specs.Routes.{Answers, route_by, route_to, route_of, route_via_of};
+ghost use Rattle.relay_routes.specs.Destinations.{destination_of, destination_via_of};
 
 impl Router {
     /// A router that goes by these settings and tables. `Err` where memory runs out.
@@ -60,14 +62,14 @@ impl Router {
         })
     }
 
-    /// The route of a remote address: as the transport table says, by the default transport where it names none, and to the address's
-    /// domain where it names no nexthop (transport(5), "RESULT FORMAT"; RFC 5321 section 5).
+    /// Where a remote address goes: as the transport table says, by the default transport where it names none, and to the address's
+    /// domain where it names no nexthop (transport(5), "RESULT FORMAT"). No mail exchanger is looked up. Callers who route many
+    /// addresses find the route of each destination once, by `route_to`.
     ///
     /// `Refused`: the table refuses the address, with this text. `Transport`: the table names another transport, or the transport
-    /// takes no such nexthop. `Domain`: mail exchangers are to be looked up, and the domain has none and no address. `MxSelf`: none is
-    /// left before the relay itself. `NullMx`: the domain takes no mail. `Memory`: memory ran out.
-    pub fn route(&self, alloc: Global, address: &Address) -> Result<Route, Unrouted>
-        ensures { Answers result (route_of self.now address.now) }
+    /// takes no such nexthop. `Memory`: memory ran out.
+    pub fn destination(&self, alloc: Global, address: &Address) -> Result<Destination, Unrouted>
+        ensures { Answers result (destination_of self.now address.now) }
     {
         let Ok(choice) = self
             .transports
@@ -77,46 +79,58 @@ impl Router {
         };
         match choice {
             Choice::Absent => {
-                self.route_to(alloc, self.settings.default_transport, address.domain())
+                destination_to(alloc, self.settings.default_transport, address.domain())
             }
             Choice::Via { transport, nexthop } => {
                 let transport = transport.unwrap_or(self.settings.default_transport);
-                self.route_or_domain(alloc, transport, nexthop.as_ref(), address)
+                destination_or_domain(alloc, transport, nexthop.as_ref(), address)
             }
             Choice::Refused(text) => Err(Unrouted::Refused(text)),
             Choice::Unknown => Err(Unrouted::Transport),
         }
     }
 
-    /// The route of a mailbox, by its setting: to the nexthop that it names, else to the address's domain (transport(5)). The table
+    /// Where a mailbox goes, by its setting: to the nexthop that it names, else to the address's domain (transport(5)). The table
     /// isn't looked at.
+    ///
+    /// The errors are those of `destination`, without `Refused`.
+    pub fn destination_via(
+        &self,
+        alloc: Global,
+        via: &Via,
+        address: &Address,
+    ) -> Result<Destination, Unrouted>
+        ensures { Answers result (destination_via_of via.now address.now) }
+    {
+        destination_or_domain(alloc, via.transport, via.nexthop.as_ref(), address)
+    }
+
+    /// The route of a remote address: by the transport of its destination to its nexthop (RFC 5321 section 5).
+    ///
+    /// `Domain`: mail exchangers are to be looked up, and the domain has none and no address. `MxSelf`: none is left before the relay
+    /// itself. `NullMx`: the domain takes no mail. The other errors are those of `destination`.
+    pub fn route(&self, alloc: Global, address: &Address) -> Result<Route, Unrouted>
+        ensures { Answers result (route_of self.now address.now) }
+    {
+        let to = self.destination(alloc, address)?;
+        self.route_to(alloc, to.transport, to.nexthop.as_bytes())
+    }
+
+    /// The route of a mailbox, by its setting.
     ///
     /// The errors are those of `route`, without `Refused`.
     pub fn route_via(&self, alloc: Global, via: &Via, address: &Address) -> Result<Route, Unrouted>
         ensures { Answers result (route_via_of self.now via.now address.now) }
     {
-        self.route_or_domain(alloc, via.transport, via.nexthop.as_ref(), address)
+        let to = self.destination_via(alloc, via, address)?;
+        self.route_to(alloc, to.transport, to.nexthop.as_bytes())
     }
 
-    /// The route by a transport to a nexthop, or where there is none to an address's domain.
-    fn route_or_domain(
-        &self,
-        alloc: Global,
-        transport: Transport,
-        nexthop: Option<&Text>,
-        address: &Address,
-    ) -> Result<Route, Unrouted>
-        ensures { Answers result (route_to self.now transport (unwrap_or (option_map (λ text. text.now) nexthop.entry) address.now.domain)) }
-    {
-        match nexthop {
-            Some(nexthop) => self.route_to(alloc, transport, nexthop.as_bytes()),
-            None => self.route_to(alloc, transport, address.domain()),
-        }
-    }
-
-    /// The route by a transport to a nexthop.
+    /// The route by a transport to a nexthop, which may stand as a table or a setting writes it or as the plan does.
+    ///
+    /// `Transport`: the transport takes no such nexthop. The other errors are those of `route`, without `Refused`.
     #[tactic(auto, unfolding(crate::specs::Routes::route_to))]
-    fn route_to(
+    pub fn route_to(
         &self,
         alloc: Global,
         transport: Transport,

@@ -208,6 +208,42 @@ fn sends(
     Ok(())
 }
 
+/// Compares the destination of an address, and where the route of that destination goes.
+fn leads(
+    rt: &impl Abort,
+    router: &Router,
+    alloc: Global,
+    text: &str,
+    to: (Transport, &str, &str),
+) -> Result<(), Fail> {
+    let address = address(alloc, text.as_bytes())?;
+    let found = router.destination(alloc, &address);
+    let found = found.ok().ok_or("a destination")?;
+    assert_eq!(rt; found.transport, to.0);
+    assert_eq!(rt; found.nexthop.as_bytes(), to.1.as_bytes());
+    let route = router.route_to(alloc, found.transport, found.nexthop.as_bytes());
+    let route = route.ok().ok_or("a route")?;
+    goes_to(rt, &route, to.0, to.1.as_bytes(), to.2.as_bytes());
+    Ok(())
+}
+
+/// Compares the destination of `joe@example.com` by a setting.
+fn leads_by_setting(
+    rt: &impl Abort,
+    router: &Router,
+    alloc: Global,
+    setting: &str,
+    to: (Transport, &str),
+) -> Result<(), Fail> {
+    let via = Via::parse(alloc, setting.as_bytes())?.ok_or("a setting")?;
+    let joe = address(alloc, b"joe@example.com")?;
+    let found = router.destination_via(alloc, &via, &joe);
+    let found = found.ok().ok_or("a destination")?;
+    assert_eq!(rt; found.transport, to.0);
+    assert_eq!(rt; found.nexthop.as_bytes(), to.1.as_bytes());
+    Ok(())
+}
+
 /// Tables with each kind of key and of result.
 const TRANSPORTS: &[u8] = b"example.net smtp:[gw.example.com]
 .example.net relay:hub.example.com:2525
@@ -269,6 +305,39 @@ fn routes_by_the_tables(rt: HostRuntime) -> Result<(), Fail> {
         sends(&rt, &router, alloc, text, (transport, nexthop, host))?;
     }
     Ok(())
+}
+
+#[test]
+fn finds_destinations(rt: HostRuntime) -> Result<(), Fail> {
+    let alloc = rt.alloc();
+    let router = router_over(alloc, Transport::Smtp, TRANSPORTS, EXCHANGES)?;
+    for (text, transport, nexthop, host) in [
+        (
+            "u@a.b.example.net",
+            Transport::Relay,
+            "hub.example.com:2525",
+            "hub.example.com:2525",
+        ),
+        (
+            "u@b.example.net",
+            Transport::Smtp,
+            "b.example.net",
+            "mx.b.example.net",
+        ),
+    ] {
+        leads(&rt, &router, alloc, text, (transport, nexthop, host))?;
+    }
+    Ok(())
+}
+
+#[test]
+fn finds_destinations_by_settings(rt: HostRuntime) -> Result<(), Fail> {
+    let alloc = rt.alloc();
+    let router = router(alloc, Transport::Smtp)?;
+    let looked_up = (Transport::Relay, "gw.example.com");
+    leads_by_setting(&rt, &router, alloc, "relay:GW.example.com", looked_up)?;
+    let domain = (Transport::Lmtp, "example.com");
+    leads_by_setting(&rt, &router, alloc, "lmtp", domain)
 }
 
 /// Why there is no route, as a word, or the text of a refusal.

@@ -1,7 +1,9 @@
 //! Graphs by example. The origin is `example.org`, names are split at `+`, and joe and kim have mailboxes.
-ghost use Rattle.std.specs.Prelude.{◌≡◌, ◌<◌, All, IsTrue, IfOk, length};
+ghost use Rattle.std.specs.Prelude.{◌≡◌, ◌≢◌, ◌<◌, All, AllPairs, IsTrue, IfOk, OnOk, length};
+ghost use Rattle.std.specs.List.{list_all};
 ghost use Rattle.relay_text.specs.Bytes.{folded};
 ghost use Rattle.relay_text.specs.Addresses.{is_origin};
+ghost use Rattle.relay_tables.specs.Parts.{is_good_include};
 
 use crate::fault::TableFault;
 use crate::graph::Graph;
@@ -47,6 +49,27 @@ fn local(alloc: Global, expand: bool) -> Result<Local, AllocError>
     })
 }
 
+// The tables of an alias file and include files.
+fn tables_of(
+    rt: &impl Abort,
+    alloc: Global,
+    expand: bool,
+    aliases: &[u8],
+    includes: Vec<IncludeEntry>,
+) -> Result<Tables, AllocError>
+    requires distinct { AllPairs (λ a b. a.path ≢ b.path) includes.items }
+    requires items { IsTrue (list_all is_good_include includes.items) }
+{
+    parsed_files();
+    let local = local(alloc, expand)?;
+    let aliases = parse_aliases(alloc, aliases)?;
+    let mailboxes = parse_mailboxes(alloc, b"joe\nkim\n")?;
+    assert!(rt; aliases.entries.len() < 10_000);
+    assert!(rt; mailboxes.names.len() < 10_000);
+    assert!(rt; includes.len() < 10_000);
+    Tables::build(alloc, local, aliases, includes, mailboxes)
+}
+
 // The tables of an alias file and of one include file, `/l`.
 fn tables(
     rt: &impl Abort,
@@ -56,15 +79,10 @@ fn tables(
     include: &[u8],
 ) -> Result<Tables, AllocError> {
     parsed_files();
-    let local = local(alloc, expand)?;
-    let aliases = parse_aliases(alloc, aliases)?;
-    let mailboxes = parse_mailboxes(alloc, b"joe\nkim\n")?;
-    assert!(rt; aliases.entries.len() < 10_000);
-    assert!(rt; mailboxes.names.len() < 10_000);
     let items = parse_include(alloc, include)?.items;
     let path = Text::of(Vec::from_slice(alloc, b"/l")?);
     let includes = Vec::from_array(alloc, [IncludeEntry { path, items }])?;
-    Tables::build(alloc, local, aliases, includes, mailboxes)
+    tables_of(rt, alloc, expand, aliases, includes)
 }
 
 fn built(
@@ -85,6 +103,7 @@ fn built(
 }
 
 // What a node is meant to be.
+#[derive(Clone, Copy)]
 enum Wanted<'a> {
     Alias(u32),
     Include(u32),
@@ -230,7 +249,11 @@ fn children_repeat_and_parents_do_not(rt: HostRuntime) -> Result<(), Fail> {
     Ok(())
 }
 
-// The graph of nested lists of which the inner one has an owner, from a sender: 7 nodes and 1 owner.
+// Nested lists of which the inner one has an owner: 7 nodes.
+const NESTED: &[u8] =
+    b"outer: inner, kim@example.net\ninner: kim@example.net, lee@example.net\nowner-inner: joe\n";
+
+// The graph of nested lists, from a sender.
 fn nested(
     rt: &impl Abort,
     alloc: Global,
@@ -242,9 +265,7 @@ fn nested(
     requires names { names < 1000 }
     requires owners { owners < 1000 }
 {
-    let text =
-        b"outer: inner, kim@example.net\ninner: kim@example.net, lee@example.net\nowner-inner: joe\n";
-    let tables = tables(rt, alloc, expand, text, b"")?;
+    let tables = tables(rt, alloc, expand, NESTED, b"")?;
     built(alloc, &tables, from, &[b"outer"], names, owners)
 }
 
@@ -258,19 +279,18 @@ fn limits_at_their_values(rt: HostRuntime) -> Result<(), Fail> {
     Ok(())
 }
 
-// Why there is no graph of nested lists.
+// Why there is no graph of an alias file and the recipient `outer`.
 fn fault(
     rt: &impl Abort,
     alloc: Global,
+    aliases: &[u8],
     names: usize,
     owners: usize,
 ) -> Result<Option<TableFault>, Fail>
     requires names { names < 1000 }
     requires owners { owners < 1000 }
 {
-    let text =
-        b"outer: inner, kim@example.net\ninner: kim@example.net, lee@example.net\nowner-inner: joe\n";
-    let tables = tables(rt, alloc, false, text, b"")?;
+    let tables = tables(rt, alloc, false, aliases, b"")?;
     let recipients = addresses(alloc, &[b"outer"])?;
     Ok(Graph::build(alloc, &tables, None, &recipients, names, owners).err())
 }
@@ -278,11 +298,28 @@ fn fault(
 #[test]
 fn limits_past_their_values(rt: HostRuntime) -> Result<(), Fail> {
     let alloc = rt.alloc();
-    assert_eq!(rt; fault(&rt, alloc, 6, 1)?, Some(TableFault::TooManyNames));
-    assert_eq!(rt; fault(&rt, alloc, 3, 1)?, Some(TableFault::TooManyNames));
-    assert_eq!(rt; fault(&rt, alloc, 6, 0)?, Some(TableFault::TooManyNames));
-    assert_eq!(rt; fault(&rt, alloc, 7, 0)?, Some(TableFault::TooManyOwners));
-    assert_eq!(rt; fault(&rt, alloc, 7, 1)?, None);
+    let names = Some(TableFault::TooManyNames);
+    assert_eq!(rt; fault(&rt, alloc, NESTED, 6, 1)?, names);
+    assert_eq!(rt; fault(&rt, alloc, NESTED, 3, 1)?, names);
+    assert_eq!(rt; fault(&rt, alloc, NESTED, 6, 0)?, names);
+    assert_eq!(rt;
+        fault(&rt, alloc, NESTED, 7, 0)?,
+        Some(TableFault::TooManyOwners)
+    );
+    assert_eq!(rt; fault(&rt, alloc, NESTED, 7, 1)?, None);
+    Ok(())
+}
+
+// Both lists have an owner: 8 nodes.
+const BOTH_OWNED: &[u8] =
+    b"outer: inner, kim@example.net\ninner: kim@example.net, lee@example.net\nowner-inner: joe\nowner-outer: joe\n";
+
+#[test]
+fn two_owners_and_a_limit_of_one(rt: HostRuntime) -> Result<(), Fail> {
+    let alloc = rt.alloc();
+    let owners = Some(TableFault::TooManyOwners);
+    assert_eq!(rt; fault(&rt, alloc, BOTH_OWNED, 8, 1)?, owners);
+    assert_eq!(rt; fault(&rt, alloc, BOTH_OWNED, 8, 2)?, None);
     Ok(())
 }
 
@@ -368,5 +405,117 @@ fn a_long_chain(rt: HostRuntime) -> Result<(), Fail> {
     let tables = tables(&rt, alloc, false, &text, b"")?;
     let graph = built(alloc, &tables, b"<>", &[b"a100"], 303, 0)?;
     check_chain(&rt, &graph);
+    Ok(())
+}
+
+// Whether no include file of the list has a path.
+fn is_new(includes: &[IncludeEntry], path: &[u8]) -> bool
+    ensures { IsTrue result → All (λ e. e.path ≢ path.now) includes.now }
+{
+    includes.iter().all(|e| e.path.as_bytes() != path)
+}
+
+// Puts an include file behind the others, whose path is a new one.
+fn push_include(
+    rt: &impl Abort,
+    alloc: Global,
+    includes: &mut Vec<IncludeEntry>,
+    path: &[u8],
+    text: &[u8],
+) -> Result<(), AllocError>
+    requires distinct { AllPairs (λ a b. a.path ≢ b.path) includes.old.items }
+    requires items { IsTrue (list_all is_good_include includes.old.items) }
+    ensures distinct { OnOk result (AllPairs (λ a b. a.path ≢ b.path) includes.new.items) }
+    ensures items { OnOk result (IsTrue (list_all is_good_include includes.new.items)) }
+{
+    parsed_files();
+    assert!(rt; is_new(includes, path));
+    let items = parse_include(alloc, text)?.items;
+    let path = Text::of(Vec::from_slice(alloc, path)?);
+    includes.push(IncludeEntry { path, items })?;
+    Ok(())
+}
+
+// An include file for each number from 0 to 99, that includes the next one; the last one includes the first.
+fn include_ring(rt: &impl Abort, alloc: Global) -> Result<Vec<IncludeEntry>, Fail>
+    ensures distinct { IfOk result (λ includes. AllPairs (λ a b. a.path ≢ b.path) includes.items) }
+    ensures items { IfOk result (λ includes. IsTrue (list_all is_good_include includes.items)) }
+{
+    let mut includes: Vec<IncludeEntry> = Vec::new(alloc);
+    for n in 0..100u32 {
+        let next = (n + 1) % 100;
+        let path = format!(in alloc; "/l{n}")?;
+        let text = format!(in alloc; ":include:/l{next}\n")?;
+        push_include(rt, alloc, &mut includes, path.as_bytes(), text.as_bytes())?;
+    }
+    Ok(includes)
+}
+
+fn check_ring<R: Abort>(rt: &R, graph: &Graph) {
+    assert_eq!(rt; graph.nodes(), 101);
+    check(rt, graph, 0, &Wanted::Alias(0), &[1], &[]);
+    check(rt, graph, 1, &Wanted::Include(0), &[2], &[0, 100]);
+    for n in 2..100u32 {
+        check(rt, graph, n, &Wanted::Include(n - 1), &[n + 1], &[n - 1]);
+    }
+    check(rt, graph, 100, &Wanted::Include(99), &[1], &[99]);
+    assert_eq!(rt; graph.roots(), [0].as_slice());
+}
+
+#[test]
+fn a_ring_of_include_files(rt: HostRuntime) -> Result<(), Fail> {
+    let alloc = rt.alloc();
+    let includes = include_ring(&rt, alloc)?;
+    let tables = tables_of(&rt, alloc, false, b"list: :include:/l0\n", includes)?;
+    let graph = built(alloc, &tables, b"<>", &[b"list"], 101, 0)?;
+    check_ring(&rt, &graph);
+    Ok(())
+}
+
+// A list of 400 items: the addresses `u0@example.net` to `u149@example.net`, over and over.
+fn long_list(alloc: Global) -> Result<Vec<u8>, Fail> {
+    let mut text = Vec::from_slice(alloc, b"list: ")?;
+    for n in 0..400u32 {
+        let number = n % 150;
+        text.extend_from_slice(format!(in alloc; "u{number}@example.net, ")?.as_bytes())?;
+    }
+    Ok(text)
+}
+
+// The alias is node 0 and the include file node 1, so `u0` is node 2.
+fn check_long_list<R: Abort>(rt: &R, graph: &Graph) {
+    assert!(rt; graph.nodes() == 152);
+    assert_eq!(rt; graph.children(0).len(), 400);
+    for (n, child) in graph.children(0).iter().enumerate() {
+        assert_eq!(rt; *child as usize, 2 + n % 150);
+    }
+    for n in 2..152u32 {
+        assert_eq!(rt; graph.parents(n), [0].as_slice());
+    }
+    check(
+        rt,
+        graph,
+        2,
+        &Wanted::Remote("u0", "example.net"),
+        &[],
+        &[0],
+    );
+    check(
+        rt,
+        graph,
+        151,
+        &Wanted::Remote("u149", "example.net"),
+        &[],
+        &[0],
+    );
+}
+
+#[test]
+fn a_long_list_with_repeats(rt: HostRuntime) -> Result<(), Fail> {
+    let alloc = rt.alloc();
+    let text = long_list(alloc)?;
+    let tables = tables(&rt, alloc, false, &text, b"")?;
+    let graph = built(alloc, &tables, b"<>", &[b"list"], 152, 0)?;
+    check_long_list(&rt, &graph);
     Ok(())
 }

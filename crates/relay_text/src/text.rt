@@ -1,5 +1,6 @@
 //! A text in a field of a public type, which contracts see as its bytes.
-use std::alloc::AllocError;
+use std::alloc::{AllocError, Global};
+use std::default::MadeWith;
 use std::marker::Model;
 
 /// Bytes, of any value, in memory of their own.
@@ -14,6 +15,17 @@ impl Model for Text {
     ghost Value = { List ℕ };
 
     ghost view = { λ a. a.bytes.items };
+}
+
+/// No bytes, which takes no memory. It fills the places of a short list that hold no text.
+impl MadeWith<Global> for Text {
+    ghost use Rattle.std.specs.Prelude.{◌≡◌, []};
+
+    ghost is_made_with = { λ text. text ≡ [] };
+
+    fn made_with(alloc: Global) -> Text {
+        Text::of(Vec::new(alloc))
+    }
 }
 
 impl Text {

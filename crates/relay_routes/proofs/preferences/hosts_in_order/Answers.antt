@@ -17,4 +17,4 @@ returns c =
     ap (λ rs. in_preference_order c.args.seed (exchanges_of rs)) c.as_slice.ensures.value
     ∙ order_kept c.args.exchangers.items c.sort_by_key.new.self.items c.args.seed c.in_ok-sort_by_key.ensures.permutation
     (c.in_ok-sort_by_key.ensures.stable (λ r. r.now.preference) (always_returns_same _ (λ a r. r ≡ a.0.now.now.preference) _ (λ a r f k. search rules))) in
-    subst (λ hs. IfOk c.hosts_of_runs.result (λ hosts. hosts.items ≡ hs)) kept c.hosts_of_runs.ensures
+    subst (λ hs. IfOk c.hosts_of_runs.result (λ hosts. hosts ≡ hs)) kept c.hosts_of_runs.ensures

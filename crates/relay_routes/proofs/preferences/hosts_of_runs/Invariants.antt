@@ -8,7 +8,7 @@ abbrev pub invariant-loop-start : goal.invariant-loop-start
 invariant-loop-start l = record {
   within : l.start ≤ length l.exchangers;
   rising : IsRising (map (λ e. e.preference) (exchanges_of (drop l.start l.exchangers)));
-  made : l.hosts.items ++ in_preference_order l.seed (exchanges_of (drop l.start l.exchangers)) ≡ in_preference_order l.seed (exchanges_of l.exchangers);
+  made : l.hosts ++ in_preference_order l.seed (exchanges_of (drop l.start l.exchangers)) ≡ in_preference_order l.seed (exchanges_of l.exchangers);
 }
 
 abbrev pub decreases-loop-start : goal.decreases-loop-start

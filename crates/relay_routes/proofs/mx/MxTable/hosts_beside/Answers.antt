@@ -13,9 +13,9 @@ pub returns-then-not-is_empty : goal.returns-then-not-is_empty
 returns-then-not-is_empty c =
     let table = c.args.self.now in
     let domain = c.args.domain.now in
-    let found : exchanges_of c.deref.result.now ≡ filter (λ e. bytes_eq e.domain domain) table.exchanges =
-    ap exchanges_of c.deref.ensures.value ∙ c.in-Ok.ensures ∙ ap (λ (t : MxLines). filter (λ (e : Exchange). bytes_eq e.domain domain) t.exchanges) c.self.view_is in
-    rw (hosts_from table domain c.args.own_names.now c.args.seed (exchanges_of c.deref.result.now) (has_text table.addresses domain) found refl)
+    let found : exchanges_of c.in-Ok.found.items ≡ filter (λ e. bytes_eq e.domain domain) table.exchanges =
+    c.in-Ok.ensures ∙ ap (λ (t : MxLines). filter (λ (e : Exchange). bytes_eq e.domain domain) t.exchanges) c.self.view_is in
+    rw (hosts_from table domain c.args.own_names.now c.args.seed (exchanges_of c.in-Ok.found.items) (has_text table.addresses domain) found refl)
     (c.explicit_hosts.ensures domain (has_text table.addresses domain))
 
 pub returns-then-has_address : goal.returns-then-has_address

@@ -1,0 +1,11 @@
+use Rattle.std.proofs.Common.{◌≡◌, ℕ, IfOk, refl, ◌∙◌, ap, subst, arith}
+use Rattle.std.specs.List.{range_with_len}
+use Rattle.std.proofs.lemmas.Iterator.{YieldsList-from_range, items_from_collect}
+use Rattle.loops_bench.proofs.measuring.all_nodes.Goals as goal
+
+pub returns-2 : goal.returns-2
+returns-2 c =
+    let n : ℕ = c.nodes-2.result in
+    let collected = items_from_collect c.collect.result c.collect.ensures.ran (YieldsList-from_range 0 n n refl (omega arith)) in
+    let numbers : c.in_ok-nodes.nodes.items ≡ range_with_len 0 n = subst (λ r. IfOk r (λ nodes. nodes.items ≡ range_with_len 0 n)) c.in_ok-nodes.was collected in
+    numbers ∙ ap (range_with_len 0) c.nodes-2.ensures

@@ -1,0 +1,153 @@
+//! Alias files of several shapes.
+ghost use Rattle.std.specs.Prelude.{◌≤◌, ◌<◌};
+
+use rand::seq::SliceRandom;
+use rand_core::SeedableRng;
+use rand_xoshiro::Xoshiro256PlusPlus;
+use std::alloc::{AllocError, Global};
+
+/// What an alias file's aliases lead to.
+#[derive(Clone, Copy)]
+pub enum Shape {
+    /// Each to the next one, and the last to the first.
+    Ring,
+    /// The two of each pair to each other.
+    Pairs,
+    /// A line of pairs of which each leads into the next one, in the order of the line.
+    LineUp,
+    /// The same, the last pair first.
+    LineDown,
+    /// The same, in scattered order.
+    LineScattered,
+    /// Alias k to 2k + 1 and 2k + 2.
+    Tree,
+    /// Each to each other one.
+    Complete,
+}
+
+impl Shape {
+    pub const ALL: [Shape; 7] = [
+        Shape::Ring,
+        Shape::Pairs,
+        Shape::LineUp,
+        Shape::LineDown,
+        Shape::LineScattered,
+        Shape::Tree,
+        Shape::Complete,
+    ];
+
+    pub fn name(self) -> &'static str {
+        match self {
+            Shape::Ring => "ring",
+            Shape::Pairs => "pairs",
+            Shape::LineUp => "line-up",
+            Shape::LineDown => "line-down",
+            Shape::LineScattered => "line-scattered",
+            Shape::Tree => "tree",
+            Shape::Complete => "complete",
+        }
+    }
+
+    /// An alias file of this shape, where N aliases are asked for. There are N in a ring and in a tree, N / 10 pairs, and no more
+    /// than 2,000 where each leads to each other one.
+    pub fn text(self, alloc: Global, aliases: u32) -> Result<String, AllocError>
+        requires { aliases ≤ 10000000 }
+    {
+        match self {
+            Shape::Ring => ring(alloc, aliases),
+            Shape::Pairs => pairs(alloc, aliases / 10),
+            Shape::LineUp => line(alloc, aliases / 10, &upward(alloc, aliases / 10)?),
+            Shape::LineDown => line(alloc, aliases / 10, &downward(alloc, aliases / 10)?),
+            Shape::LineScattered => line(alloc, aliases / 10, &scattered(alloc, aliases / 10)?),
+            Shape::Tree => tree(alloc, aliases),
+            Shape::Complete => complete(alloc, aliases.min(2000)),
+        }
+    }
+}
+
+fn ring(alloc: Global, aliases: u32) -> Result<String, AllocError>
+    requires { aliases ≤ 10000000 }
+{
+    let mut text = String::new(alloc);
+    for k in 0..aliases {
+        let next = (k + 1) % aliases;
+        writeln!(text, "a{k}: a{next}")?;
+    }
+    Ok(text)
+}
+
+fn pairs(alloc: Global, pairs: u32) -> Result<String, AllocError> {
+    let mut text = String::new(alloc);
+    for k in 0..pairs {
+        writeln!(text, "a{k}: b{k}\nb{k}: a{k}")?;
+    }
+    Ok(text)
+}
+
+// The numbers of the pairs of a line, in their order.
+fn upward(alloc: Global, pairs: u32) -> Result<Vec<u32>, AllocError> {
+    (0..pairs).collect(alloc)
+}
+
+fn downward(alloc: Global, pairs: u32) -> Result<Vec<u32>, AllocError> {
+    (0..pairs).rev().collect(alloc)
+}
+
+fn scattered(alloc: Global, pairs: u32) -> Result<Vec<u32>, AllocError> {
+    let mut order = upward(alloc, pairs)?;
+    let mut rng = Xoshiro256PlusPlus::seed_from_u64(1);
+    order.as_mut_slice().shuffle(&mut rng);
+    Ok(order)
+}
+
+// The pairs of a line in this order. The last one leads to no other.
+fn line(alloc: Global, pairs: u32, order: &[u32]) -> Result<String, AllocError> {
+    let mut text = String::new(alloc);
+    for k in order {
+        writeln!(text, "a{k}: b{k}")?;
+        match k.checked_add(1) {
+            Some(next) if next < pairs => writeln!(text, "b{k}: a{k}, a{next}")?,
+            _ => writeln!(text, "b{k}: a{k}")?,
+        }
+    }
+    Ok(text)
+}
+
+// A leaf leads to a remote address.
+fn tree(alloc: Global, aliases: u32) -> Result<String, AllocError>
+    requires { aliases ≤ 10000000 }
+{
+    let mut text = String::new(alloc);
+    for k in 0..aliases {
+        let left = 2 * k + 1;
+        let right = left + 1;
+        if right < aliases {
+            writeln!(text, "a{k}: a{left}, a{right}")?;
+        } else if left < aliases {
+            writeln!(text, "a{k}: a{left}")?;
+        } else {
+            writeln!(text, "a{k}: joe@example.net")?;
+        }
+    }
+    Ok(text)
+}
+
+// A list of all aliases but one.
+fn put_others(text: &mut String, aliases: u32, one: u32) -> Result<(), AllocError> {
+    for k in 0..aliases {
+        if k != one {
+            write!(text, "a{k}, ")?;
+        }
+    }
+    Ok(())
+}
+
+fn complete(alloc: Global, aliases: u32) -> Result<String, AllocError> {
+    let mut text = String::new(alloc);
+    for k in 0..aliases {
+        write!(text, "a{k}: ")?;
+        put_others(&mut text, aliases, k)?;
+        text.push('\n')?;
+    }
+    Ok(text)
+}

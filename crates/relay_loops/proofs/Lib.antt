@@ -1,0 +1,9 @@
+pub mod Members
+pub mod Walking
+pub mod Placing
+pub mod Closing
+pub mod Ends
+pub mod Choosing
+pub mod Division
+pub mod Bounds
+pub mod Whole

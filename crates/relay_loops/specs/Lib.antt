@@ -1,0 +1,4 @@
+pub mod Loops
+pub mod Parts
+pub mod Inner
+pub mod Counting
