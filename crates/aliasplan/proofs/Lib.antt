@@ -11,11 +11,13 @@ pub mod Members
 pub mod PartFacts
 pub mod JobBounds
 pub mod SetFacts
+pub mod PathFronts
 pub mod RecipientFacts
 pub mod StopFacts
 pub mod Groups
 pub mod AddressFacts
 pub mod TargetFacts
+pub mod MailboxFacts
 pub mod LineFacts
 pub mod PlanFacts
 pub mod BatchFacts

@@ -146,7 +146,6 @@ module _ (job : Job) where
   abbrev pub HaveLine : List Target → List ℕ → Type 0
   HaveLine targets line = (target : Target) × Contains targets target × IsLineOf target line
 
-  -- the domains that are local, and the names that have a mailbox
+  -- the domains that are local
   pub record AreLocalNames (names : LocalNames) : Type 0 where
     pub domains : (domain : List ℕ) → has_text names.domains domain ≡ (bytes_eq domain job.settings.origin || has_text job.settings.destinations domain)
-    pub mailboxes : (name : List ℕ) → has_text names.mailboxes name ≡ has_mailbox job name

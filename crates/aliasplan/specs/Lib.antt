@@ -9,7 +9,9 @@ pub mod Places
 pub mod SectionPlaces
 pub mod SettingValues
 pub mod JobParts
+pub mod WrittenAddresses
 pub mod RecipientLists
 pub mod Lanes
 pub mod Stops
 pub mod Targets
+pub mod MailboxRoutes

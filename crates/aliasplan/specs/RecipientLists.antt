@@ -1,16 +1,15 @@
--- Addresses by their written paths.
-use Rattle.std.specs.Prelude.{◌≡◌, ℕ, ◌<◌, List, length, map, Some, IsTrue}
-use Rattle.std.specs.List.{AllByRecursion}
-use Rattle.std.specs.Prelude.{Vec}
+-- Addresses in the order of their paths.
+use Rattle.std.specs.Prelude.{List, [], ◌∷◌, map}
+use Rattle.std.specs.BTreeSet.{insert_key}
 use Rattle.relay_text.specs.AddressParts.{AddressParts}
-use Rattle.relay_text.specs.Addresses.{is_address, path_text_of}
+use Rattle.aliasplan.specs.declared.written_address.WrittenAddress.{WrittenAddress}
+use Rattle.aliasplan.specs.Plans.{path_cmp}
 
--- an address under its written path
-pub record IsUnderPath {Z : Type 0} (entry : Vec ℕ Z × AddressParts) : Type 0 where
-  pub path : entry.0.items ≡ path_text_of (Some entry.1)
-  pub valid : IsTrue (is_address entry.1)
+-- the addresses beside their paths
+abbrev pub addresses_of : List WrittenAddress → List AddressParts
+addresses_of gathered = map (λ written. written.address) gathered
 
--- at least one address, each under its written path
-pub record AreRecipients {Z : Type 0} (entries : List (Vec ℕ Z × AddressParts)) : Type 0 where
-  pub some : 0 < length entries
-  pub paths : AllByRecursion IsUnderPath entries
+-- the addresses in the order of their paths, each once
+abbrev pub in_path_order : List AddressParts → List AddressParts
+in_path_order [] = []
+in_path_order (a ∷ addresses) = insert_key path_cmp (in_path_order addresses) a

@@ -8,17 +8,19 @@ pub struct Gathered {
     pub lines: TextSet,
 }
 
-ghost use Rattle.std.specs.Prelude.{◌≡◌, ◌⊎◌, ◌↔◌, ℕ, List, map, IsTrue, IfOk, OnOk};
+ghost use Rattle.std.specs.Prelude.{◌≡◌, ◌⊎◌, ◌↔◌, ℕ, List, IsTrue, IfOk, OnOk};
 ghost use Rattle.relay_text.specs.AddressParts.{AddressParts};
-ghost use Rattle.relay_text.specs.Addresses.{is_origin};
 ghost use Rattle.relay_text.specs.Bytes.{has_text};
+ghost use Rattle.std.specs.Option.{ForSome};
 ghost use Rattle.relay_routes.specs.declared.transport.Transport as kinds;
-ghost use Rattle.aliasplan.specs.Delivery.{routing_of, recipient_target};
-ghost use Rattle.aliasplan.specs.Lanes.{HasStop, AreLocalNames, IsStopAt, IsLineAt, IsStopOf, IsLineOf, HaveStop, HaveLine};
+ghost use Rattle.aliasplan.specs.declared.target.Target.TheVariants as targets;
+ghost use Rattle.aliasplan.specs.MailboxRoutes.{IsRouteAt};
+ghost use Rattle.aliasplan.specs.Delivery.{routing_of};
+ghost use Rattle.aliasplan.specs.Lanes.{HasStop, IsStopAt, IsLineAt, IsStopOf, IsLineOf, HaveStop, HaveLine};
 
 use crate::findings::{reason_for, report};
 use crate::job::Job;
-use crate::local_names::LocalNames;
+use crate::mailbox_route::MailboxRoute;
 use crate::target::Target;
 use relay_routes::{Route, Router, Unrouted};
 use relay_text::{Address, TextSet};
@@ -48,23 +50,48 @@ impl Gathered {
         }
     }
 
+    /// Adds a mailbox, by the route that is known where it's the mailbox's.
+    fn add_mailbox(
+        &mut self,
+        alloc: Global,
+        job: &Job,
+        router: &Router,
+        known: Option<&MailboxRoute>,
+        mailbox: Address,
+    ) -> Result<(), AllocError>
+        requires router { router.now ≡ routing_of job.now }
+        requires known { ForSome known (λ r. IsRouteAt job.now r.now) }
+        ensures stops { OnOk result ((t : kinds.Transport) (n : List ℕ) (a : AddressParts) → HasStop self.new.lanes t n a ↔ (HasStop self.old.lanes t n a ⊎ IsStopOf job.now (targets.Mailbox mailbox) t n a)) }
+        ensures lines { OnOk result ((q : List ℕ) → IsTrue (has_text self.new.lines q) ↔ (IsTrue (has_text self.old.lines q) ⊎ IsLineOf job.now (targets.Mailbox mailbox) q)) }
+    {
+        if let Some(known) = known {
+            if known.is_for(&mailbox) {
+                let nexthop = known.route.nexthop.as_bytes();
+                return self
+                    .lanes
+                    .add(alloc, known.route.transport, nexthop, mailbox);
+            }
+        }
+        let answer = router.route_via(alloc, &job.settings.mailbox_transport, &mailbox);
+        self.add_routed(alloc, answer, mailbox)
+    }
+
     /// Adds what a target leads to.
     fn add(
         &mut self,
         alloc: Global,
         job: &Job,
         router: &Router,
+        known: Option<&MailboxRoute>,
         target: Target,
     ) -> Result<(), AllocError>
-        requires { router.now ≡ routing_of job.now }
+        requires router { router.now ≡ routing_of job.now }
+        requires known { ForSome known (λ r. IsRouteAt job.now r.now) }
         ensures stops { OnOk result ((t : kinds.Transport) (n : List ℕ) (a : AddressParts) → HasStop self.new.lanes t n a ↔ (HasStop self.old.lanes t n a ⊎ IsStopOf job.now target t n a)) }
         ensures lines { OnOk result ((q : List ℕ) → IsTrue (has_text self.new.lines q) ↔ (IsTrue (has_text self.old.lines q) ⊎ IsLineOf job.now target q)) }
     {
         match target {
-            Target::Mailbox(address) => {
-                let answer = router.route_via(alloc, &job.settings.mailbox_transport, &address);
-                self.add_routed(alloc, answer, address)
-            }
+            Target::Mailbox(mailbox) => self.add_mailbox(alloc, job, router, known, mailbox),
             Target::Remote(address) => {
                 let answer = router.route(alloc, &address);
                 self.add_routed(alloc, answer, address)
@@ -76,27 +103,26 @@ impl Gathered {
         }
     }
 
-    /// What the recipients of a job lead to, beside lines that are reported already.
+    /// What these targets lead to, beside lines that are reported already.
     pub fn of(
         alloc: Global,
         job: &Job,
         router: &Router,
-        names: &LocalNames,
+        targets: Vec<Target>,
         lines: TextSet,
     ) -> Result<Gathered, AllocError>
-        requires router { router.now ≡ routing_of job.now }
-        requires names { AreLocalNames job.now names.now }
-        requires origin { IsTrue (is_origin job.now.settings.origin) }
-        ensures stops { IfOk result (λ gathered. (t : kinds.Transport) (n : List ℕ) (a : AddressParts) → HasStop gathered.lanes t n a ↔ HaveStop job.now (map (recipient_target job.now) job.now.recipients) t n a) }
-        ensures lines { IfOk result (λ gathered. (q : List ℕ) → IsTrue (has_text gathered.lines q) ↔ (IsTrue (has_text lines q) ⊎ HaveLine job.now (map (recipient_target job.now) job.now.recipients) q)) }
+        requires { router.now ≡ routing_of job.now }
+        ensures stops { IfOk result (λ gathered. (t : kinds.Transport) (n : List ℕ) (a : AddressParts) → HasStop gathered.lanes t n a ↔ HaveStop job.now targets.items t n a) }
+        ensures lines { IfOk result (λ gathered. (q : List ℕ) → IsTrue (has_text gathered.lines q) ↔ (IsTrue (has_text lines q) ⊎ HaveLine job.now targets.items q)) }
     {
+        let first = MailboxRoute::of_first(alloc, job, router, targets.as_slice())?;
+        let known = first.as_ref();
         let mut gathered = Gathered {
             lanes: Lanes::new(alloc),
             lines,
         };
-        for recipient in job.recipients.as_slice() {
-            let target = Target::of(alloc, job, names, recipient)?;
-            gathered.add(alloc, job, router, target)?;
+        for target in targets {
+            gathered.add(alloc, job, router, known, target)?;
         }
         Ok(gathered)
     }

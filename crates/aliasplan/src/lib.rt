@@ -15,6 +15,8 @@ mod key;
 mod lane;
 mod lanes;
 mod local_names;
+mod mailbox_route;
+mod mailbox_search;
 mod nexthops;
 pub mod options;
 pub mod parsing;
@@ -33,10 +35,12 @@ pub mod settings;
 pub mod summary;
 mod table;
 mod target;
+mod targets;
 #[cfg(test)]
 mod tests_parsing;
 mod values;
 mod writing;
+mod written_address;
 
 pub use device::{Device, Failed, Feed, Sink};
 pub use fault::RunFault;

@@ -9,10 +9,10 @@ use crate::batches::plan_lanes;
 use crate::findings::{report_mailboxes, report_table};
 use crate::gathering::Gathered;
 use crate::job::Job;
-use crate::local_names::LocalNames;
 use crate::options::Limits;
 use crate::routing::router_of;
 use crate::table::Table;
+use crate::targets::targets_of;
 use relay_aliasfile::{MailboxFile, parse_mailboxes};
 use relay_routes::{MxTable, TransportTable};
 use relay_text::{Seq, Text, TextSet};
@@ -44,12 +44,12 @@ pub fn plan_job(alloc: Global, job: &Job, limits: Limits) -> Result<Plan, AllocE
 {
     let _ = limits;
     let file = parse_mailboxes(alloc, job.mailboxes.as_bytes())?;
-    let names = LocalNames::of(alloc, job, &file)?;
+    let targets = targets_of(alloc, job, &file)?;
     let transports = TransportTable::parse(alloc, job.transport.as_bytes())?;
     let exchanges = MxTable::parse(alloc, job.mx.as_bytes())?;
     let faults = fault_lines(alloc, &file, &transports, &exchanges)?;
     let router = router_of(alloc, job, transports, exchanges)?;
-    let Gathered { lanes, lines } = Gathered::of(alloc, job, &router, &names, faults)?;
+    let Gathered { lanes, lines } = Gathered::of(alloc, job, &router, targets, faults)?;
     let transactions = plan_lanes(alloc, job, &router, lanes)?;
     let hostname = Vec::from_slice(alloc, job.settings.hostname.as_bytes())?;
     Ok(Plan {

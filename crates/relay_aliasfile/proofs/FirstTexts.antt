@@ -1,13 +1,18 @@
 -- Texts that are kept by their first places.
-use Rattle.std.proofs.Common.{◌≡◌, ℕ, Bool, true, false, ◌||◌, ◌&&◌, cond, List, [], ◌∷◌, ◌++◌, refl, sym, ap, ◌∙◌}
+use Rattle.std.proofs.Common.{◌≡◌, ℕ, ◌+◌, ◌<◌, ◌≤◌, Bool, true, false, ◌||◌, ◌&&◌, cond, eqb, List, [], ◌∷◌, ◌++◌, length, take, get_or, refl, sym, ap, ◌∙◌, arith, zero, suc, inl, inr}
 use Rattle.std.specs.Prelude.{not, filter}
+use Rattle.std.specs.List.{list_any}
 use Rattle.std.specs.Str.{bytes_eq}
-use Rattle.std.proofs.lemmas.Bool.{true≢false}
-use Rattle.std.proofs.lemmas.List.{append_assoc, append-nil}
+use Rattle.std.specs.Bool.{Decides}
+use Rattle.std.proofs.lemmas.Bool.{true≢false, cases_lt}
+use Rattle.std.proofs.lemmas.Bool.Decides.{Decides-eqb}
+use Rattle.std.proofs.lemmas.List.{append_assoc, append-nil, take_more}
 use Rattle.std.proofs.lemmas.List.Folds.{list_any-append}
+use Rattle.std.proofs.lemmas.List.Sums.{fails_before_first, passes_at_first}
 use Rattle.std.proofs.lemmas.Slice.Eq.{bytes_eq-Decides}
 use Rattle.relay_text.specs.Bytes.{has_text, firsts}
-use Rattle.relay_aliasfile.specs.DistinctTexts.{with_texts}
+use Rattle.relay_text.specs.FirstPlaces.{first_place}
+use Rattle.relay_aliasfile.specs.DistinctTexts.{with_text, with_texts}
 
 -- one test after another is one test
 both_tests : {X : Type 0} (p q r : X → Bool) → ((x : X) → r x ≡ (q x && p x)) → (xs : List X) → filter p (filter q xs) ≡ filter r xs
@@ -62,3 +67,102 @@ all_kept (x ∷ xs) = ap (λ t. x ∷ t) (all_kept xs)
 
 pub with_texts-none : (xs : List (List ℕ)) → with_texts [] xs ≡ firsts bytes_eq xs
 with_texts-none xs = with_texts-is [] xs ∙ all_kept (firsts bytes_eq xs)
+
+-- ---- the loop that keeps the texts that stand where they stand first
+or_again : (a b c : Bool) → (a ≡ true → b ≡ true) → (a || (b || c)) ≡ (b || c)
+or_again true true c h = refl
+or_again true false c h = absurd (true≢false (sym (h refl)))
+or_again false b c h = refl
+
+-- what was kept has the texts that it was kept of
+has_text-with_text : (ts : List (List ℕ)) (x q : List ℕ) → has_text (with_text ts x) q ≡ (has_text ts q || (bytes_eq q x || false))
+has_text-with_text ts x q = at (has_text ts x) refl where
+  there : has_text ts x ≡ true → (a b : Bool) → bytes_eq q x ≡ a → has_text ts q ≡ b → b ≡ (b || (a || false))
+  there e true true f g = refl
+  there e true false f g = absurd (true≢false (sym e ∙ ap (has_text ts) (sym ((bytes_eq-Decides q x).0 f)) ∙ g))
+  there e false true f g = refl
+  there e false false f g = refl
+
+  at : (b : Bool) → has_text ts x ≡ b → has_text (cond b ts (ts ++ x ∷ [])) q ≡ (has_text ts q || (bytes_eq q x || false))
+  at true e = there e (bytes_eq q x) (has_text ts q) refl refl
+  at false e = list_any-append (bytes_eq q) ts (x ∷ [])
+
+or_assoc : (a b c : Bool) → ((a || (b || false)) || c) ≡ (a || (b || c))
+or_assoc true b c = refl
+or_assoc false true c = refl
+or_assoc false false c = refl
+
+has_text-with_texts : (ts xs : List (List ℕ)) (q : List ℕ) → has_text (with_texts ts xs) q ≡ (has_text ts q || has_text xs q)
+has_text-with_texts ts [] q = at (has_text ts q) where
+  at : (b : Bool) → b ≡ (b || false)
+  at true = refl
+  at false = refl
+has_text-with_texts ts (x ∷ xs) q =
+    has_text-with_texts (with_text ts x) xs q ∙ ap (λ b. b || has_text xs q) (has_text-with_text ts x q)
+    ∙ or_assoc (has_text ts q) (bytes_eq q x) (has_text xs q)
+
+with_texts-push : (ts xs : List (List ℕ)) (y : List ℕ) → with_texts ts (xs ++ y ∷ []) ≡ with_text (with_texts ts xs) y
+with_texts-push ts [] y = refl
+with_texts-push ts (x ∷ xs) y = with_texts-push (with_text ts x) xs y
+
+-- a text stands first at its place where none before it is the same
+none_before : (xs : List (List ℕ)) (x : List ℕ) (i : ℕ) → i ≤ first_place xs x → has_text (take i xs) x ≡ false
+none_before xs x zero h = refl
+none_before [] x (suc i) h = refl
+none_before (y ∷ ys) x (suc i) h = at (bytes_eq x y) refl h (none_before ys x i) where
+  at : (b : Bool) → bytes_eq x y ≡ b → suc i ≤ cond (not b) (1 + first_place ys x) 0 → (i ≤ first_place ys x → has_text (take i ys) x ≡ false) → (b || has_text (take i ys) x) ≡ false
+  at true e h later = absurd (omega (arith, h))
+  at false e h later = later (omega (arith, h))
+
+some_before : (xs : List (List ℕ)) (x : List ℕ) (i : ℕ) → first_place xs x < i → i ≤ length xs → has_text (take i xs) x ≡ true
+some_before xs x zero h inside = absurd (omega (arith, h))
+some_before [] x (suc i) h inside = absurd (omega (arith, inside))
+some_before (y ∷ ys) x (suc i) h inside = at (bytes_eq x y) h (λ g. some_before ys x i g (omega (arith, inside))) where
+  at : (b : Bool) → cond (not b) (1 + first_place ys x) 0 < suc i → (first_place ys x < i → has_text (take i ys) x ≡ true) → (b || has_text (take i ys) x) ≡ true
+  at true h later = refl
+  at false h later = later (omega (arith, h))
+
+no_later : (xs : List (List ℕ)) (x : List ℕ) (i : ℕ) → i < length xs → x ≡ get_or xs i x → first_place xs x ≤ i
+no_later xs x i inside is =
+    elim (cases_lt i (first_place xs x)) [
+      | inl over ↦ absurd (true≢false (sym ((bytes_eq-Decides x (get_or xs i x)).1 is) ∙ fails_before_first (bytes_eq x) xs i x over))
+      | inr upto ↦ upto
+    ]
+
+kept_first : (xs kept : List (List ℕ)) (x : List ℕ) (i : ℕ) → i < length xs → x ≡ get_or xs i x → kept ≡ with_texts [] (take i xs) → first_place xs x ≡ i → kept ++ x ∷ [] ≡ with_texts [] (take (i + 1) xs)
+kept_first xs kept x i inside is so_far first =
+    let fresh : has_text (with_texts [] (take i xs)) x ≡ false = has_text-with_texts [] (take i xs) x ∙ none_before xs x i (let e : i ≤ first_place xs x = omega (arith, first) in e) in
+    ap (λ ts. ts ++ x ∷ []) so_far
+    ∙ sym (ap (λ b. cond b (with_texts [] (take i xs)) (with_texts [] (take i xs) ++ x ∷ [])) fresh)
+    ∙ sym (with_texts-push [] (take i xs) x)
+    ∙ ap (with_texts []) (ap (λ y. take i xs ++ y ∷ []) is ∙ sym (take_more xs i x inside))
+
+kept_other : (xs kept : List (List ℕ)) (x : List ℕ) (i n : ℕ) → i < length xs → x ≡ get_or xs i x → kept ≡ with_texts [] (take i xs) → n ≡ first_place xs x → (n ≡ i → ⊥) → kept ≡ with_texts [] (take (i + 1) xs)
+kept_other xs kept x i n inside is so_far first apart =
+    let upto = no_later xs x i inside is in
+    let less : first_place xs x < i = elim (cases_lt (first_place xs x) i) [ inl less ↦ less | inr more ↦ absurd (apart (let e : n ≡ i = omega (arith, first, upto, more) in e)) ] in
+    let again : has_text (with_texts [] (take i xs)) x ≡ true = has_text-with_texts [] (take i xs) x ∙ some_before xs x i less (let e : i ≤ length xs = omega (arith, inside) in e) in
+    so_far
+    ∙ sym (ap (λ b. cond b (with_texts [] (take i xs)) (with_texts [] (take i xs) ++ x ∷ [])) again)
+    ∙ sym (with_texts-push [] (take i xs) x)
+    ∙ ap (with_texts []) (ap (λ y. take i xs ++ y ∷ []) is ∙ sym (take_more xs i x inside))
+
+pub kept_more : (xs kept more : List (List ℕ)) (x : List ℕ) (i n : ℕ) → i < length xs → x ≡ get_or xs i x → kept ≡ with_texts [] (take i xs) → n ≡ first_place xs x
+    → more ≡ cond (eqb n i) (kept ++ x ∷ []) kept → more ≡ with_texts [] (take (i + 1) xs)
+kept_more xs kept more x i n inside is so_far first new = at (eqb n i) (Decides-eqb n i) new where
+  at : (b : Bool) → Decides b (n ≡ i) → more ≡ cond b (kept ++ x ∷ []) kept → more ≡ with_texts [] (take (i + 1) xs)
+  at true d e = e ∙ kept_first xs kept x i inside is so_far (sym first ∙ d.0 refl)
+  at false d e = e ∙ kept_other xs kept x i n inside is so_far first (λ f. true≢false (sym (d.1 f)))
+
+-- whether a text stands first at its place
+pub is_first-is : (xs : List (List ℕ)) (x : List ℕ) (i : ℕ) → i < length xs → x ≡ get_or xs i x → eqb (first_place xs x) i ≡ not (has_text (take i xs) x)
+is_first-is xs x i inside is = at (eqb (first_place xs x) i) (Decides-eqb (first_place xs x) i) where
+  at : (b : Bool) → Decides b (first_place xs x ≡ i) → b ≡ not (has_text (take i xs) x)
+  at true d = sym (ap (λ t. not t) (none_before xs x i (let e = d.0 refl in let f : i ≤ first_place xs x = omega (arith, e) in f)))
+  at false d =
+      sym (ap (λ t. not t) (some_before xs x i
+      (elim (cases_lt (first_place xs x) i) [
+        | inl less ↦ less
+        | inr more ↦ absurd (true≢false (sym (d.1 (let upto = no_later xs x i inside is in let e : first_place xs x ≡ i = omega (arith, upto, more) in e))))
+      ])
+      (let f : i ≤ length xs = omega (arith, inside) in f)))

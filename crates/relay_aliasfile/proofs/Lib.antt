@@ -5,5 +5,6 @@ pub mod Outside
 pub mod AddressItems
 pub mod ItemForms
 pub mod ItemLists
+pub mod NamePlaces
 pub mod AliasLines
 pub mod IncludePaths

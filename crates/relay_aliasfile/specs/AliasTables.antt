@@ -1,7 +1,5 @@
--- What a logical line adds to the entries, names and faults that were gathered.
-use Rattle.std.specs.Prelude.{ℕ, List, [], ◌∷◌, Option, Some, None, if◌then◌else◌}
-use Rattle.relay_text.specs.Bytes.{has_text}
-use Rattle.relay_text.specs.declared.lines.Line.{Line}
+-- What a logical line adds to the entries and the faults that were gathered, where it's known whether its name is new.
+use Rattle.std.specs.Prelude.{ℕ, ◌+◌, Bool, List, [], ◌∷◌, Option, Some, None, if◌then◌else◌}
 use Rattle.relay_aliasfile.specs.AliasFiles.{Heading, list_faults}
 use Rattle.relay_aliasfile.specs.Items.{good_items}
 use Rattle.relay_aliasfile.specs.MailboxFiles.{fault}
@@ -12,14 +10,15 @@ use Rattle.relay_aliasfile.specs.declared.fault.FaultKind.TheVariants.{BadLine, 
 abbrev pub new_entry : ℕ → Heading → Entry
 new_entry line h = record { name = h.name; line = line; items = good_items h.list }
 
-abbrev pub new_entries : List (List ℕ) → Line → Option Heading → List Entry
-new_entries names l None = []
-new_entries names l (Some h) = if has_text names h.name then [] else (new_entry l.number h ∷ [])
+abbrev pub new_entries : Bool → ℕ × Option Heading → List Entry
+new_entries is_new (number, None) = []
+new_entries is_new (number, Some h) = if is_new then (new_entry number h ∷ []) else []
 
-abbrev pub new_faults : List (List ℕ) → Line → Option Heading → List LineFault
-new_faults names l None = fault l.number BadLine ∷ []
-new_faults names l (Some h) = if has_text names h.name then (fault l.number Duplicate ∷ []) else list_faults l.number h.list
+abbrev pub new_faults : Bool → ℕ × Option Heading → List LineFault
+new_faults is_new (number, None) = fault number BadLine ∷ []
+new_faults is_new (number, Some h) = if is_new then list_faults number h.list else (fault number Duplicate ∷ [])
 
-abbrev pub new_names : Option Heading → List (List ℕ)
-new_names None = []
-new_names (Some h) = h.name ∷ []
+-- one more name, where the line has one
+abbrev pub more_named : ℕ → ℕ × Option Heading → ℕ
+more_named named (number, None) = named
+more_named named (number, Some h) = named + 1

@@ -9,4 +9,5 @@ pub mod ItemTexts
 pub mod Specials
 pub mod Lists
 pub mod Headings
+pub mod HeadedLines
 pub mod AliasTables

@@ -4,9 +4,10 @@ ghost use Rattle.relay_aliasfile.specs.AliasFiles.{alias_file_of, entry_items};
 ghost use Rattle.relay_aliasfile.specs.IncludeNames.{include_names_in};
 
 use crate::alias_table::AliasTable;
-use crate::distinct::DistinctTexts;
+use crate::distinct::distinct_texts;
 use crate::entry::Entry;
 use crate::fault::LineFault;
+use crate::headed_line::{headed_lines, name_places};
 use crate::paths::add_paths;
 use relay_text::{Seq, Text, logical_lines};
 use std::alloc::{AllocError, Global};
@@ -33,8 +34,10 @@ pub fn parse_aliases(alloc: Global, bytes: &[u8]) -> Result<AliasFile, AllocErro
     let lines = logical_lines(alloc, bytes)?;
     let mut table = AliasTable::new(alloc);
     table.add_orphans(lines.orphans.as_slice())?;
-    for line in lines.lines.as_slice() {
-        table.add_line(alloc, line)?;
+    let headed = headed_lines(alloc, lines.lines.as_slice())?;
+    let places = name_places(alloc, headed.as_slice())?;
+    for line in headed {
+        table.add_line(alloc, line, places.as_slice())?;
     }
     Ok(table.into_file())
 }
@@ -44,9 +47,9 @@ pub fn parse_aliases(alloc: Global, bytes: &[u8]) -> Result<AliasFile, AllocErro
 pub fn include_names(alloc: Global, file: &AliasFile) -> Result<Seq<Text>, AllocError>
     ensures { IfOk result (λ names. names ≡ include_names_in (entry_items file.now.entries)) }
 {
-    let mut paths = DistinctTexts::new(alloc);
+    let mut paths: Vec<Text> = Vec::new(alloc);
     for entry in file.entries.as_slice() {
         add_paths(alloc, entry.items.as_slice(), &mut paths)?;
     }
-    Ok(paths.into_seq())
+    distinct_texts(alloc, paths)
 }

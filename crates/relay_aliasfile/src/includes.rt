@@ -4,7 +4,7 @@ ghost use Rattle.relay_aliasfile.specs.IncludeFiles.{include_file_of, bad_item_f
 ghost use Rattle.relay_aliasfile.specs.Items.{good_items};
 ghost use Rattle.relay_aliasfile.specs.IncludeNames.{include_names_in};
 
-use crate::distinct::DistinctTexts;
+use crate::distinct::distinct_texts;
 use crate::fault::LineFault;
 use crate::item::Item;
 use crate::item_texts::ItemTexts;
@@ -66,7 +66,7 @@ fn read_line_items(
 pub fn include_names_of(alloc: Global, file: &IncludeFile) -> Result<Seq<Text>, AllocError>
     ensures { IfOk result (λ names. names ≡ include_names_in file.now.items) }
 {
-    let mut paths = DistinctTexts::new(alloc);
+    let mut paths: Vec<Text> = Vec::new(alloc);
     add_paths(alloc, file.items.as_slice(), &mut paths)?;
-    Ok(paths.into_seq())
+    distinct_texts(alloc, paths)
 }

@@ -6,6 +6,7 @@ pub mod aliases;
 mod distinct;
 pub mod entry;
 pub mod fault;
+mod headed_line;
 mod heading;
 pub mod includes;
 pub mod item;

@@ -2,7 +2,7 @@
 ghost use Rattle.std.specs.Prelude.{◌≡◌, IfOk};
 ghost use Rattle.relay_aliasfile.specs.MailboxFiles.{mailbox_file_of};
 
-use crate::distinct::DistinctTexts;
+use crate::distinct::distinct_texts;
 use crate::fault::{FaultKind, LineFault};
 use crate::names::folded_name;
 use relay_text::{KeptLines, Seq, Text, trimmed};
@@ -23,12 +23,12 @@ pub struct MailboxFile {
 pub fn parse_mailboxes(alloc: Global, bytes: &[u8]) -> Result<MailboxFile, AllocError>
     ensures { IfOk result (λ file. file ≡ mailbox_file_of bytes.now) }
 {
-    let mut names = DistinctTexts::new(alloc);
+    let mut names: Vec<Text> = Vec::new(alloc);
     let mut faults: Vec<LineFault> = Vec::new(alloc);
     let mut lines = KeptLines::new(bytes);
     while let Some(line) = lines.next_line() {
         match folded_name(alloc, trimmed(line.text))? {
-            Some(name) => names.add(alloc, name)?,
+            Some(name) => names.push(Text::of(name))?,
             None => faults.push(LineFault {
                 line: line.number,
                 kind: FaultKind::BadLine,
@@ -36,7 +36,7 @@ pub fn parse_mailboxes(alloc: Global, bytes: &[u8]) -> Result<MailboxFile, Alloc
         }
     }
     Ok(MailboxFile {
-        names: names.into_seq(),
+        names: distinct_texts(alloc, names)?,
         faults: Seq::of(faults),
     })
 }

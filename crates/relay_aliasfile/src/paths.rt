@@ -1,23 +1,22 @@
 //! The paths of include items.
-ghost use Rattle.std.specs.Prelude.{◌≡◌, filter_map, OnOk};
-ghost use Rattle.relay_aliasfile.specs.DistinctTexts.{with_texts};
+ghost use Rattle.std.specs.Prelude.{◌≡◌, ◌++◌, filter_map, OnOk};
 ghost use Rattle.relay_aliasfile.specs.IncludeNames.{included_path};
 
-use crate::distinct::DistinctTexts;
 use crate::item::Item;
+use relay_text::Text;
 use std::alloc::{AllocError, Global};
 
-/// Adds the paths of include items, where they aren't there already.
+/// Puts the paths of include items at the end.
 pub(crate) fn add_paths(
     alloc: Global,
     items: &[Item],
-    paths: &mut DistinctTexts,
+    paths: &mut Vec<Text>,
 ) -> Result<(), AllocError>
-    ensures { OnOk result (paths.new ≡ with_texts paths.old (filter_map included_path items.now)) }
+    ensures { OnOk result (paths.new.items ≡ paths.old.items ++ filter_map included_path items.now) }
 {
     for item in items {
         if let Some(path) = item.included_path() {
-            paths.add_copy(alloc, path)?;
+            paths.push(Text::of(Vec::from_slice(alloc, path)?))?;
         }
     }
     Ok(())

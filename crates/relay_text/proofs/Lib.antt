@@ -14,3 +14,4 @@ pub mod Writing
 pub mod Splits
 pub mod Numbers
 pub mod TextSets
+pub mod Firsts

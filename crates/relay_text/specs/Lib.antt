@@ -7,4 +7,6 @@ pub mod KeptLines
 pub mod Gathered
 pub mod Numbers
 pub mod TextSets
+pub mod HashedTexts
+pub mod FirstPlaces
 pub mod QuotedStrings

@@ -1,8 +1,9 @@
-use Rattle.std.proofs.Common.{◌≡◌, drop}
+use Rattle.std.proofs.Common.{◌≡◌, take}
+use Rattle.std.specs.Prelude.{filter_map}
 use Rattle.relay_aliasfile.specs.AliasFiles.{entry_items}
-use Rattle.relay_aliasfile.proofs.IncludePaths.{with_paths}
+use Rattle.relay_aliasfile.specs.IncludeNames.{included_path}
 use Rattle.relay_aliasfile.proofs.aliases.include_names.Given as goal
 
--- with the entries left, what was gathered makes all of it
+-- the paths of the entries so far
 abbrev pub invariant-loop-entry : goal.invariant-loop-entry
-invariant-loop-entry l = with_paths l.paths (entry_items (drop l.entry-index l.entry-items)) ≡ with_paths l.initial.paths (entry_items l.entry-items)
+invariant-loop-entry l = l.paths.items ≡ filter_map included_path (entry_items (take l.entry-index l.entry-items))

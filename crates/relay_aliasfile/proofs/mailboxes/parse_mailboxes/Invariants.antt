@@ -1,15 +1,14 @@
-use Rattle.std.proofs.Common.{◌≡◌, [], ◌++◌, length}
+use Rattle.std.proofs.Common.{◌≡◌, ◌++◌, length}
 use Rattle.std.specs.Prelude.{filter_map, flat_map}
 use Rattle.relay_text.specs.Lines.{kept_lines}
 use Rattle.relay_text.specs.KeptLines.{kept_rest}
-use Rattle.relay_aliasfile.specs.DistinctTexts.{with_texts}
 use Rattle.relay_aliasfile.specs.MailboxFiles.{name_in, faults_in}
 use Rattle.relay_aliasfile.proofs.mailboxes.parse_mailboxes.Given as goal
 
 -- what was gathered so far, with what the lines left give, is what all lines give
 abbrev pub invariant-loop-line : goal.invariant-loop-line
 invariant-loop-line l = record {
-  names : with_texts l.names (filter_map name_in (kept_rest l.lines)) ≡ with_texts [] (filter_map name_in (kept_lines l.bytes));
+  names : l.names.items ++ filter_map name_in (kept_rest l.lines) ≡ filter_map name_in (kept_lines l.bytes);
   faults : l.faults.items ++ flat_map faults_in (kept_rest l.lines) ≡ flat_map faults_in (kept_lines l.bytes);
 }
 

@@ -1,7 +1,8 @@
-use Rattle.std.proofs.Common.{◌≡◌, drop}
-use Rattle.relay_aliasfile.proofs.IncludePaths.{with_paths}
+use Rattle.std.proofs.Common.{◌≡◌, ◌++◌, take}
+use Rattle.std.specs.Prelude.{filter_map}
+use Rattle.relay_aliasfile.specs.IncludeNames.{included_path}
 use Rattle.relay_aliasfile.proofs.paths.add_paths.Given as goal
 
--- with the items left, what was gathered makes all of it
+-- the paths of the items so far
 abbrev pub invariant-loop-item : goal.invariant-loop-item
-invariant-loop-item l = with_paths l.paths (drop l.item-index l.items) ≡ with_paths l.initial.paths l.items
+invariant-loop-item l = l.paths.items ≡ l.initial.paths.items ++ filter_map included_path (take l.item-index l.items)

@@ -1,11 +1,11 @@
-use Rattle.aliasplan.proofs.RecipientFacts.{recipients-insert, members-insert}
+use Rattle.std.proofs.Common.{◌≡◌, ◌⊎◌, List, ap, subst, sym}
+use Rattle.std.specs.Prelude.{Contains, ◌↔◌}
+use Rattle.relay_text.specs.AddressParts.{AddressParts}
+use Rattle.aliasplan.proofs.RecipientFacts.{members-push}
+use Rattle.aliasplan.specs.RecipientLists.{addresses_of, in_path_order}
 use Rattle.aliasplan.proofs.recipients.Recipients.add.Goals as goal
-
-pub invariant_of-self-2 : goal.invariant_of-self-2
-invariant_of-self-2 c =
-    rw c.in_ok-insert.ensures.entries (recipients-insert _ _ (record { path = c.in_ok-path.ensures.path; valid = c.in_ok-path.ensures.valid }) _ c.self.invariant.paths)
 
 pub returns-clause-ok : goal.returns-clause-ok
 returns-clause-ok c =
-    rw (c.in_ok-insert.ensures.entries, ← c.self.view_is)
-    (members-insert _ _ (record { path = c.in_ok-path.ensures.path; valid = c.in_ok-path.ensures.valid }) _ c.self.invariant.paths)
+    λ x.
+    rw (← c.in_ok-of.ensures, ← c.self.view_is) (members-push c.self.inside.gathered.items c.push.new.self.items c.in_ok-of.field-0 c.in_ok-push.ensures.items x)

@@ -1,0 +1,10 @@
+use Rattle.std.proofs.Common.{◌≡◌, [], length, take}
+use Rattle.relay_aliasfile.specs.DistinctTexts.{with_texts}
+use Rattle.relay_aliasfile.proofs.distinct.distinct_texts.Given as goal
+
+-- the texts so far, each by its first place
+abbrev pub invariant-loop-text : goal.invariant-loop-text
+invariant-loop-text l = record {
+  counted : l.place ≡ length l.yielded;
+  kept : l.distinct.items ≡ with_texts [] (take l.place l.fn.texts.items);
+}
