@@ -1,66 +1,60 @@
 -- Which faults a job's bytes have.
-use Rattle.std.proofs.Common.{◌≡◌, ◌≢◌, ℕ, List, [], ◌∷◌, Option, Some, None, option_map, Result, Ok, Err, sym, subst}
-use Rattle.relay_text.specs.Bytes.{first_of}
-use Rattle.aliasplan.specs.declared.job.Job.{Job}
-use Rattle.aliasplan.specs.declared.fault.RunFault.{RunFault}
-use Rattle.aliasplan.specs.declared.fault.RunFault.TheVariants.{Read, TooLong, BadJob, BadSetting, BadEnvelope, TooManyNames, TooManyOwners, TooManyPairs, Write, Memory}
+use Rattle.std.proofs.Common.{◌≡◌, ◌≢◌, ℕ, List, Ok, Err, subst}
+use Rattle.relay_job.specs.declared.job.Job.{Job}
+use Rattle.relay_job.specs.declared.fault.RunFault.{RunFault}
+use Rattle.relay_job.specs.declared.fault.RunFault.TheVariants.{Read, TooLong, BadJob, BadSetting, BadEnvelope, TooManyNames, TooManyOwners, TooManyPairs, Write, Memory}
+use Rattle.relay_job.specs.JobText.{job_of}
+use Rattle.relay_job.specs.JobAnswers.{Fails}
+use Rattle.relay_job.proofs.Faults.{fault_of_job}
 use Rattle.aliasplan.specs.declared.options.Limits.{Limits}
-use Rattle.aliasplan.specs.JobText.{job_of, job_unless, job_fault, bad_job, bad_setting, bad_envelope, sections_of, job_settings, envelope_part}
-use Rattle.aliasplan.specs.Outcomes.{RefusesJob, Refuses, Fails}
+use Rattle.aliasplan.specs.Outcomes.{IsRefused, RefusesBytes, Refuses}
 
--- the three faults of a job's lines
-abbrev pub IsJobFault : RunFault → Type 0
-IsJobFault (BadJob line) = Unit {0}
-IsJobFault (BadSetting line) = Unit {0}
-IsJobFault (BadEnvelope line) = Unit {0}
-IsJobFault Read = ⊥
-IsJobFault TooLong = ⊥
-IsJobFault TooManyNames = ⊥
-IsJobFault TooManyOwners = ⊥
-IsJobFault TooManyPairs = ⊥
-IsJobFault Write = ⊥
-IsJobFault Memory = ⊥
+module _ (limits : Limits) (text : List ℕ) where
+  -- a text that is no job
+  pub refuses_text : (fault : RunFault) → Fails fault (job_of text) → RefusesBytes limits text fault
+  refuses_text (BadJob line) h = h
+  refuses_text (BadSetting line) h = h
+  refuses_text (BadEnvelope line) h = h
+  refuses_text Memory h = tt
+  refuses_text Read h = absurd (fault_of_job text Read h)
+  refuses_text TooLong h = absurd (fault_of_job text TooLong h)
+  refuses_text TooManyNames h = absurd (fault_of_job text TooManyNames h)
+  refuses_text TooManyOwners h = absurd (fault_of_job text TooManyOwners h)
+  refuses_text TooManyPairs h = absurd (fault_of_job text TooManyPairs h)
+  refuses_text Write h = absurd (fault_of_job text Write h)
 
-fault_among : (a b c : Option ℕ) (job : Job) (fault : RunFault)
-    → job_unless (first_of (option_map BadJob a ∷ option_map BadSetting b ∷ option_map BadEnvelope c ∷ [])) job ≡ Err fault → IsJobFault fault
-fault_among (Some n) b c job fault h = let e : BadJob n ≡ fault = cc in subst IsJobFault e tt
-fault_among None (Some n) c job fault h = let e : BadSetting n ≡ fault = cc in subst IsJobFault e tt
-fault_among None None (Some n) job fault h = let e : BadEnvelope n ≡ fault = cc in subst IsJobFault e tt
-fault_among None None None job fault h = cc
+  -- a job that is refused
+  pub refuses_job : (job : Job) → job_of text ≡ Ok job → (fault : RunFault) → IsRefused limits job fault → RefusesBytes limits text fault
+  refuses_job job is (BadJob line) h = absurd h
+  refuses_job job is (BadSetting line) h = absurd h
+  refuses_job job is (BadEnvelope line) h = absurd h
+  refuses_job job is Memory h = tt
+  refuses_job job is Read h = absurd h
+  refuses_job job is TooLong h = absurd h
+  refuses_job job is TooManyNames h = (job, is, h)
+  refuses_job job is TooManyOwners h = (job, is, h)
+  refuses_job job is TooManyPairs h = (job, is, h)
+  refuses_job job is Write h = absurd h
 
-pub fault_of_job : (text : List ℕ) (fault : RunFault) → job_of text ≡ Err fault → IsJobFault fault
-unfolding job_of
-fault_of_job text fault h = fault_among (bad_job text) (bad_setting text) (bad_envelope (job_settings text).origin (envelope_part text)) (sections_of text) fault h
+  -- what a run refuses because of the bytes that it read
+  pub refuses_run : (fault : RunFault) → RefusesBytes limits text fault → Refuses limits text fault
+  refuses_run (BadJob line) h = h
+  refuses_run (BadSetting line) h = h
+  refuses_run (BadEnvelope line) h = h
+  refuses_run Memory h = tt
+  refuses_run Read h = absurd h
+  refuses_run TooLong h = absurd h
+  refuses_run TooManyNames h = h
+  refuses_run TooManyOwners h = h
+  refuses_run TooManyPairs h = h
+  refuses_run Write h = absurd h
 
--- what a call that answers a job's fault refuses
-pub refuses : (text : List ℕ) (fault : RunFault) → Fails fault (job_of text) → RefusesJob text fault
-refuses text (BadJob line) h = h
-refuses text (BadSetting line) h = h
-refuses text (BadEnvelope line) h = h
-refuses text Memory h = tt
-refuses text Read h = fault_of_job text Read h
-refuses text TooLong h = fault_of_job text TooLong h
-refuses text TooManyNames h = fault_of_job text TooManyNames h
-refuses text TooManyOwners h = fault_of_job text TooManyOwners h
-refuses text TooManyPairs h = fault_of_job text TooManyPairs h
-refuses text Write h = fault_of_job text Write h
+  -- it isn't a fault of reading or writing
+  pub not_read : (fault : RunFault) → RefusesBytes limits text fault → fault ≢ Read
+  not_read fault h e = subst (RefusesBytes limits text) e h
 
--- what a run refuses because of the bytes that it read
-pub refuses_run : (limits : Limits) (text : List ℕ) (fault : RunFault) → RefusesJob text fault → Refuses limits text fault
-refuses_run limits text (BadJob line) h = h
-refuses_run limits text (BadSetting line) h = h
-refuses_run limits text (BadEnvelope line) h = h
-refuses_run limits text Memory h = tt
-refuses_run limits text Read h = absurd h
-refuses_run limits text TooLong h = absurd h
-refuses_run limits text TooManyNames h = absurd h
-refuses_run limits text TooManyOwners h = absurd h
-refuses_run limits text TooManyPairs h = absurd h
-refuses_run limits text Write h = absurd h
+  pub not_write : (fault : RunFault) → RefusesBytes limits text fault → fault ≢ Write
+  not_write fault h e = subst (RefusesBytes limits text) e h
 
--- it isn't a fault of reading or writing
-pub not_read : (text : List ℕ) (fault : RunFault) → RefusesJob text fault → fault ≢ Read
-not_read text fault h e = subst (λ f. RefusesJob text f) e h
-
-pub not_write : (text : List ℕ) (fault : RunFault) → RefusesJob text fault → fault ≢ Write
-not_write text fault h e = subst (λ f. RefusesJob text f) e h
+  pub not_long : (fault : RunFault) → RefusesBytes limits text fault → fault ≢ TooLong
+  not_long fault h e = subst (RefusesBytes limits text) e h

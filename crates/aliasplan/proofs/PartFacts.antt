@@ -4,7 +4,7 @@ use Rattle.std.specs.List.{range_with_len, slice_range}
 use Rattle.std.proofs.lemmas.Bool.{cases_lt}
 use Rattle.std.proofs.lemmas.List.{length-drop, drop-drop, take_at, drop_at, length-append, take_all, drop_all}
 use Rattle.std.proofs.lemmas.Nat.{div_below, le-div, div-add-mod', mod_below}
-use Rattle.aliasplan.specs.Plans.{part_count, parts_of}
+use Rattle.relay_rings.specs.Batches.{part_count, parts_of}
 
 part_count-zero : (size : ℕ) → 0 < size → part_count 0 size ≡ 0
 part_count-zero size pos =

@@ -1,56 +1,51 @@
--- A plan of a job, from its lanes and its lines.
-use Rattle.std.proofs.Common.{◌≡◌, ◌⊎◌, ℕ, List, map, sym, ◌∙◌, subst, inl, inr}
+-- A plan of a job, from its transactions and its lines.
+use Rattle.std.proofs.Common.{◌≡◌, ◌⊎◌, ℕ, List, refl, sym, ◌∙◌, subst, inl, inr}
 use Rattle.std.specs.Prelude.{IsTrue, Contains, ◌↔◌}
-use Rattle.std.specs.List.{flat_map}
 use Rattle.relay_text.specs.Bytes.{has_text}
-use Rattle.relay_text.specs.AddressParts.{AddressParts}
-use Rattle.relay_aliasfile.specs.MailboxFiles.{mailbox_file_of}
-use Rattle.relay_routes.specs.declared.transport.Transport.{Transport}
-use Rattle.relay_routes.specs.Transports.{transport_table_of}
-use Rattle.relay_routes.specs.Exchanges.{mx_table_of}
-use Rattle.relay_wire.specs.declared.plan.Plan.{Plan}
-use Rattle.aliasplan.specs.declared.job.Job.{Job}
-use Rattle.aliasplan.specs.declared.lane.Lane.{Lane}
-use Rattle.aliasplan.specs.declared.lanes.Lanes.{Lanes}
-use Rattle.aliasplan.specs.Delivery.{recipient_target}
-use Rattle.aliasplan.specs.Report.{IsFindingLine}
-use Rattle.aliasplan.specs.Plans.{batches_of, IsPlanOf}
 use Rattle.relay_text.specs.TextSets.{IsAscendingBy, text_cmp}
-use Rattle.aliasplan.specs.Lanes.{HasStop, HaveStop, HaveLine, lanes_of, lane_cmp, group_of, AreRouted, AreInOrder, is_fault_line}
+use Rattle.relay_wire.specs.declared.finding.Finding.{Finding}
+use Rattle.relay_wire.specs.Findings.{finding_text_of}
+use Rattle.relay_wire.specs.declared.plan.Plan.{Plan}
+use Rattle.relay_job.specs.declared.job.Job.{Job}
+use Rattle.aliasplan.specs.Report.{Part, texts, entries, routes, part_of, IsFinding, IsFindingLine, IsLineOf}
+use Rattle.aliasplan.specs.Plans.{AreTransactionsOf, IsPlanOf}
+use Rattle.aliasplan.specs.Texts.{has_fault_line}
 use Rattle.aliasplan.proofs.SetFacts.{Contains-has_text, has_text-Contains}
-use Rattle.aliasplan.proofs.Groups.{is_grouping, lanes_routed}
-use Rattle.aliasplan.proofs.LineFacts.{reported_is}
+use Rattle.aliasplan.proofs.TextFacts.{text_lines}
 
--- what a plan's lanes and lines are to be
-pub record AreOf (job : Job) (lanes : Lanes) (faults lines : List (List ℕ)) (plan : Plan) : Type 0 where
-  pub hostname : plan.hostname ≡ job.settings.hostname
-  pub stops : (t : Transport) (n : List ℕ) (a : AddressParts) → HasStop lanes t n a ↔ HaveStop job (map (recipient_target job) job.recipients) t n a
-  pub in_order : (l : Lane) → Contains (lanes_of lanes) l → AreInOrder l.to
-  pub ascending : IsAscendingBy lane_cmp (lanes_of lanes)
-  pub batches : AreRouted job (lanes_of lanes) → plan.transactions ≡ flat_map (batches_of job) (map (group_of job) (lanes_of lanes))
-  pub all : plan.findings ≡ lines
-  pub sorted : IsAscendingBy text_cmp lines
-  pub faults_are : (q : List ℕ) → has_text faults q ≡ is_fault_line (mailbox_file_of job.mailboxes).faults (transport_table_of job.transport).faults (mx_table_of job.mx).faults q
-  pub reported : (q : List ℕ) → IsTrue (has_text lines q) ↔ (IsTrue (has_text faults q) ⊎ HaveLine job (map (recipient_target job) job.recipients) q)
+pub plan_is : (job : Job) (plan : Plan) (lines : List (List ℕ)) → plan.hostname ≡ job.settings.hostname → AreTransactionsOf job plan.transactions → plan.findings ≡ lines → IsAscendingBy text_cmp lines → ((q : List ℕ) → IsTrue (has_text lines q) ↔ IsFindingLine job q) → IsPlanOf job plan
+plan_is job plan lines hostname transactions all sorted reported =
+    record {
+      hostname = hostname;
+      transactions = transactions;
+      findings_ascending = subst (λ (ls : List (List ℕ)). IsAscendingBy text_cmp ls) (sym all) sorted;
+      findings = λ q. (
+        λ c. (reported q).0 (has_text-Contains lines q (subst (λ (ls : List (List ℕ)). Contains ls q) all c)),
+        λ finding. subst (λ (ls : List (List ℕ)). Contains ls q) (sym all) (Contains-has_text lines q ((reported q).1 finding)),
+      );
+    }
 
-module _ (job : Job) (lanes : Lanes) (faults lines : List (List ℕ)) (plan : Plan) (h : AreOf job lanes faults lines plan) where
-  found : (q : List ℕ) → Contains plan.findings q → IsFindingLine job q
-  found q c =
-      let has : IsTrue (has_text lines q) = has_text-Contains lines q (subst (λ (ls : List (List ℕ)). Contains ls q) h.all c) in
-      (reported_is job q).0 (elim ((h.reported q).0 has) [ inl fault ↦ inl (sym (h.faults_are q) ∙ fault) | inr target ↦ inr target ])
+module _ (job : Job) (q : List ℕ) where
+  in_part : (finding : Finding) (part : Part) → part_of finding ≡ part → IsFinding job finding → q ≡ finding_text_of finding → (IsLineOf job texts q ⊎ IsLineOf job entries q) ⊎ IsLineOf job routes q
+  in_part finding texts part is line = inl (inl (finding, part, is, line))
+  in_part finding entries part is line = inl (inr (finding, part, is, line))
+  in_part finding routes part is line = inr (finding, part, is, line)
 
-  given : (q : List ℕ) → IsFindingLine job q → Contains plan.findings q
-  given q finding =
-      let has : IsTrue (has_text lines q) =
-      (h.reported q).1 (elim ((reported_is job q).1 finding) [ inl fault ↦ inl (h.faults_are q ∙ fault) | inr target ↦ inr target ]) in
-      subst (λ (ls : List (List ℕ)). Contains ls q) (sym h.all) (Contains-has_text lines q has)
+  of_part : (part : Part) → IsLineOf job part q → IsFindingLine job q
+  of_part part h = (h.0, h.2, h.3)
 
-  pub plan_is : IsPlanOf job plan
-  plan_is = record {
-    hostname = h.hostname;
-    groups = map (group_of job) (lanes_of lanes);
-    grouping = is_grouping job lanes h.stops h.in_order h.ascending;
-    transactions = h.batches (lanes_routed job lanes h.stops h.in_order);
-    findings_ascending = subst (λ (ls : List (List ℕ)). IsAscendingBy text_cmp ls) (sym h.all) h.sorted;
-    findings = λ q. (found q, given q);
-  }
+  -- the lines of all parts, one part after another
+  pub all_lines : (first second third : List (List ℕ)) → has_text first q ≡ has_fault_line job q
+      → (IsTrue (has_text second q) ↔ (IsTrue (has_text first q) ⊎ IsLineOf job entries q))
+      → (IsTrue (has_text third q) ↔ (IsTrue (has_text second q) ⊎ IsLineOf job routes q))
+      → IsTrue (has_text third q) ↔ IsFindingLine job q
+  all_lines first second third is more last = (
+    λ h. elim (last.0 h) [
+      | inl old ↦ elim (more.0 old) [ inl fault ↦ of_part texts ((text_lines job q).0 (sym is ∙ fault)) | inr entry ↦ of_part entries entry ]
+      | inr route ↦ of_part routes route
+    ],
+    λ found. elim (in_part found.0 (part_of found.0) refl found.1 found.2) [
+      | inl early ↦ last.1 (inl (more.1 (elim early [ inl text ↦ inl (is ∙ (text_lines job q).1 text) | inr entry ↦ inr entry ])))
+      | inr route ↦ last.1 (inr route)
+    ],
+  )

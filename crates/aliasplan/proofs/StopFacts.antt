@@ -1,6 +1,6 @@
 -- Stops and lanes: what goes where after an insert, and their order.
 use Rattle.std.proofs.Common.{◌≡◌, ◌⊎◌, ℕ, Bool, true, false, cond, List, [], ◌∷◌, ◌++◌, map, refl, sym, ap, ◌∙◌, subst, arith, suc, inl, inr}
-use Rattle.std.specs.Prelude.{Contains, ◌↔◌, Some, None, Result, Ok, Err, OnOk, Vec}
+use Rattle.std.specs.Prelude.{Contains, ◌↔◌, ◌<◌, length, IsTrue, Some, None, Result, Ok, Err, OnOk, Vec}
 use Rattle.std.specs.List.{All, AllPairs, AllByRecursion}
 use Rattle.std.specs.List.Sorted.{IsStrictlySortedBy}
 use Rattle.std.specs.Map.{keys_of, lookup, set_value}
@@ -11,6 +11,7 @@ use Rattle.std.specs.Cmp.Lexicographic.{slice_cmp}
 use Rattle.std.specs.BTreeMap.{insert_entry}
 use Rattle.std.proofs.lemmas.List.Elements.{All-from_recursion, All-append, All-map, Contains-append_cases, Contains-append_left, Contains-append_right, All-contains_itself, All-weaker}
 use Rattle.std.proofs.lemmas.List.Kept.{AllPairs-cons}
+use Rattle.std.proofs.lemmas.Cmp.{nat_list_cmp_total, tied_itself}
 use Rattle.std.proofs.lemmas.Map.Lookups.{exact_bytes}
 use Rattle.std.proofs.lemmas.Map.Keys.{sorted_head, sorted_tail}
 use Rattle.relay_text.specs.AddressParts.{AddressParts}
@@ -19,7 +20,7 @@ use Rattle.relay_routes.specs.declared.transport.Transport.TheVariants.{Smtp, Re
 use Rattle.aliasplan.specs.declared.lane.Lane.{Lane}
 use Rattle.aliasplan.specs.declared.lanes.Lanes.{Lanes}
 use Rattle.relay_text.specs.TextSets.{IsAscendingBy, text_cmp}
-use Rattle.aliasplan.specs.Stops.{Stop, stops_of, GoesTo}
+use Rattle.aliasplan.specs.Stops.{Stop, stops_of, GoesTo, HasNexthop}
 use Rattle.aliasplan.specs.Lanes.{stop_cmp, stops_by, HasStop, lane_of, lanes_of, lane_cmp}
 use Rattle.aliasplan.proofs.Members.{In, in_from, contains_in, Contains-map, Contains-from_map}
 use Rattle.relay_text.proofs.TextSets.{vec_cmp}
@@ -85,6 +86,54 @@ goes_found {Z} n old new a es after (Ok u) more found is =
     subst P (sym is) (goes-set_value n old new a more es found m x)
 goes_found n old new a es after (Err e) more found is = tt
 
+-- ---- whether something goes to a nexthop
+some_address : (to : List AddressParts) → 0 < length to → (a : AddressParts) × Contains to a
+some_address [] some = absurd (omega arith)
+some_address (a ∷ to) some = (a, contains_in (a ∷ to) a (inl refl))
+
+found_goes : {Z : Type 0} (n : List ℕ) (to : List AddressParts) (a : AddressParts) → Contains to a → (es : Entries Z) → lookup (is_nexthop n) es ≡ Some to → GoesTo (stops_of es) n a
+found_goes n to a has [] found = absurd (let no : ⊥ = cc in no)
+found_goes {Z} n to a has (e ∷ es) found = at (is_nexthop n e.0) refl found (λ f. found_goes n to a has es f) where
+  at : (t : Bool) → is_nexthop n e.0 ≡ t → cond t (Some e.1) (lookup (is_nexthop n) es) ≡ Some to → (lookup (is_nexthop n) es ≡ Some to → GoesTo (stops_of es) n a) → GoesTo (stops_of (e ∷ es)) n a
+  at true here f later =
+      let same : to ≡ e.1 = cc in
+      inl (sym (same_nexthop n e.0 here), subst (λ xs. Contains xs a) same has)
+  at false here f later = inr (later f)
+
+-- a nexthop is itself
+itself : {Z : Type 0} (n : List ℕ) (k : Vec ℕ Z) → k.items ≡ n → is_nexthop n k ≡ true
+itself n k same = ap (λ t. is_eq (slice_cmp nat_cmp n t)) same ∙ ap is_eq (tied_itself nat_list_cmp_total n)
+
+goes_found_at : {Z : Type 0} (n : List ℕ) (a : AddressParts) → (es : Entries Z) → lookup (is_nexthop n) es ≡ None → GoesTo (stops_of es) n a → ⊥
+goes_found_at n a [] none goes = elim goes [ ]
+goes_found_at {Z} n a (e ∷ es) none goes = at (is_nexthop n e.0) refl none goes (λ f. goes_found_at n a es f) where
+  at : (t : Bool) → is_nexthop n e.0 ≡ t → cond t (Some e.1) (lookup (is_nexthop n) es) ≡ None → GoesTo (stops_of (e ∷ es)) n a → (lookup (is_nexthop n) es ≡ None → GoesTo (stops_of es) n a → ⊥) → ⊥
+  at true here f goes later = let no : ⊥ = cc in no
+  at false here f (inl (is, has)) later =
+      let not : is_nexthop n e.0 ≡ true = itself n e.0 is in
+      let no : ⊥ = cc in no
+  at false here f (inr there) later = later f there
+
+pub some_found : {Z : Type 0} (n : List ℕ) (to : List AddressParts) (es : Entries Z) → lookup (is_nexthop n) es ≡ Some to → 0 < length to → IsTrue true ↔ HasNexthop (stops_of es) n
+some_found n to es found some =
+    let one = some_address to some in
+    (λ yes. (one.0, found_goes n to one.0 one.1 es found), λ goes. refl)
+
+pub none_found : {Z : Type 0} (n : List ℕ) (es : Entries Z) → lookup (is_nexthop n) es ≡ None → IsTrue false ↔ HasNexthop (stops_of es) n
+none_found n es none = (λ yes. absurd (let no : ⊥ = cc in no), λ goes. absurd (goes_found_at n goes.0 es none goes.1))
+
+-- a copy of an address goes to a nexthop that is there
+pub goes_joined : {Z : Type 0} (n : List ℕ) (old new : List AddressParts) (copy a : AddressParts) (es after : Entries Z) → copy ≡ a
+    → ((x : AddressParts) → Contains new x ↔ (Contains old x ⊎ (copy ≡ x)))
+    → lookup (is_nexthop n) es ≡ Some old → after ≡ set_value (is_nexthop n) es new
+    → (m : List ℕ) (x : AddressParts) → GoesTo (stops_of after) m x ↔ (GoesTo (stops_of es) m x ⊎ (IsTrue true × (n ≡ m) × (a ≡ x)))
+goes_joined {Z} n old new copy a es after same more found is m x =
+    let P : Entries Z → Type 0 = λ entries. GoesTo (stops_of entries) m x ↔ (GoesTo (stops_of es) m x ⊎ ((n ≡ m) × (copy ≡ x))) in
+    let goes = subst P (sym is) (goes-set_value n old new copy more es found m x) in (
+      λ h. elim (goes.0 h) [ inl was ↦ inl was | inr added ↦ inr (refl, added.0, sym same ∙ added.1) ],
+      λ either. goes.1 (elim either [ inl was ↦ inl was | inr added ↦ inr (added.1, same ∙ added.2) ]),
+    )
+
 only : (a x : AddressParts) → Contains (a ∷ []) x → a ≡ x
 only a x c = elim (in_from (a ∷ []) x c) [ inl here ↦ here | inr none ↦ absurd (elim none [ ]) ]
 
@@ -149,13 +198,13 @@ stops_ascend {Z} (e ∷ es) sorted =
     (stops_ascend es (sorted_tail vec_cmp e.0 (keys_of es) sorted))
 
 module _ {X : Type 0} (R : X → X → Type 0) where
-  pairs_head : (x : X) (xs : List X) → AllPairs R (x ∷ xs) → All (R x) xs
+  pub pairs_head : (x : X) (xs : List X) → AllPairs R (x ∷ xs) → All (R x) xs
   pairs_head x xs h = λ k d inside. h 0 (suc k) d (omega arith) (omega arith)
 
-  pairs_tail : (x : X) (xs : List X) → AllPairs R (x ∷ xs) → AllPairs R xs
+  pub pairs_tail : (x : X) (xs : List X) → AllPairs R (x ∷ xs) → AllPairs R xs
   pairs_tail x xs h = λ i j d below inside. h (suc i) (suc j) d (omega arith) (omega arith)
 
-  pairs_append : (xs ys : List X) → AllPairs R xs → AllPairs R ys → ((x y : X) → Contains xs x → Contains ys y → R x y) → AllPairs R (xs ++ ys)
+  pub pairs_append : (xs ys : List X) → AllPairs R xs → AllPairs R ys → ((x y : X) → Contains xs x → Contains ys y → R x y) → AllPairs R (xs ++ ys)
   pairs_append [] ys h i across = i
   pairs_append (x ∷ xs) ys h i across =
       AllPairs-cons R x (xs ++ ys)

@@ -1,39 +1,37 @@
 -- Addresses by transport and nexthop, and the lines of the findings, as targets are gathered.
-use Rattle.std.specs.Prelude.{◌≡◌, ℕ, ◌<◌, Bool, ◌||◌, List, [], ◌++◌, length, map, Contains, Some, unwrap_or, Result, Ok, Err}
+use Rattle.std.specs.Prelude.{◌≡◌, ℕ, ◌<◌, Bool, ◌||◌, List, [], ◌++◌, length, map, Contains, Some, Result, Ok, Err}
 use Rattle.std.specs.List.{list_any}
 use Rattle.std.specs.Str.{bytes_eq}
 use Rattle.std.specs.declared.cmp.Ordering.{Ordering}
 use Rattle.std.specs.Ordering.{ordering_then}
-use Rattle.relay_text.specs.Bytes.{has_text}
 use Rattle.relay_text.specs.AddressParts.{AddressParts}
 use Rattle.relay_aliasfile.specs.declared.fault.LineFault.{LineFault}
 use Rattle.relay_routes.specs.declared.fault.LineFault.{LineFault as TableLineFault}
 use Rattle.relay_routes.specs.declared.transport.Transport.{Transport}
 use Rattle.relay_routes.specs.declared.transport.Transport.TheVariants.{Smtp, Relay, Lmtp}
-use Rattle.relay_routes.specs.declared.via.Via.{Via}
 use Rattle.relay_routes.specs.declared.route.Route.{Route}
 use Rattle.relay_routes.specs.declared.unrouted.Unrouted.{Unrouted}
 use Rattle.relay_routes.specs.Transports.{transport_name}
+use Rattle.relay_routes.specs.Routing.{Routing}
 use Rattle.relay_routes.specs.Routes.{route_to, route_of, route_via_of}
-use Rattle.relay_wire.specs.declared.finding.Place.TheVariants as places
 use Rattle.relay_wire.specs.declared.finding.Reason.{Reason}
 use Rattle.relay_wire.specs.declared.finding.Finding.{Finding}
-use Rattle.relay_wire.specs.declared.finding.Finding.TheVariants.{Missing as MissingFinding, Unrouted as UnroutedFinding, Mailboxes, Mx as MxLine, Transport as TransportLine}
+use Rattle.relay_wire.specs.declared.finding.Finding.TheVariants.{Unrouted as UnroutedFinding, Mailboxes, Mx as MxLine, Transport as TransportLine}
 use Rattle.relay_wire.specs.Findings.{finding_text_of}
 use Rattle.relay_wire.specs.declared.plan.Planned.{Planned}
-use Rattle.aliasplan.specs.declared.job.Job.{Job}
+use Rattle.relay_job.specs.declared.job.Job.{Job}
 use Rattle.aliasplan.specs.declared.table.Table.{Table}
 use Rattle.aliasplan.specs.declared.table.Table.TheVariants as tables
-use Rattle.aliasplan.specs.declared.target.Target.{Target}
-use Rattle.aliasplan.specs.declared.target.Target.TheVariants.{Mailbox, Remote, Missing}
+use Rattle.relay_tables.specs.declared.node.Node.{Node}
+use Rattle.relay_tables.specs.declared.node.Node.TheVariants.{Alias, Include, Mailbox, Remote, Missing, NoInclude, Command, File}
+use Rattle.relay_tables.specs.Senders.{Sender}
 use Rattle.aliasplan.specs.declared.lane.Lane.{Lane}
 use Rattle.aliasplan.specs.declared.lanes.Lanes.{Lanes}
-use Rattle.aliasplan.specs.declared.local_names.LocalNames.{LocalNames}
-use Rattle.aliasplan.specs.Delivery.{Sender, routing_of, has_mailbox}
+use Rattle.aliasplan.specs.Delivery.{routing_of}
 use Rattle.aliasplan.specs.Report.{word_of, table_word_of, reason_of}
 use Rattle.aliasplan.specs.Plans.{Group, path_cmp}
 use Rattle.relay_text.specs.TextSets.{text_cmp, IsAscendingBy}
-use Rattle.aliasplan.specs.Stops.{Stop, GoesTo}
+use Rattle.aliasplan.specs.Stops.{Stop, GoesTo, HasNexthop}
 
 abbrev pub stop_cmp : Stop → Stop → Ordering
 stop_cmp s t = text_cmp s.0 t.0
@@ -47,6 +45,10 @@ stops_by lanes Lmtp = lanes.lmtp
 -- an address goes by a transport to a nexthop
 abbrev pub HasStop : Lanes → Transport → List ℕ → AddressParts → Type 0
 HasStop lanes transport nexthop a = GoesTo (stops_by lanes transport) nexthop a
+
+-- some address goes by a transport to a nexthop
+abbrev pub HasLane : Lanes → Transport → List ℕ → Type 0
+HasLane lanes transport nexthop = HasNexthop (stops_by lanes transport) nexthop
 
 abbrev pub lane_of : Transport → Stop → Lane
 lane_of transport stop = record { transport = transport; nexthop = stop.0; to = stop.1 }
@@ -99,6 +101,17 @@ is_fault_line mailboxes transports exchanges q =
     || (list_any (λ f. bytes_eq q (table_line tables.Transport f)) transports
     || list_any (λ f. bytes_eq q (table_line tables.Mx f)) exchanges)
 
+-- a transport and a nexthop give a route, which is written so
+pub record IsRoutedBy (r : Routing) (transport : Transport) (nexthop : List ℕ) : Type 0 where
+  pub route : Route
+  pub found : route_to r transport nexthop ≡ Ok route
+  pub by_transport : route.transport ≡ transport
+  pub to_nexthop : route.nexthop ≡ nexthop
+
+-- wherever an address goes, there is a route
+abbrev pub AreStopsRouted : Routing → Lanes → Type 0
+AreStopsRouted r lanes = (transport : Transport) (nexthop : List ℕ) (a : AddressParts) → HasStop lanes transport nexthop a → IsRoutedBy r transport nexthop
+
 module _ (job : Job) where
   -- the route of a transport and a written nexthop, with no host where there is none
   abbrev pub lane_route : Transport → List ℕ → Route
@@ -107,45 +120,33 @@ module _ (job : Job) where
     or_none (Ok route) = route
     or_none (Err reason) = record { transport = transport; nexthop = nexthop; hosts = [] }
 
-  abbrev pub group_of : Lane → Group
-  group_of lane = record { sender = job.sender; route = lane_route lane.transport lane.nexthop; to = lane.to }
+  abbrev pub group_of : Sender → Lane → Group
+  group_of sender lane = record { sender = sender; route = lane_route lane.transport lane.nexthop; to = lane.to }
 
-  -- a lane's transport and nexthop give a route, which is written so
-  pub record IsRouted (transport : Transport) (nexthop : List ℕ) : Type 0 where
-    pub route : Route
-    pub found : route_to (routing_of job) transport nexthop ≡ Ok route
-    pub by_transport : route.transport ≡ transport
-    pub to_nexthop : route.nexthop ≡ nexthop
-
-  pub record IsRoutedVia (via : Via) : Type 0 where
-    pub nexthop : List ℕ
-    pub given : via.nexthop ≡ Some nexthop
-    pub routed : IsRouted via.transport nexthop
+  -- a lane's transport and nexthop give a route of the job's
+  abbrev pub IsRouted : Transport → List ℕ → Type 0
+  IsRouted transport nexthop = IsRoutedBy (routing_of job) transport nexthop
 
   abbrev pub AreRouted : List Lane → Type 0
   AreRouted lanes = (lane : Lane) → Contains lanes lane → IsRouted lane.transport lane.nexthop
 
-  abbrev pub via_route : Via → Route
-  via_route via = lane_route via.transport (unwrap_or via.nexthop [])
-
-  -- where a target goes, and the line that reports it
-  abbrev pub IsStopOf : Target → Transport → List ℕ → AddressParts → Type 0
+  -- where a node goes, and the line that reports it
+  abbrev pub IsStopOf : Node → Transport → List ℕ → AddressParts → Type 0
   IsStopOf (Mailbox address) transport nexthop a = IsStopAt (route_via_of (routing_of job) job.settings.mailbox_transport address) address transport nexthop a
   IsStopOf (Remote address) transport nexthop a = IsStopAt (route_of (routing_of job) address) address transport nexthop a
+  IsStopOf (Alias number) transport nexthop a = ⊥
+  IsStopOf (Include number) transport nexthop a = ⊥
   IsStopOf (Missing name) transport nexthop a = ⊥
+  IsStopOf (NoInclude path) transport nexthop a = ⊥
+  IsStopOf (Command text) transport nexthop a = ⊥
+  IsStopOf (File path) transport nexthop a = ⊥
 
-  abbrev pub IsLineOf : Target → List ℕ → Type 0
-  IsLineOf (Mailbox address) line = IsLineAt (route_via_of (routing_of job) job.settings.mailbox_transport address) address line
-  IsLineOf (Remote address) line = IsLineAt (route_of (routing_of job) address) address line
-  IsLineOf (Missing name) line = line ≡ finding_text_of (MissingFinding name places.Envelope)
-
-  -- some target goes there, and some target is reported by this line
-  abbrev pub HaveStop : List Target → Transport → List ℕ → AddressParts → Type 0
-  HaveStop targets transport nexthop a = (target : Target) × Contains targets target × IsStopOf target transport nexthop a
-
-  abbrev pub HaveLine : List Target → List ℕ → Type 0
-  HaveLine targets line = (target : Target) × Contains targets target × IsLineOf target line
-
-  -- the domains that are local
-  pub record AreLocalNames (names : LocalNames) : Type 0 where
-    pub domains : (domain : List ℕ) → has_text names.domains domain ≡ (bytes_eq domain job.settings.origin || has_text job.settings.destinations domain)
+  abbrev pub IsLineOfNode : Node → List ℕ → Type 0
+  IsLineOfNode (Mailbox address) line = IsLineAt (route_via_of (routing_of job) job.settings.mailbox_transport address) address line
+  IsLineOfNode (Remote address) line = IsLineAt (route_of (routing_of job) address) address line
+  IsLineOfNode (Alias number) line = ⊥
+  IsLineOfNode (Include number) line = ⊥
+  IsLineOfNode (Missing name) line = ⊥
+  IsLineOfNode (NoInclude path) line = ⊥
+  IsLineOfNode (Command text) line = ⊥
+  IsLineOfNode (File path) line = ⊥

@@ -1,16 +1,20 @@
 -- What the calls answer, and why they refuse.
 use Rattle.std.specs.Prelude.{◌≡◌, ◌≢◌, ℕ, ◌<◌, ◌≤◌, List, length, take, Option, Result, Ok, Err, ⊤}
 use Rattle.std.specs.Io.KnownBytes.{Appends}
+use Rattle.relay_tables.specs.Graphs.{nodes_of, owner_count}
 use Rattle.relay_wire.specs.declared.plan.Plan.{Plan}
-use Rattle.relay_wire.specs.PlanText.{plan_text_of, recipient_count}
-use Rattle.aliasplan.specs.declared.job.Job.{Job}
-use Rattle.aliasplan.specs.declared.fault.RunFault.{RunFault}
-use Rattle.aliasplan.specs.declared.fault.RunFault.TheVariants.{Read, TooLong, BadJob, BadSetting, BadEnvelope, TooManyNames, TooManyOwners, TooManyPairs, Write, Memory}
+use Rattle.relay_wire.specs.PlanText.{plan_text_of, wire_text_of, recipient_count}
+use Rattle.relay_job.specs.declared.job.Job.{Job}
+use Rattle.relay_job.specs.declared.fault.RunFault.{RunFault}
+use Rattle.relay_job.specs.declared.fault.RunFault.TheVariants.{Read, TooLong, BadJob, BadSetting, BadEnvelope, TooManyNames, TooManyOwners, TooManyPairs, Write, Memory}
+use Rattle.relay_job.specs.JobText.{job_of}
+use Rattle.aliasplan.specs.declared.options.Form.{Form}
+use Rattle.aliasplan.specs.declared.options.Form.TheVariants as forms
 use Rattle.aliasplan.specs.declared.options.Limits.{Limits}
 use Rattle.aliasplan.specs.declared.options.Options.{Options}
 use Rattle.aliasplan.specs.declared.summary.Summary.{Summary}
-use Rattle.aliasplan.specs.JobText.{job_of}
-use Rattle.aliasplan.specs.Plans.{IsPlanOf}
+use Rattle.aliasplan.specs.Delivery.{directory_of, HasMorePairs, HasAtMostPairs}
+use Rattle.aliasplan.specs.Plans.{IsFewest, IsPlanOf}
 
 -- the ranges of the options and the limits
 pub record AreOptions (o : Options) : Type 0 where
@@ -19,56 +23,70 @@ pub record AreOptions (o : Options) : Type 0 where
   pub some_cut : 1 ≤ o.cut
   pub cut : o.cut ≤ 1048576
 
-abbrev pub AreLimits : Limits → Type 0
-AreLimits l = l.bytes ≤ 67108864
+pub record AreLimits (l : Limits) : Type 0 where
+  pub bytes : l.bytes ≤ 67108864
+  pub names : l.names ≤ 16777216
+  pub owners : l.owners ≤ 65535
+  pub pairs : l.pairs ≤ 16777216
 
--- a job that some text of at most this many bytes is
-abbrev pub IsJobWithin : ℕ → Job → Type 0
-IsJobWithin bytes job = (text : List ℕ) × (length text ≤ bytes) × (job_of text ≡ Ok job)
+abbrev pub name_count : Job → ℕ
+name_count job = length (nodes_of (directory_of job) job.recipients)
 
--- what a text is, or its first fault, unless memory ran out
-abbrev pub Fails : {A : Type 0} → RunFault → Result A RunFault → Type 0
-Fails Memory given = ⊤
-Fails fault given = given ≡ Err fault
+abbrev pub owned_count : Job → ℕ
+owned_count job = owner_count (directory_of job)
 
-abbrev pub Answers : {A : Type 0} → Result A RunFault → Result A RunFault → Type 0
-Answers (Ok a) given = given ≡ Ok a
-Answers (Err fault) given = Fails fault given
+-- a job within the limits
+pub record IsWithin (limits : Limits) (job : Job) : Type 0 where
+  pub names : name_count job ≤ limits.names
+  pub owners : owned_count job ≤ limits.owners
+  pub pairs : HasAtMostPairs job limits.pairs
+
+-- Why a job isn't planned: too many names, else too many owners, else too many pairs. Memory may run out at any moment.
+abbrev pub IsRefused : Limits → Job → RunFault → Type 0
+IsRefused limits job TooManyNames = limits.names < name_count job
+IsRefused limits job TooManyOwners = (name_count job ≤ limits.names) × (limits.owners < owned_count job)
+IsRefused limits job TooManyPairs = (name_count job ≤ limits.names) × (owned_count job ≤ limits.owners) × HasMorePairs job limits.pairs
+IsRefused limits job Memory = ⊤
+IsRefused limits job Read = ⊥
+IsRefused limits job TooLong = ⊥
+IsRefused limits job (BadJob line) = ⊥
+IsRefused limits job (BadSetting line) = ⊥
+IsRefused limits job (BadEnvelope line) = ⊥
+IsRefused limits job Write = ⊥
 
 abbrev pub summary_of : Plan → Summary
 summary_of p = record { transactions = length p.transactions; recipients = recipient_count p; findings = length p.findings }
 
--- A run that answers: the bytes read are within the limit and are a job; what is written is the text of its plan.
-pub record Plans (limits : Limits) (input : List ℕ) (old new : Option (List ℕ)) (summary : Summary) : Type 0 where
+abbrev pub text_in : Form → Plan → List ℕ
+text_in forms.Plan p = plan_text_of p
+text_in forms.Wire p = wire_text_of p
+
+-- A run that answers: the bytes read are within the limit and are a job within the limits; what is written is the text of its plan.
+pub record Plans (limits : Limits) (form : Form) (input : List ℕ) (old new : Option (List ℕ)) (summary : Summary) : Type 0 where
   pub size : length input ≤ limits.bytes
   pub job : Job
   pub read : job_of input ≡ Ok job
+  pub within : IsWithin limits job
   pub plan : Plan
   pub planned : IsPlanOf job plan
-  pub written : Appends old new (plan_text_of plan)
+  pub written : Appends old new (text_in form plan)
   pub summed : summary ≡ summary_of plan
+  pub fewest : IsFewest job plan.transactions
 
 -- What becomes of a job's bytes: the text of its plan, and its numbers.
-pub record IsAnswer (input text : List ℕ) (summary : Summary) : Type 0 where
+pub record IsAnswer (limits : Limits) (form : Form) (input text : List ℕ) (summary : Summary) : Type 0 where
   pub job : Job
   pub read : job_of input ≡ Ok job
+  pub within : IsWithin limits job
   pub plan : Plan
   pub planned : IsPlanOf job plan
-  pub written : text ≡ plan_text_of plan
+  pub written : text ≡ text_in form plan
   pub summed : summary ≡ summary_of plan
+  pub fewest : IsFewest job plan.transactions
 
--- the faults of a job's bytes
-abbrev pub RefusesJob : List ℕ → RunFault → Type 0
-RefusesJob input (BadJob line) = job_of input ≡ Err (BadJob line)
-RefusesJob input (BadSetting line) = job_of input ≡ Err (BadSetting line)
-RefusesJob input (BadEnvelope line) = job_of input ≡ Err (BadEnvelope line)
-RefusesJob input Memory = ⊤
-RefusesJob input Read = ⊥
-RefusesJob input TooLong = ⊥
-RefusesJob input TooManyNames = ⊥
-RefusesJob input TooManyOwners = ⊥
-RefusesJob input TooManyPairs = ⊥
-RefusesJob input Write = ⊥
+-- the bytes are a job that is refused
+abbrev pub RefusesJob : Limits → List ℕ → RunFault → Type 0
+RefusesJob limits input fault = (job : Job) × (job_of input ≡ Ok job) × IsRefused limits job fault
 
 -- A run that refuses because of the bytes that it read. Reading and writing have clauses of their own.
 abbrev pub Refuses : Limits → List ℕ → RunFault → Type 0
@@ -77,24 +95,43 @@ Refuses limits input TooLong = limits.bytes < length input
 Refuses limits input (BadJob line) = job_of input ≡ Err (BadJob line)
 Refuses limits input (BadSetting line) = job_of input ≡ Err (BadSetting line)
 Refuses limits input (BadEnvelope line) = job_of input ≡ Err (BadEnvelope line)
+Refuses limits input TooManyNames = RefusesJob limits input TooManyNames
+Refuses limits input TooManyOwners = RefusesJob limits input TooManyOwners
+Refuses limits input TooManyPairs = RefusesJob limits input TooManyPairs
 Refuses limits input Write = ⊤
 Refuses limits input Memory = ⊤
-Refuses limits input TooManyNames = ⊥
-Refuses limits input TooManyOwners = ⊥
-Refuses limits input TooManyPairs = ⊥
+
+-- the faults of a job's bytes, which are within the limit and read whole
+abbrev pub RefusesBytes : Limits → List ℕ → RunFault → Type 0
+RefusesBytes limits input Read = ⊥
+RefusesBytes limits input TooLong = ⊥
+RefusesBytes limits input Write = ⊥
+RefusesBytes limits input (BadJob line) = Refuses limits input (BadJob line)
+RefusesBytes limits input (BadSetting line) = Refuses limits input (BadSetting line)
+RefusesBytes limits input (BadEnvelope line) = Refuses limits input (BadEnvelope line)
+RefusesBytes limits input TooManyNames = Refuses limits input TooManyNames
+RefusesBytes limits input TooManyOwners = Refuses limits input TooManyOwners
+RefusesBytes limits input TooManyPairs = Refuses limits input TooManyPairs
+RefusesBytes limits input Memory = ⊤
 
 -- a failed write leaves a front of the text behind what was there
-pub record WritesFront (input : List ℕ) (old new : Option (List ℕ)) : Type 0 where
+pub record WritesFront (form : Form) (input : List ℕ) (old new : Option (List ℕ)) : Type 0 where
   pub job : Job
   pub read : job_of input ≡ Ok job
   pub plan : Plan
   pub planned : IsPlanOf job plan
   pub count : ℕ
-  pub written : Appends old new (take count (plan_text_of plan))
+  pub written : Appends old new (take count (text_in form plan))
 
 -- the faults of reading alone
 abbrev pub IsReadFault : RunFault → Type 0
 IsReadFault Read = ⊤
 IsReadFault TooLong = ⊤
 IsReadFault Memory = ⊤
-IsReadFault fault = ⊥
+IsReadFault (BadJob line) = ⊥
+IsReadFault (BadSetting line) = ⊥
+IsReadFault (BadEnvelope line) = ⊥
+IsReadFault TooManyNames = ⊥
+IsReadFault TooManyOwners = ⊥
+IsReadFault TooManyPairs = ⊥
+IsReadFault Write = ⊥

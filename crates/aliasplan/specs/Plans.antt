@@ -1,6 +1,5 @@
 -- The plan of a job.
-use Rattle.std.specs.Prelude.{◌≡◌, ◌≢◌, ℕ, ◌+◌, ◌-◌, ◌*◌, ◌/◌, List, [], map, flat_map, length, slice_range, Contains, ◌↔◌}
-use Rattle.std.specs.List.{range_with_len}
+use Rattle.std.specs.Prelude.{◌≡◌, ◌≢◌, ℕ, ◌≤◌, List, [], map, flat_map, length, Contains, ◌↔◌}
 use Rattle.std.specs.declared.cmp.Ordering.{Ordering}
 use Rattle.std.specs.Ordering.{ordering_then}
 use Rattle.relay_text.specs.AddressParts.{AddressParts}
@@ -8,21 +7,17 @@ use Rattle.relay_text.specs.Addresses.{path_text_of}
 use Rattle.relay_text.specs.TextSets.{text_cmp, IsAscendingBy}
 use Rattle.std.specs.Prelude.{Some}
 use Rattle.relay_routes.specs.declared.route.Route.{Route}
+use Rattle.relay_routes.specs.declared.transport.Transport.{Transport}
 use Rattle.relay_routes.specs.Transports.{transport_name}
+use Rattle.relay_rings.specs.Batches.{parts_of}
+use Rattle.relay_rings.specs.Sound.{IsSound}
 use Rattle.relay_wire.specs.declared.plan.Planned.{Planned}
 use Rattle.relay_wire.specs.declared.plan.Plan.{Plan}
-use Rattle.aliasplan.specs.declared.job.Job.{Job}
-use Rattle.aliasplan.specs.Settings.{limit_of}
-use Rattle.aliasplan.specs.Delivery.{Sender, IsPlaced}
+use Rattle.relay_job.specs.declared.job.Job.{Job}
+use Rattle.relay_job.specs.Settings.{limit_of}
+use Rattle.relay_tables.specs.Senders.{Sender}
+use Rattle.aliasplan.specs.Delivery.{IsPlaced}
 use Rattle.aliasplan.specs.Report.{IsFindingLine}
-
--- how many parts of at most `size` elements a list of n has: n / size, rounded up
-abbrev pub part_count : ℕ → ℕ → ℕ
-part_count n size = (n + size - 1) / size
-
--- the consecutive parts of a list, each of `size` elements but the last, which may be shorter
-abbrev pub parts_of : {X : Type 0} → ℕ → List X → List (List X)
-parts_of size xs = map (λ k. slice_range xs (k * size) (k * size + size)) (range_with_len 0 (part_count (length xs) size))
 
 -- The addresses that share a sender, a transport and a nexthop, and so the hosts.
 pub record Group : Type 0 where
@@ -37,6 +32,15 @@ group_cmp g h = ordering_then (text_cmp (path_text_of g.sender) (path_text_of h.
 
 abbrev pub path_cmp : AddressParts → AddressParts → Ordering
 path_cmp a b = text_cmp (path_text_of (Some a)) (path_text_of (Some b))
+
+-- What a transaction delivers by: its sender, transport and nexthop.
+pub record DeliveryKey : Type 0 where
+  pub sender : Sender
+  pub transport : Transport
+  pub nexthop : List ℕ
+
+abbrev pub key_of : Planned → DeliveryKey
+key_of t = record { sender = t.from; transport = t.transport; nexthop = t.nexthop }
 
 module _ (job : Job) where
   -- one of these groups has the address, under this sender and route
@@ -61,11 +65,27 @@ module _ (job : Job) where
   abbrev pub batches_of : Group → List Planned
   batches_of g = map (planned g) (parts_of (limit_of job.settings g.route.transport) g.to)
 
-  -- The plan: the batches of the groups in order, and the lines of the findings in byte order, each once.
-  pub record IsPlanOf (plan : Plan) : Type 0 where
-    pub hostname : plan.hostname ≡ job.settings.hostname
+  -- The transactions: the batches of the groups in order.
+  pub record AreTransactionsOf (transactions : List Planned) : Type 0 where
     pub groups : List Group
     pub grouping : IsGrouping groups
-    pub transactions : plan.transactions ≡ flat_map batches_of groups
+    pub batches : transactions ≡ flat_map batches_of groups
+
+  -- an address that is placed under this sender, by this transport to this nexthop
+  abbrev pub IsPlacedAt : DeliveryKey → AddressParts → Type 0
+  IsPlacedAt key a = (route : Route) × IsPlaced job key.sender route a × (route.transport ≡ key.transport) × (route.nexthop ≡ key.nexthop)
+
+  -- Any list of transactions that delivers what is placed and nothing else, within the limits, in whatever order, however grouped or cut.
+  abbrev pub IsSoundFor : List Planned → Type 0
+  IsSoundFor ts = IsSound key_of (λ (t : Planned). t.to) (λ key. limit_of job.settings key.transport) IsPlacedAt ts
+
+  -- no sound list of transactions is shorter
+  abbrev pub IsFewest : List Planned → Type 0
+  IsFewest ts = (other : List Planned) → IsSoundFor other → length ts ≤ length other
+
+  -- The plan: its transactions, and the lines of the findings in byte order, each once.
+  pub record IsPlanOf (plan : Plan) : Type 0 where
+    pub hostname : plan.hostname ≡ job.settings.hostname
+    pub transactions : AreTransactionsOf plan.transactions
     pub findings_ascending : IsAscendingBy text_cmp plan.findings
     pub findings : (line : List ℕ) → Contains plan.findings line ↔ IsFindingLine job line

@@ -14,3 +14,7 @@ stops_of {Z} entries = map (λ (entry : Vec ℕ Z × List AddressParts). (entry.
 abbrev pub GoesTo : List Stop → List ℕ → AddressParts → Type 0
 GoesTo [] nexthop a = ⊥
 GoesTo (stop ∷ stops) nexthop a = ((stop.0 ≡ nexthop) × Contains stop.1 a) ⊎ GoesTo stops nexthop a
+
+-- some address goes to a nexthop
+abbrev pub HasNexthop : List Stop → List ℕ → Type 0
+HasNexthop stops nexthop = (a : AddressParts) × GoesTo stops nexthop a

@@ -1,15 +1,17 @@
 //! What becomes of a job's bytes.
-ghost use Rattle.std.specs.Prelude.{◌≤◌, length, IfOk, IfErr};
-ghost use Rattle.aliasplan.specs.Outcomes.{IsAnswer, RefusesJob};
+ghost use Rattle.std.specs.Prelude.{◌≡◌, ◌≤◌, length, IfOk, IfErr};
+ghost use Rattle.aliasplan.specs.Outcomes.{text_in, AreOptions, AreLimits, IsAnswer, RefusesBytes};
 
-use crate::fault::RunFault;
-use crate::options::Limits;
-use crate::parsing::parse_job;
+use crate::options::{Form, Limits, Options};
 use crate::planning::plan_job;
 use crate::summary::Summary;
+use relay_job::{RunFault, parse_job};
+use relay_rounds::Gate;
 use relay_text::Text;
 use relay_wire::plan::plan_text;
-use std::alloc::Global;
+use relay_wire::{Plan, wire_text};
+use std::alloc::{AllocError, Global};
+use std::thread::Threads;
 
 /// The text of a plan, and its numbers.
 #[derive(Drop)]
@@ -18,15 +20,34 @@ pub struct Answer {
     pub summary: Summary,
 }
 
+/// A plan as it is written.
+fn text_in(alloc: Global, form: Form, plan: &Plan) -> Result<Text, AllocError>
+    ensures { IfOk result (λ text. text ≡ text_in form plan.now) }
+{
+    match form {
+        Form::Plan => plan_text(alloc, plan),
+        Form::Wire => wire_text(alloc, plan),
+    }
+}
+
 /// What is written for a job's bytes.
-pub fn answer_job(alloc: Global, input: &[u8], limits: Limits) -> Result<Answer, RunFault>
-    requires { length input.now ≤ limits.bytes }
-    ensures answered { IfOk result (λ answer. IsAnswer input.now answer.text answer.summary) }
-    ensures refused { IfErr result (λ fault. RefusesJob input.now fault) }
+pub fn answer_job<G: Gate, R: Threads + Sync>(
+    rt: &R,
+    alloc: Global,
+    input: &[u8],
+    options: Options,
+    limits: Limits,
+    gate: &G,
+) -> Result<Answer, RunFault>
+    requires options { AreOptions options }
+    requires limits { AreLimits limits }
+    requires input { length input.now ≤ limits.bytes }
+    ensures answered { IfOk result (λ answer. IsAnswer limits options.form input.now answer.text answer.summary) }
+    ensures refused { IfErr result (RefusesBytes limits input.now) }
 {
     let job = parse_job(alloc, input)?;
-    let plan = plan_job(alloc, &job, limits)?;
-    let text = plan_text(alloc, &plan)?;
+    let plan = plan_job(rt, alloc, &job, options, limits, gate)?;
+    let text = text_in(alloc, options.form, &plan)?;
     let summary = Summary::of(&plan)?;
     Ok(Answer { text, summary })
 }

@@ -1,129 +1,187 @@
-//! What the recipients of a job lead to.
-use crate::lanes::Lanes;
-
-/// The addresses that are placed, and the lines that are reported.
-#[derive(Drop)]
-pub struct Gathered {
-    pub lanes: Lanes,
-    pub lines: TextSet,
-}
-
-ghost use Rattle.std.specs.Prelude.{◌≡◌, ◌⊎◌, ◌↔◌, ℕ, List, IsTrue, IfOk, OnOk};
+//! What the pairs that are reached lead to.
+ghost use Rattle.std.specs.Prelude.{◌≡◌, ◌⊎◌, ◌↔◌, ◌<◌, ◌≤◌, ◌^◌, ℕ, List, All, Err, length, IsTrue, IfOk, OnOk};
 ghost use Rattle.relay_text.specs.AddressParts.{AddressParts};
 ghost use Rattle.relay_text.specs.Bytes.{has_text};
-ghost use Rattle.std.specs.Option.{ForSome};
 ghost use Rattle.relay_routes.specs.declared.transport.Transport as kinds;
-ghost use Rattle.aliasplan.specs.declared.target.Target.TheVariants as targets;
-ghost use Rattle.aliasplan.specs.MailboxRoutes.{IsRouteAt};
+ghost use Rattle.relay_routes.specs.Routes.{route_to};
 ghost use Rattle.aliasplan.specs.Delivery.{routing_of};
-ghost use Rattle.aliasplan.specs.Lanes.{HasStop, IsStopAt, IsLineAt, IsStopOf, IsLineOf, HaveStop, HaveLine};
+ghost use Rattle.aliasplan.specs.Lanes.{HasStop, NoStops, AreStopsRouted, IsStopAt, IsLineAt, IsStopOf, IsLineOfNode};
+ghost use Rattle.aliasplan.specs.Gathering.{route_by_found, AreNumbered, HasStopUnder, HaveStop, HaveLine};
 
 use crate::findings::{reason_for, report};
-use crate::job::Job;
-use crate::mailbox_route::MailboxRoute;
-use crate::target::Target;
-use relay_routes::{Route, Router, Unrouted};
+use crate::lanes::Lanes;
+use crate::sender_lanes::SenderLanes;
+use relay_job::Job;
+use relay_pairs::Reached;
+use relay_routes::{Destination, Route, Router, Unrouted, route_by_destination};
+use relay_tables::{Graph, Node};
 use relay_text::{Address, TextSet};
-use relay_wire::{Finding, Place};
+use relay_wire::Finding;
 use std::alloc::{AllocError, Global};
 
-impl Gathered {
-    /// Adds an address by what the router answered of it.
-    fn add_routed(
-        &mut self,
-        alloc: Global,
-        answer: Result<Route, Unrouted>,
-        address: Address,
-    ) -> Result<(), AllocError>
-        ensures stops { OnOk result ((t : kinds.Transport) (n : List ℕ) (a : AddressParts) → HasStop self.new.lanes t n a ↔ (HasStop self.old.lanes t n a ⊎ IsStopAt answer address t n a)) }
-        ensures lines { OnOk result ((q : List ℕ) → IsTrue (has_text self.new.lines q) ↔ (IsTrue (has_text self.old.lines q) ⊎ IsLineAt answer address q)) }
-        ensures memory { OnOk result (answer ≡ Err Unrouted.Memory → ⊥) }
-    {
-        match answer {
-            Ok(route) => self
-                .lanes
-                .add(alloc, route.transport, route.nexthop.as_bytes(), address),
-            Err(unrouted) => {
-                let reason = reason_for(unrouted).ok_or(AllocError)?;
-                report(alloc, &Finding::Unrouted(address, reason), &mut self.lines)
-            }
-        }
+/// One more than the greatest number of a sender, 0 where there is none.
+fn sender_count(pairs: &[Reached]) -> usize
+    ensures above { All (λ p. p.sender < result) pairs.now }
+    ensures small { result ≤ 2 ^ 32 }
+    ensures least { (n : ℕ) → All (λ p. p.sender < n) pairs.now → result ≤ n }
+{
+    let mut count = 0;
+    for pair in pairs {
+        count = count.max(pair.sender as usize + 1);
     }
+    count
+}
 
-    /// Adds a mailbox, by the route that is known where it's the mailbox's.
-    fn add_mailbox(
-        &mut self,
-        alloc: Global,
-        job: &Job,
-        router: &Router,
-        known: Option<&MailboxRoute>,
-        mailbox: Address,
-    ) -> Result<(), AllocError>
-        requires router { router.now ≡ routing_of job.now }
-        requires known { ForSome known (λ r. IsRouteAt job.now r.now) }
-        ensures stops { OnOk result ((t : kinds.Transport) (n : List ℕ) (a : AddressParts) → HasStop self.new.lanes t n a ↔ (HasStop self.old.lanes t n a ⊎ IsStopOf job.now (targets.Mailbox mailbox) t n a)) }
-        ensures lines { OnOk result ((q : List ℕ) → IsTrue (has_text self.new.lines q) ↔ (IsTrue (has_text self.old.lines q) ⊎ IsLineOf job.now (targets.Mailbox mailbox) q)) }
-    {
-        if let Some(known) = known {
-            if known.is_for(&mailbox) {
-                let nexthop = known.route.nexthop.as_bytes();
-                return self
-                    .lanes
-                    .add(alloc, known.route.transport, nexthop, mailbox);
-            }
-        }
-        let answer = router.route_via(alloc, &job.settings.mailbox_transport, &mailbox);
-        self.add_routed(alloc, answer, mailbox)
-    }
-
-    /// Adds what a target leads to.
-    fn add(
-        &mut self,
-        alloc: Global,
-        job: &Job,
-        router: &Router,
-        known: Option<&MailboxRoute>,
-        target: Target,
-    ) -> Result<(), AllocError>
-        requires router { router.now ≡ routing_of job.now }
-        requires known { ForSome known (λ r. IsRouteAt job.now r.now) }
-        ensures stops { OnOk result ((t : kinds.Transport) (n : List ℕ) (a : AddressParts) → HasStop self.new.lanes t n a ↔ (HasStop self.old.lanes t n a ⊎ IsStopOf job.now target t n a)) }
-        ensures lines { OnOk result ((q : List ℕ) → IsTrue (has_text self.new.lines q) ↔ (IsTrue (has_text self.old.lines q) ⊎ IsLineOf job.now target q)) }
-    {
-        match target {
-            Target::Mailbox(mailbox) => self.add_mailbox(alloc, job, router, known, mailbox),
-            Target::Remote(address) => {
-                let answer = router.route(alloc, &address);
-                self.add_routed(alloc, answer, address)
-            }
-            Target::Missing(name) => {
-                let finding = Finding::Missing(name, Place::Envelope);
-                report(alloc, &finding, &mut self.lines)
-            }
-        }
-    }
-
-    /// What these targets lead to, beside lines that are reported already.
-    pub fn of(
-        alloc: Global,
-        job: &Job,
-        router: &Router,
-        targets: Vec<Target>,
-        lines: TextSet,
-    ) -> Result<Gathered, AllocError>
-        requires { router.now ≡ routing_of job.now }
-        ensures stops { IfOk result (λ gathered. (t : kinds.Transport) (n : List ℕ) (a : AddressParts) → HasStop gathered.lanes t n a ↔ HaveStop job.now targets.items t n a) }
-        ensures lines { IfOk result (λ gathered. (q : List ℕ) → IsTrue (has_text gathered.lines q) ↔ (IsTrue (has_text lines q) ⊎ HaveLine job.now targets.items q)) }
-    {
-        let first = MailboxRoute::of_first(alloc, job, router, targets.as_slice())?;
-        let known = first.as_ref();
-        let mut gathered = Gathered {
+/// No address under each sender of a number below `count`.
+fn no_lanes(alloc: Global, count: usize) -> Result<Vec<SenderLanes>, AllocError>
+    requires { count ≤ 2 ^ 32 }
+    ensures len { IfOk result (λ by_sender. length by_sender.items ≡ count) }
+    ensures numbers { IfOk result (λ by_sender. AreNumbered by_sender.items) }
+    ensures empty { IfOk result (λ by_sender. All (λ x. NoStops x.lanes) by_sender.items) }
+{
+    let mut by_sender = Vec::with_capacity(alloc, count)?;
+    for sender in 0..count {
+        by_sender.push(SenderLanes {
+            sender: sender as u32,
             lanes: Lanes::new(alloc),
-            lines,
-        };
-        for target in targets {
-            gathered.add(alloc, job, router, known, target)?;
-        }
-        Ok(gathered)
+        })?;
     }
+    Ok(by_sender)
+}
+
+/// Adds the line of an address that has no route. `Err` where memory ran out, then or when the route was looked up.
+fn add_unrouted(
+    alloc: Global,
+    unrouted: Unrouted,
+    address: &Address,
+    lines: &mut TextSet,
+) -> Result<(), AllocError>
+    ensures lines { OnOk result ((q : List ℕ) → IsTrue (has_text lines.new q) ↔ (IsTrue (has_text lines.old q) ⊎ IsLineAt (Err unrouted) address.now q)) }
+    ensures memory { OnOk result (unrouted ≡ Unrouted.Memory → ⊥) }
+{
+    let address = address.copy(alloc)?;
+    let reason = reason_for(unrouted).ok_or(AllocError)?;
+    report(alloc, &Finding::Unrouted(address, reason), lines)
+}
+
+/// Adds an address by what the router answered of it.
+fn add_routed(
+    alloc: Global,
+    answer: Result<Route, Unrouted>,
+    address: &Address,
+    lanes: &mut Lanes,
+    lines: &mut TextSet,
+) -> Result<(), AllocError>
+    ensures stops { OnOk result ((t : kinds.Transport) (n : List ℕ) (a : AddressParts) → HasStop lanes.new t n a ↔ (HasStop lanes.old t n a ⊎ IsStopAt answer address.now t n a)) }
+    ensures lines { OnOk result ((q : List ℕ) → IsTrue (has_text lines.new q) ↔ (IsTrue (has_text lines.old q) ⊎ IsLineAt answer address.now q)) }
+    ensures memory { OnOk result (answer ≡ Err Unrouted.Memory → ⊥) }
+{
+    match answer {
+        Ok(route) => {
+            let address = address.copy(alloc)?;
+            lanes.add(alloc, route.transport, route.nexthop.as_bytes(), address)
+        }
+        Err(unrouted) => add_unrouted(alloc, unrouted, address, lines),
+    }
+}
+
+/// Adds an address by its destination, whose route is looked up only where no address goes there yet.
+fn add_to(
+    alloc: Global,
+    router: &Router,
+    to: &Destination,
+    address: &Address,
+    lanes: &mut Lanes,
+    lines: &mut TextSet,
+) -> Result<(), AllocError>
+    requires { AreStopsRouted router.now lanes.old }
+    ensures stops { OnOk result ((t : kinds.Transport) (n : List ℕ) (a : AddressParts) → HasStop lanes.new t n a ↔ (HasStop lanes.old t n a ⊎ IsStopAt (route_to router.now to.now.transport to.now.nexthop) address.now t n a)) }
+    ensures lines { OnOk result ((q : List ℕ) → IsTrue (has_text lines.new q) ↔ (IsTrue (has_text lines.old q) ⊎ IsLineAt (route_to router.now to.now.transport to.now.nexthop) address.now q)) }
+{
+    let nexthop = to.nexthop.as_bytes();
+    if lanes.join(alloc, to.transport, nexthop, address)? {
+        return Ok(());
+    }
+    let answer = router.route_to(alloc, to.transport, nexthop);
+    add_routed(alloc, answer, address, lanes, lines)
+}
+
+/// Adds an address by the destination that was found for it.
+fn add_found(
+    alloc: Global,
+    router: &Router,
+    found: Result<Destination, Unrouted>,
+    address: &Address,
+    lanes: &mut Lanes,
+    lines: &mut TextSet,
+) -> Result<(), AllocError>
+    requires { AreStopsRouted router.now lanes.old }
+    ensures stops { OnOk result ((t : kinds.Transport) (n : List ℕ) (a : AddressParts) → HasStop lanes.new t n a ↔ (HasStop lanes.old t n a ⊎ IsStopAt (route_by_found router.now found) address.now t n a)) }
+    ensures lines { OnOk result ((q : List ℕ) → IsTrue (has_text lines.new q) ↔ (IsTrue (has_text lines.old q) ⊎ IsLineAt (route_by_found router.now found) address.now q)) }
+    ensures memory { OnOk result (found ≡ Err Unrouted.Memory → ⊥) }
+{
+    match found {
+        Ok(to) => add_to(alloc, router, &to, address, lanes, lines),
+        Err(unrouted) => add_unrouted(alloc, unrouted, address, lines),
+    }
+}
+
+/// Adds what a node leads to.
+fn add_node(
+    alloc: Global,
+    job: &Job,
+    router: &Router,
+    node: &Node,
+    lanes: &mut Lanes,
+    lines: &mut TextSet,
+) -> Result<(), AllocError>
+    requires router { router.now ≡ routing_of job.now }
+    requires routed { AreStopsRouted router.now lanes.old }
+    ensures stops { OnOk result ((t : kinds.Transport) (n : List ℕ) (a : AddressParts) → HasStop lanes.new t n a ↔ (HasStop lanes.old t n a ⊎ IsStopOf job.now node.now t n a)) }
+    ensures lines { OnOk result ((q : List ℕ) → IsTrue (has_text lines.new q) ↔ (IsTrue (has_text lines.old q) ⊎ IsLineOfNode job.now node.now q)) }
+{
+    route_by_destination();
+    match node {
+        Node::Mailbox(address) => {
+            let via = &job.settings.mailbox_transport;
+            let found = router.destination_via(alloc, via, address);
+            add_found(alloc, router, found, address, lanes, lines)
+        }
+        Node::Remote(address) => {
+            let found = router.destination(alloc, address);
+            add_found(alloc, router, found, address, lanes, lines)
+        }
+        Node::Alias(_)
+        | Node::Include(_)
+        | Node::Missing(_)
+        | Node::NoInclude(_)
+        | Node::Command(_)
+        | Node::File(_) => Ok(()),
+    }
+}
+
+/// What the pairs lead to, by the numbers of the senders. The lines of the addresses that have no route are added to those that are
+/// reported already.
+pub fn gather(
+    alloc: Global,
+    job: &Job,
+    router: &Router,
+    graph: &Graph,
+    pairs: &[Reached],
+    lines: &mut TextSet,
+) -> Result<Vec<SenderLanes>, AllocError>
+    requires router { router.now ≡ routing_of job.now }
+    requires in_graph { All (λ p. (p.sender < length graph.now.senders) × (p.node < length graph.now.nodes)) pairs.now }
+    ensures stops { IfOk result (λ by_sender. (s : ℕ) (t : kinds.Transport) (n : List ℕ) (a : AddressParts) → HasStopUnder by_sender.items s t n a ↔ HaveStop job.now graph.now pairs.now s t n a) }
+    ensures lines { OnOk result ((q : List ℕ) → IsTrue (has_text lines.new q) ↔ (IsTrue (has_text lines.old q) ⊎ HaveLine job.now graph.now pairs.now q)) }
+    ensures numbers { IfOk result (λ by_sender. AreNumbered by_sender.items) }
+    ensures few { IfOk result (λ by_sender. length by_sender.items ≤ length graph.now.senders) }
+{
+    let mut by_sender = no_lanes(alloc, sender_count(pairs))?;
+    for pair in pairs {
+        let under = &mut by_sender[pair.sender as usize];
+        let node = graph.node(pair.node);
+        add_node(alloc, job, router, node, &mut under.lanes, lines)?;
+    }
+    Ok(by_sender)
 }

@@ -9,10 +9,10 @@ pub struct Lanes {
     pub smtp: Nexthops,
 }
 
-ghost use Rattle.std.specs.Prelude.{◌≡◌, ◌⊎◌, ◌↔◌, ℕ, List, IfOk, OnOk};
+ghost use Rattle.std.specs.Prelude.{◌≡◌, ◌⊎◌, ◌↔◌, ℕ, List, IsTrue, IfOk, OnOk};
 ghost use Rattle.relay_text.specs.AddressParts.{AddressParts};
 ghost use Rattle.relay_routes.specs.declared.transport.Transport as names;
-ghost use Rattle.aliasplan.specs.Lanes.{HasStop, NoStops, lanes_of, lane_cmp};
+ghost use Rattle.aliasplan.specs.Lanes.{HasStop, HasLane, NoStops, lanes_of, lane_cmp};
 ghost use Rattle.relay_text.specs.TextSets.{IsAscendingBy};
 
 use crate::lane::Lane;
@@ -45,6 +45,32 @@ impl Lanes {
             Transport::Relay => self.relay.add(alloc, nexthop, address),
             Transport::Lmtp => self.lmtp.add(alloc, nexthop, address),
         }
+    }
+
+    /// Adds a copy of an address where some address goes by this transport to this nexthop already, and answers whether one does. Where
+    /// none does, nothing is added.
+    pub fn join(
+        &mut self,
+        alloc: Global,
+        transport: Transport,
+        nexthop: &[u8],
+        address: &Address,
+    ) -> Result<bool, AllocError>
+        ensures added { IfOk result (λ joined. (t : names.Transport) (n : List ℕ) (a : AddressParts) → HasStop self.new t n a ↔ (HasStop self.old t n a ⊎ (IsTrue joined × (transport ≡ t) × (nexthop.now ≡ n) × (address.now ≡ a)))) }
+        ensures joined { IfOk result (λ joined. IsTrue joined ↔ HasLane self.old transport nexthop.now) }
+    {
+        match transport {
+            Transport::Smtp => self.smtp.join(alloc, nexthop, address),
+            Transport::Relay => self.relay.join(alloc, nexthop, address),
+            Transport::Lmtp => self.lmtp.join(alloc, nexthop, address),
+        }
+    }
+
+    /// Whether no address goes anywhere.
+    pub fn is_empty(&self) -> bool
+        ensures { IsTrue result ↔ NoStops self.now }
+    {
+        self.lmtp.is_empty() && self.relay.is_empty() && self.smtp.is_empty()
     }
 
     /// The lanes, by the names of their transports and then by nexthop.

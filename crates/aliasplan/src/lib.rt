@@ -1,54 +1,38 @@
 //! The plan of a job: from one message's envelope to the fewest sound transactions.
 #![tactic(auto)]
 
+mod addresses;
 mod answering;
 mod batches;
-mod content;
 pub mod device;
-mod domains;
-mod envelope;
-pub mod fault;
+mod entries;
 mod findings;
 mod gathering;
-pub mod job;
-mod key;
 mod lane;
 mod lanes;
-mod local_names;
-mod mailbox_route;
-mod mailbox_search;
+mod listing;
 mod nexthops;
 pub mod options;
-pub mod parsing;
-mod place;
 pub mod planning;
-mod raw_line;
 pub mod reading;
 mod recipients;
-pub mod routing;
+mod routing;
 mod running;
-mod section;
-mod sections;
-mod setting;
-mod setting_values;
-pub mod settings;
+mod sender_lanes;
+mod sender_order;
+mod source;
+mod sources;
 pub mod summary;
 mod table;
-mod target;
-mod targets;
-#[cfg(test)]
-mod tests_parsing;
-mod values;
+mod texts;
 mod writing;
 mod written_address;
 
 pub use device::{Device, Failed, Feed, Sink};
-pub use fault::RunFault;
-pub use job::Job;
-pub use options::{Limits, Options};
-pub use parsing::parse_job;
+pub use options::{Form, Limits, Options};
 pub use planning::plan_job;
 pub use reading::read_job;
+pub use relay_job::{Job, JobInclude, RunFault, Settings, parse_job};
+pub use relay_rounds::{Gate, NoGate};
 pub use running::run;
-pub use settings::Settings;
 pub use summary::Summary;

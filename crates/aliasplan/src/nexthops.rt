@@ -21,9 +21,9 @@ impl Model for Nexthops {
     ghost view = { λ a. stops_of a.by_text.entries };
 }
 
-ghost use Rattle.std.specs.Prelude.{◌≡◌, ◌⊎◌, ◌↔◌, ◌++◌, ℕ, List, [], map, OnOk};
+ghost use Rattle.std.specs.Prelude.{◌≡◌, ◌⊎◌, ◌↔◌, ◌++◌, ℕ, List, [], map, IsTrue, IfOk, OnOk};
 ghost use Rattle.relay_text.specs.AddressParts.{AddressParts};
-ghost use Rattle.aliasplan.specs.Stops.{GoesTo};
+ghost use Rattle.aliasplan.specs.Stops.{GoesTo, HasNexthop};
 ghost use Rattle.relay_text.specs.TextSets.{IsAscendingBy};
 ghost use Rattle.aliasplan.specs.Lanes.{lane_of, stop_cmp};
 
@@ -51,6 +51,32 @@ impl Nexthops {
                 Ok(())
             }
         }
+    }
+
+    /// Adds a copy of an address where some address goes to this nexthop already, and answers whether one does. Where none does, nothing
+    /// is added.
+    pub fn join(
+        &mut self,
+        alloc: Global,
+        nexthop: &[u8],
+        address: &Address,
+    ) -> Result<bool, AllocError>
+        ensures added { IfOk result (λ joined. (n : List ℕ) (a : AddressParts) → GoesTo self.new n a ↔ (GoesTo self.old n a ⊎ (IsTrue joined × (nexthop.now ≡ n) × (address.now ≡ a)))) }
+        ensures joined { IfOk result (λ joined. IsTrue joined ↔ HasNexthop self.old nexthop.now) }
+    {
+        let Some(to) = self.by_text.get_mut(nexthop) else {
+            return Ok(false);
+        };
+        let address = address.copy(alloc)?;
+        to.add(alloc, address)?;
+        Ok(true)
+    }
+
+    /// Whether there is no nexthop.
+    pub fn is_empty(&self) -> bool
+        ensures { IsTrue result ↔ (self.now ≡ []) }
+    {
+        self.by_text.is_empty()
     }
 
     /// Puts the lanes of a transport at the end, in order.

@@ -1,11 +1,21 @@
 //! What a run is asked for.
 
-/// How the work is divided. It changes no byte of the answer.
+/// What a plan is written as.
+#[derive(Clone, Copy, Debug, PartialEq, Eq)]
+pub enum Form {
+    /// Its transactions and findings, a line each.
+    Plan,
+    /// The commands of each transaction (RFC 5321 section 3.3; RFC 2033).
+    Wire,
+}
+
+/// How the answer is written, and how the work is divided, which changes no byte of the answer.
 #[derive(Clone, Copy, Debug, PartialEq, Eq)]
 pub struct Options {
+    pub form: Form,
     /// How many threads, from 1 to 64.
     pub workers: usize,
-    /// How many keys a piece of work has, from 1 to 1,048,576.
+    /// How many pairs of sender and node a thread takes at once, from 1 to 1,048,576.
     pub cut: usize,
 }
 
@@ -14,4 +24,10 @@ pub struct Options {
 pub struct Limits {
     /// How many bytes a job has at most, up to 67,108,864.
     pub bytes: usize,
+    /// How many names: aliases, include files and all that they and the recipients lead to, reached or not. Up to 16,777,216.
+    pub names: usize,
+    /// How many aliases with an owner, up to 65,535.
+    pub owners: usize,
+    /// How many pairs of a sender and a name that is reached under it, up to 16,777,216.
+    pub pairs: usize,
 }

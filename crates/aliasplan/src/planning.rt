@@ -1,60 +1,261 @@
 //! The plan of a job.
-ghost use Rattle.std.specs.Prelude.{◌≡◌, ℕ, List, IfOk};
+ghost use Rattle.std.specs.Prelude.{◌≡◌, ◌⊎◌, ◌↔◌, ◌<◌, ◌≤◌, ℕ, List, IsTrue, IfOk, IfErr, OnOk};
 ghost use Rattle.relay_text.specs.Bytes.{has_text};
-ghost use Rattle.aliasplan.specs.Lanes.{is_fault_line};
-ghost use Rattle.aliasplan.specs.Plans.{IsPlanOf};
-ghost use Rattle.aliasplan.specs.Outcomes.{IsJobWithin};
+ghost use Rattle.relay_routes.specs.declared.transport.Transport as names;
+ghost use Rattle.relay_job.specs.Settings.{limit_of};
+ghost use Rattle.relay_job.specs.JobAnswers.{IsJobWithin};
+ghost use Rattle.relay_loops.specs.Loops.{AreLoopsOf, IsClosedPart};
+ghost use Rattle.relay_pairs.specs.Pairs.{ArePairs, IsClosedGraph};
+ghost use Rattle.aliasplan.specs.Delivery.{directory_of, routing_of, HasAtMostPairs, IsJobGraph};
+ghost use Rattle.aliasplan.specs.Outcomes.{name_count, owned_count, AreOptions, AreLimits, IsWithin, IsRefused};
+ghost use Rattle.aliasplan.specs.Plans.{AreTransactionsOf, IsFewest, IsPlanOf, IsSoundFor};
+ghost use Rattle.aliasplan.specs.Report.{entries, IsFindingLine, IsLineOf};
+ghost use Rattle.aliasplan.specs.Texts.{has_fault_line};
+ghost use Rattle.aliasplan.specs.Reaching.{AreReachedPairs, AreReachedNodes};
 
-use crate::batches::plan_lanes;
-use crate::findings::{report_mailboxes, report_table};
-use crate::gathering::Gathered;
-use crate::job::Job;
-use crate::options::Limits;
-use crate::routing::router_of;
-use crate::table::Table;
-use crate::targets::targets_of;
-use relay_aliasfile::{MailboxFile, parse_mailboxes};
-use relay_routes::{MxTable, TransportTable};
+use crate::addresses::plan_addresses;
+use crate::entries::report_entries;
+use crate::options::{Limits, Options};
+use crate::sources::Sources;
+use relay_aliasfile::file_counts;
+use relay_job::{Job, RunFault, parsed_jobs};
+use relay_loops::on_loops;
+use relay_pairs::{
+    Reached, closed_graphs, pairs_are_counted, pairs_by_numbers, reached_nodes, reached_pairs,
+};
+use relay_rounds::{Gate, ReachFault};
+use relay_routes::Router;
+use relay_tables::{Graph, TableFault, Tables};
 use relay_text::{Seq, Text, TextSet};
-use relay_wire::Plan;
+use relay_wire::{Plan, Planned};
 use std::alloc::{AllocError, Global};
+use std::thread::Threads;
 
-/// The lines of the mailboxes and of the tables that are at fault.
-fn fault_lines(
-    alloc: Global,
-    file: &MailboxFile,
-    transports: &TransportTable,
-    exchanges: &MxTable,
-) -> Result<TextSet, AllocError>
-    ensures { IfOk result (λ lines. (q : List ℕ) → has_text lines q ≡ is_fault_line file.now.faults transports.now.faults exchanges.now.faults q) }
+/// The graph of a job's tables and envelope.
+fn graph_of(alloc: Global, job: &Job, tables: &Tables, limits: Limits) -> Result<Graph, RunFault>
+    requires tables { tables.now ≡ directory_of job.now }
+    requires limits { AreLimits limits }
+    ensures graph { IfOk result (IsJobGraph job.now) }
+    ensures closed { IfOk result IsClosedGraph }
+    ensures names { OnOk result (name_count job.now ≤ limits.names) }
+    ensures owners { OnOk result (owned_count job.now ≤ limits.owners) }
+    ensures refused { IfErr result (IsRefused limits job.now) }
 {
-    let mut lines = TextSet::new(alloc);
-    report_mailboxes(alloc, file.faults.as_slice(), &mut lines)?;
-    report_table(alloc, Table::Transport, transports.faults(), &mut lines)?;
-    report_table(alloc, Table::Mx, exchanges.faults(), &mut lines)?;
-    Ok(lines)
+    closed_graphs();
+    let recipients = job.recipients.as_slice();
+    match Graph::build(
+        alloc,
+        tables,
+        job.sender.as_ref(),
+        recipients,
+        limits.names,
+        limits.owners,
+    ) {
+        Ok(graph) => Ok(graph),
+        Err(TableFault::TooManyNames) => Err(RunFault::TooManyNames),
+        Err(TableFault::TooManyOwners) => Err(RunFault::TooManyOwners),
+        Err(TableFault::Memory) => Err(RunFault::Memory),
+    }
 }
 
-/// The plan of a job: each address that a recipient leads to, once, in transactions by transport and nexthop within the transport's
-/// limit (local(8), transport(5) and postconf(5) of Postfix), and a line for each recipient that leads nowhere and for each
-/// line of the mailboxes and tables that is at fault. It fails only where memory runs out.
-pub fn plan_job(alloc: Global, job: &Job, limits: Limits) -> Result<Plan, AllocError>
-    requires { IsJobWithin limits.bytes job.now }
-    ensures plan { IfOk result (IsPlanOf job.now) }
+/// The pairs of sender and node that a job reaches.
+fn pairs_of<G: Gate, R: Threads + Sync>(
+    rt: &R,
+    alloc: Global,
+    job: &Job,
+    graph: &Graph,
+    options: Options,
+    limits: Limits,
+    gate: &G,
+) -> Result<Vec<Reached>, RunFault>
+    requires options { AreOptions options }
+    requires limits { AreLimits limits }
+    requires graph { IsJobGraph job.now graph.now }
+    requires closed { IsClosedGraph graph.now }
+    requires names { name_count job.now ≤ limits.names }
+    requires owners { owned_count job.now ≤ limits.owners }
+    ensures pairs { IfOk result (λ pairs. ArePairs graph.now pairs.items) }
+    ensures reached { IfOk result (λ pairs. AreReachedPairs job.now graph.now pairs.items) }
+    ensures at_most { OnOk result (HasAtMostPairs job.now limits.pairs) }
+    ensures refused { IfErr result (IsRefused limits job.now) }
 {
-    let _ = limits;
-    let file = parse_mailboxes(alloc, job.mailboxes.as_bytes())?;
-    let targets = targets_of(alloc, job, &file)?;
-    let transports = TransportTable::parse(alloc, job.transport.as_bytes())?;
-    let exchanges = MxTable::parse(alloc, job.mx.as_bytes())?;
-    let faults = fault_lines(alloc, &file, &transports, &exchanges)?;
-    let router = router_of(alloc, job, transports, exchanges)?;
-    let Gathered { lanes, lines } = Gathered::of(alloc, job, &router, targets, faults)?;
-    let transactions = plan_lanes(alloc, job, &router, lanes)?;
+    pairs_by_numbers();
+    pairs_are_counted();
+    let _ = job;
+    match reached_pairs(
+        rt,
+        alloc,
+        graph,
+        options.workers,
+        options.cut,
+        limits.pairs,
+        gate,
+    ) {
+        Ok(pairs) => Ok(pairs),
+        Err(ReachFault::TooManyPairs) => Err(RunFault::TooManyPairs),
+        Err(ReachFault::Memory) => Err(RunFault::Memory),
+    }
+}
+
+/// The nodes that a job reaches, from its pairs.
+fn nodes_of(
+    alloc: Global,
+    job: &Job,
+    graph: &Graph,
+    pairs: &[Reached],
+) -> Result<Vec<u32>, AllocError>
+    requires graph { IsJobGraph job.now graph.now }
+    requires closed { IsClosedGraph graph.now }
+    requires pairs { ArePairs graph.now pairs.now }
+    ensures reached { IfOk result (λ nodes. AreReachedNodes job.now graph.now nodes.items) }
+    ensures part { IfOk result (λ nodes. IsClosedPart graph.now nodes.items) }
+{
+    pairs_by_numbers();
+    let _ = job;
+    reached_nodes(alloc, graph, pairs)
+}
+
+/// Adds the lines of what the entries that a job reaches lead to and shouldn't.
+fn report_reached<G: Gate, R: Threads + Sync>(
+    rt: &R,
+    alloc: Global,
+    job: &Job,
+    tables: &Tables,
+    graph: &Graph,
+    pairs: &[Reached],
+    options: Options,
+    lines: &mut TextSet,
+    gate: &G,
+) -> Result<(), AllocError>
+    requires options { AreOptions options }
+    requires tables { tables.now ≡ directory_of job.now }
+    requires graph { IsJobGraph job.now graph.now }
+    requires closed { IsClosedGraph graph.now }
+    requires pairs { ArePairs graph.now pairs.now }
+    ensures { OnOk result ((q : List ℕ) → IsTrue (has_text lines.new q) ↔ (IsTrue (has_text lines.old q) ⊎ IsLineOf job.now entries q)) }
+{
+    let nodes = nodes_of(alloc, job, graph, pairs)?;
+    let loops = on_loops(rt, alloc, graph, &nodes, options.workers, options.cut, gate)?;
+    report_entries(alloc, job, tables, graph, &nodes, &loops, lines)
+}
+
+/// The plan of transactions and lines.
+fn plan_of(
+    alloc: Global,
+    job: &Job,
+    transactions: Vec<Planned>,
+    lines: TextSet,
+) -> Result<Plan, AllocError>
+    requires transactions { AreTransactionsOf job.now transactions.items }
+    requires lines { (q : List ℕ) → IsTrue (has_text lines q) ↔ IsFindingLine job.now q }
+    ensures { IfOk result (IsPlanOf job.now) }
+{
     let hostname = Vec::from_slice(alloc, job.settings.hostname.as_bytes())?;
     Ok(Plan {
         hostname: Text::of(hostname),
         transactions: Seq::of(transactions),
         findings: lines.into_seq(alloc)?,
     })
+}
+
+/// The plan of a job that reaches these pairs. The lines of its files and tables that are at fault are given.
+fn plan_reached<G: Gate, R: Threads + Sync>(
+    rt: &R,
+    alloc: Global,
+    job: &Job,
+    tables: &Tables,
+    router: &Router,
+    graph: &Graph,
+    pairs: &[Reached],
+    options: Options,
+    lines: TextSet,
+    gate: &G,
+) -> Result<Plan, AllocError>
+    requires options { AreOptions options }
+    requires batches { (t : names.Transport) → 0 < limit_of job.now.settings t }
+    requires tables { tables.now ≡ directory_of job.now }
+    requires router { router.now ≡ routing_of job.now }
+    requires graph { IsJobGraph job.now graph.now }
+    requires closed { IsClosedGraph graph.now }
+    requires pairs { ArePairs graph.now pairs.now }
+    requires reached { AreReachedPairs job.now graph.now pairs.now }
+    requires lines { (q : List ℕ) → has_text lines q ≡ has_fault_line job.now q }
+    ensures { IfOk result (IsPlanOf job.now) }
+{
+    let mut lines = lines;
+    report_reached(
+        rt, alloc, job, tables, graph, pairs, options, &mut lines, gate,
+    )?;
+    let transactions = plan_addresses(alloc, job, router, graph, pairs, &mut lines)?;
+    plan_of(alloc, job, transactions, lines)
+}
+
+/// The plan of a job whose files and tables are read.
+fn plan_sources<G: Gate, R: Threads + Sync>(
+    rt: &R,
+    alloc: Global,
+    job: &Job,
+    tables: &Tables,
+    router: &Router,
+    options: Options,
+    limits: Limits,
+    lines: TextSet,
+    gate: &G,
+) -> Result<Plan, RunFault>
+    requires options { AreOptions options }
+    requires limits { AreLimits limits }
+    requires batches { (t : names.Transport) → 0 < limit_of job.now.settings t }
+    requires tables { tables.now ≡ directory_of job.now }
+    requires router { router.now ≡ routing_of job.now }
+    requires lines { (q : List ℕ) → has_text lines q ≡ has_fault_line job.now q }
+    ensures plan { IfOk result (IsPlanOf job.now) }
+    ensures within { OnOk result (IsWithin limits job.now) }
+    ensures refused { IfErr result (IsRefused limits job.now) }
+{
+    let graph = graph_of(alloc, job, tables, limits)?;
+    let pairs = pairs_of(rt, alloc, job, &graph, options, limits, gate)?;
+    match plan_reached(
+        rt, alloc, job, tables, router, &graph, &pairs, options, lines, gate,
+    ) {
+        Ok(plan) => Ok(plan),
+        Err(_) => Err(RunFault::Memory),
+    }
+}
+
+/// The plan of a job: each address that an entry or recipient leads to, once under each sender that a chain of entries gives it, in
+/// transactions by sender, transport and nexthop within the transport's limit (aliases(5), local(8), transport(5) and postconf(5) of
+/// Postfix), and a line for each finding.
+///
+/// `TooManyNames`, `TooManyOwners` and `TooManyPairs` come in this order, exactly where the job has more than `limits` takes; `Memory`
+/// where a growth was refused. Neither the number of threads nor how the work is cut changes the plan.
+pub fn plan_job<G: Gate, R: Threads + Sync>(
+    rt: &R,
+    alloc: Global,
+    job: &Job,
+    options: Options,
+    limits: Limits,
+    gate: &G,
+) -> Result<Plan, RunFault>
+    requires options { AreOptions options }
+    requires limits { AreLimits limits }
+    requires job { IsJobWithin limits.bytes job.now }
+    ensures plan { IfOk result (IsPlanOf job.now) }
+    ensures sound { IfOk result (λ plan. IsSoundFor job.now plan.transactions) }
+    ensures fewest { IfOk result (λ plan. IsFewest job.now plan.transactions) }
+    ensures within { OnOk result (IsWithin limits job.now) }
+    ensures refused { IfErr result (IsRefused limits job.now) }
+{
+    parsed_jobs();
+    file_counts();
+    let Ok(sources) = Sources::read(alloc, job) else {
+        return Err(RunFault::Memory);
+    };
+    let Sources {
+        tables,
+        router,
+        lines,
+    } = sources;
+    plan_sources(
+        rt, alloc, job, &tables, &router, options, limits, lines, gate,
+    )
 }

@@ -5,7 +5,7 @@ ghost use Rattle.aliasplan.specs.Outcomes.{IsReadFault};
 ghost use Rattle.aliasplan.specs.Transfers.{Takes};
 
 use crate::device::Feed;
-use crate::fault::RunFault;
+use relay_job::RunFault;
 use relay_text::Text;
 use std::alloc::{AllocError, Global};
 

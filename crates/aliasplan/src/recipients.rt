@@ -41,6 +41,7 @@ impl Recipients {
     pub fn add(&mut self, alloc: Global, address: Address) -> Result<(), AllocError>
         ensures ok { OnOk result ((x : AddressParts) → Contains self.new x ↔ (Contains self.old x ⊎ (address ≡ x))) }
         ensures err { OnErr result (self.new ≡ self.old) }
+        ensures some { OnOk result (0 < length self.old) }
     {
         self.gathered.push(WrittenAddress::of(alloc, address)?)?;
         Ok(())

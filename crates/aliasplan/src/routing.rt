@@ -4,20 +4,20 @@ ghost use Rattle.relay_routes.specs.Transports.{transport_table_of};
 ghost use Rattle.relay_routes.specs.Exchanges.{mx_table_of};
 ghost use Rattle.aliasplan.specs.Delivery.{routing_of};
 
-use crate::job::Job;
-use crate::settings::Settings;
+use relay_job::{Job, Settings};
 use relay_routes::{MxTable, RouteSettings, Router, TransportTable};
 use relay_text::{Seq, Text};
 use std::alloc::{AllocError, Global};
 
-fn copy_of(alloc: Global, text: &Text) -> Result<Text, AllocError>
+/// A copy of a text.
+pub fn copy_of(alloc: Global, text: &Text) -> Result<Text, AllocError>
     ensures { IfOk result (λ copy. copy ≡ text.now) }
 {
     Ok(Text::of(Vec::from_slice(alloc, text.as_bytes())?))
 }
 
 /// Puts copies at the end.
-fn push_copies(alloc: Global, texts: &[Text], names: &mut Vec<Text>) -> Result<(), AllocError>
+pub fn push_copies(alloc: Global, texts: &[Text], names: &mut Vec<Text>) -> Result<(), AllocError>
     ensures { OnOk result (names.new.items ≡ names.old.items ++ texts.now) }
 {
     for text in texts {

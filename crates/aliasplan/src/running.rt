@@ -5,41 +5,45 @@ ghost use Rattle.aliasplan.specs.Outcomes.{AreOptions, AreLimits, Plans, Refuses
 
 use crate::answering::{Answer, answer_job};
 use crate::device::{Feed, Sink};
-use crate::fault::RunFault;
 use crate::options::{Limits, Options};
 use crate::reading::read_job;
 use crate::summary::Summary;
 use crate::writing::write_text;
+use relay_job::RunFault;
+use relay_rounds::Gate;
 use std::alloc::Global;
+use std::thread::Threads;
 
 /// Reads a job, plans it, and writes the plan's text and nothing else.
-pub fn run<F: Feed, S: Sink>(
+///
+/// `gate` is entered by each thread before a piece of work: `NoGate` unless a test wants to see the threads.
+pub fn run<F: Feed, S: Sink, G: Gate, R: Threads + Sync>(
+    rt: &R,
     alloc: Global,
     reader: &mut F,
     writer: &mut S,
     options: Options,
     limits: Limits,
+    gate: &G,
 ) -> Result<Summary, RunFault>
     requires options { AreOptions options }
     requires limits { AreLimits limits }
     requires reader { (F.has_failed reader.old ≡ false) × (F.has_ended reader.old ≡ false) }
     requires writer { S.has_failed writer.old ≡ false }
     // The bytes written are the text of the plan of the job that the bytes read are.
-    ensures plans { IfOk result (λ summary. IfSome (F.remaining reader.old) (λ input. Plans limits input (S.contents writer.old) (S.contents writer.new) summary)) }
+    ensures plans { IfOk result (λ summary. IfSome (F.remaining reader.old) (λ input. Plans limits options.form input (S.contents writer.old) (S.contents writer.new) summary)) }
     ensures refuses { IfErr result (λ fault. IfSome (F.remaining reader.old) (λ input. Refuses limits input fault)) }
     // Read exactly where the reader failed, and Write exactly where the writer did.
     ensures read { (result ≡ Err RunFault.Read → F.has_failed reader.new ≡ true) × (result ≢ Err RunFault.Read → F.has_failed reader.new ≡ false) }
     ensures write { (result ≡ Err RunFault.Write → S.has_failed writer.new ≡ true) × (result ≢ Err RunFault.Write → S.has_failed writer.new ≡ false) }
     // A failed write leaves a front of the text; every other refusal writes nothing.
-    ensures front { result ≡ Err RunFault.Write → IfSome (F.remaining reader.old) (λ input. WritesFront input (S.contents writer.old) (S.contents writer.new)) }
+    ensures front { result ≡ Err RunFault.Write → IfSome (F.remaining reader.old) (λ input. WritesFront options.form input (S.contents writer.old) (S.contents writer.new)) }
     ensures nothing { IfErr result (λ fault. fault ≢ RunFault.Write → Keeps (S.contents writer.old) (S.contents writer.new)) }
     // But for Read, TooLong and Memory, the reader has ended.
     ensures ended { (result ≢ Err RunFault.Read) → (result ≢ Err RunFault.TooLong) → (result ≢ Err RunFault.Memory) → F.has_ended reader.new ≡ true }
 {
-    // The answer is the same however the work is divided.
-    let Options { workers: _, cut: _ } = options;
     let input = read_job(alloc, reader, limits.bytes)?;
-    let Answer { text, summary } = answer_job(alloc, input.as_bytes(), limits)?;
+    let Answer { text, summary } = answer_job(rt, alloc, input.as_bytes(), options, limits, gate)?;
     match write_text(writer, text.as_bytes()) {
         Ok(()) => Ok(summary),
         Err(_) => Err(RunFault::Write),

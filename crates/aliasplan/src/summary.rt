@@ -1,5 +1,5 @@
 //! What a run sums up.
-use crate::fault::RunFault;
+use relay_job::RunFault;
 use relay_wire::{Plan, Planned};
 
 /// The three numbers of a plan's first line.

@@ -1,5 +1,5 @@
 //! Addresses beside their written paths.
-ghost use Rattle.std.specs.Prelude.{◌≡◌, ◌<◌, ℕ, Some, IsTrue, drop, slice_index};
+ghost use Rattle.std.specs.Prelude.{◌≡◌, ◌<◌, ℕ, Some, IsTrue, IfOk, drop, slice_index};
 ghost use Rattle.relay_text.specs.Addresses.{is_address, path_text_of};
 ghost use Rattle.aliasplan.specs.WrittenAddresses.{front_number};
 
@@ -22,21 +22,28 @@ pub struct WrittenAddress {
 }
 
 impl WrittenAddress {
-    ghost use Rattle.std.specs.Prelude.{IfOk};
-
     /// An address and its path. `Err` where memory runs out.
     pub fn of(alloc: Global, address: Address) -> Result<WrittenAddress, AllocError>
         ensures { IfOk result (λ written. written.address ≡ address) }
     {
-        let len = address.local().len().saturating_add(address.domain().len());
-        let mut path = Vec::with_capacity(alloc, len.saturating_add(3))?;
-        write_path(Some(&address), &mut path)?;
+        let path = written_path(alloc, &address)?;
         Ok(WrittenAddress {
             front: front_number(path.as_slice()),
             path,
             address,
         })
     }
+}
+
+/// The one spelling of an address as a path.
+pub fn written_path(alloc: Global, address: &Address) -> Result<Vec<u8>, AllocError>
+    ensures path { IfOk result (λ path. path.items ≡ path_text_of (Some address.now)) }
+    ensures valid { IsTrue (is_address address.now) }
+{
+    let len = address.local().len().saturating_add(address.domain().len());
+    let mut path = Vec::with_capacity(alloc, len.saturating_add(3))?;
+    write_path(Some(address), &mut path)?;
+    Ok(path)
 }
 
 /// The eight bytes of a path past its `<` as a number, with noughts where the path is shorter.

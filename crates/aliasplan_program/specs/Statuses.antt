@@ -2,8 +2,8 @@
 use Rattle.std.specs.Prelude.{ℕ}
 use Rattle.aliasplan_program.specs.declared.Status.{Status}
 use Rattle.aliasplan_program.specs.declared.Status.TheVariants.{Done, Found, Refused, OutOfMemory, Broken, CommandLine}
-use Rattle.aliasplan.specs.declared.fault.RunFault.{RunFault}
-use Rattle.aliasplan.specs.declared.fault.RunFault.TheVariants.{Read, TooLong, BadJob, BadSetting, BadEnvelope, TooManyNames, TooManyOwners, TooManyPairs, Write, Memory}
+use Rattle.relay_job.specs.declared.fault.RunFault.{RunFault}
+use Rattle.relay_job.specs.declared.fault.RunFault.TheVariants.{Read, TooLong, BadJob, BadSetting, BadEnvelope, TooManyNames, TooManyOwners, TooManyPairs, Write, Memory}
 
 -- 2 where the job is refused, 3 where memory ran out, 4 where a device failed
 abbrev pub code_of : RunFault → ℕ

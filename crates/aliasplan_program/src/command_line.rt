@@ -1,6 +1,10 @@
 //! The command line.
-use clap::Command;
+ghost use Rattle.aliasplan.specs.Outcomes.{AreOptions};
+ghost use Rattle.aliasplan_program.specs.Requests.{IsRequest};
+
+use aliasplan::{Form, Options};
 use clap::error::ErrorKind;
+use clap::{Arg, ArgMatches, Command, value_parser};
 use std::alloc::{AllocError, Global};
 use std::env::Args;
 
@@ -8,7 +12,7 @@ use std::env::Args;
 #[derive(Clone, Copy, Debug, PartialEq, Eq)]
 pub enum Request {
     /// A plan of the job on standard input.
-    Plan,
+    Plan(Options),
     /// The help, which is printed.
     Help,
     /// Something else, as is said on standard error.
@@ -17,21 +21,63 @@ pub enum Request {
     Memory,
 }
 
+/// How many threads take part where the command line says nothing, and how many pairs one of them takes at once.
+const WORKERS: usize = 4;
+
+const CUT: usize = 1024;
+
+fn plan_command<'a>(alloc: Global) -> Result<Command<'a>, AllocError> {
+    let workers = Arg::new(alloc, "workers")
+        .long("workers")
+        .value_name("N")
+        .help("How many threads take part, from 1 to 64 (4)")
+        .value_parser(value_parser!(u64).range(1..=64));
+    let cut = Arg::new(alloc, "cut")
+        .long("cut")
+        .value_name("N")
+        .help("How many pairs of sender and name a thread takes at once, from 1 to 1048576 (1024)")
+        .value_parser(value_parser!(u64).range(1..=1_048_576));
+    let form = Arg::new(alloc, "form")
+        .long("form")
+        .value_name("FORM")
+        .help("The plan's lines, or the commands of each transaction")
+        .value_parser(["plan", "wire"].as_slice());
+    Command::new(alloc, "plan")
+        .about("Reads a job on standard input and writes its plan on standard output")
+        .arg(workers)?
+        .arg(cut)?
+        .arg(form)
+}
+
 fn command<'a>(alloc: Global) -> Result<Command<'a>, AllocError> {
-    let plan = Command::new(alloc, "plan").about(
-        "Reads a job on standard input and writes its plan on standard output",
-    );
-    Ok(
-        Command::new(alloc, "aliasplan")
-            .about("Plans the delivery of a message to aliases and mailing lists")
-            .subcommand_required(true)
-            .arg_required_else_help(false)
-            .subcommand(plan)?,
-    )
+    Command::new(alloc, "aliasplan")
+        .about("Plans the delivery of a message to aliases and mailing lists")
+        .subcommand_required(true)
+        .arg_required_else_help(false)
+        .subcommand(plan_command(alloc)?)
+}
+
+/// The options that the words after `plan` say, or their defaults. What is out of range is refused before.
+fn options_of(plan: &ArgMatches<'_>) -> Options
+    ensures { AreOptions result }
+{
+    let form = match plan.get_str("form") {
+        Some("wire") => Form::Wire,
+        _ => Form::Plan,
+    };
+    let workers = plan.get_one::<usize>("workers").unwrap_or(WORKERS);
+    let cut = plan.get_one::<usize>("cut").unwrap_or(CUT);
+    Options {
+        form,
+        workers: workers.clamp(1, 64),
+        cut: cut.clamp(1, 1_048_576),
+    }
 }
 
 /// What the words of a command line ask for, the program's name first. Help goes to standard output, a fault to standard error.
-pub fn read_words<R: Print + Eprint + AllocGlobal>(rt: &R, args: Args<Global>) -> Request {
+pub fn read_words<R: Print + Eprint + AllocGlobal>(rt: &R, args: Args<Global>) -> Request
+    ensures { IsRequest result }
+{
     let Ok(words) = args.collect::<Vec<String>>(rt.alloc()) else {
         return Request::Memory;
     };
@@ -39,7 +85,10 @@ pub fn read_words<R: Print + Eprint + AllocGlobal>(rt: &R, args: Args<Global>) -
         return Request::Memory;
     };
     match command.try_get_matches_from(words.as_slice()) {
-        Ok(_) => Request::Plan,
+        Ok(matches) => match matches.subcommand() {
+            Some((_, plan)) => Request::Plan(options_of(plan)),
+            None => Request::Unknown,
+        },
         Err(error) => {
             let request = match error.kind() {
                 ErrorKind::DisplayHelp => Request::Help,

@@ -2,6 +2,7 @@
 #![tactic(auto)]
 
 ghost use Rattle.std.specs.Prelude.{◌≡◌};
+ghost use Rattle.aliasplan.specs.Outcomes.{AreOptions};
 ghost use Rattle.aliasplan_program.specs.Statuses.{code_of, code_after};
 
 mod command_line;
@@ -9,15 +10,20 @@ mod standard_input;
 #[cfg(test)]
 mod tests;
 #[cfg(test)]
+mod tests_aliases;
+#[cfg(test)]
 mod tests_devices;
+#[cfg(test)]
+mod tests_options;
 #[cfg(test)]
 mod tests_tables;
 
-use aliasplan::{Device, Limits, Options, RunFault, run};
+use aliasplan::{Device, Limits, NoGate, Options, RunFault, run};
 use command_line::{Request, read_words};
 use standard_input::StandardInput;
 use std::process::ExitCode;
 use std::rt::Env;
+use std::thread::Threads;
 use std::{env, io};
 
 /// What the process ends with.
@@ -62,18 +68,31 @@ impl Status {
     }
 }
 
-/// How the work is divided, and how much a run takes, where the command line says nothing.
-const OPTIONS: Options = Options {
-    workers: 4,
-    cut: 1024,
+/// How much a run takes.
+const LIMITS: Limits = Limits {
+    bytes: 67_108_864,
+    names: 16_777_216,
+    owners: 65_535,
+    pairs: 16_777_216,
 };
 
-const LIMITS: Limits = Limits { bytes: 67_108_864 };
-
-fn plan<R: Input + Print + Eprint + AllocGlobal>(rt: &R) -> Status {
+fn plan<R: Input + Print + Eprint + AllocGlobal + Threads + Sync>(
+    rt: &R,
+    options: Options,
+) -> Status
+    requires { AreOptions options }
+{
     let mut reader = Device::new(StandardInput::new(rt.reader()));
     let mut writer = Device::new(io::writer(rt));
-    match run(rt.alloc(), &mut reader, &mut writer, OPTIONS, LIMITS) {
+    match run(
+        rt,
+        rt.alloc(),
+        &mut reader,
+        &mut writer,
+        options,
+        LIMITS,
+        &NoGate,
+    ) {
         Ok(summary) if summary.findings == 0 => Status::Done,
         Ok(_) => Status::Found,
         Err(fault) => {
@@ -83,13 +102,13 @@ fn plan<R: Input + Print + Eprint + AllocGlobal>(rt: &R) -> Status {
     }
 }
 
-fn answer<R: Input + Print + Eprint + Env + AllocGlobal>(rt: &R) -> Status {
+fn answer<R: Input + Print + Eprint + Env + AllocGlobal + Threads + Sync>(rt: &R) -> Status {
     let Ok(words) = env::args(rt) else {
         let _ = eprintln!(rt; "aliasplan: {}", RunFault::Memory);
         return Status::OutOfMemory;
     };
     match read_words(rt, words) {
-        Request::Plan => plan(rt),
+        Request::Plan(options) => plan(rt, options),
         Request::Help => Status::Done,
         Request::Unknown => Status::CommandLine,
         Request::Memory => {

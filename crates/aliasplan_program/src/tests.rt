@@ -1,12 +1,19 @@
 //! Jobs through `run`, by example.
-ghost use Rattle.std.specs.Prelude.{◌≤◌};
+ghost use Rattle.aliasplan.specs.Outcomes.{AreOptions, AreLimits};
 
+use crate::LIMITS;
 use crate::tests_devices::{Endless, Full, Paper, Pieces};
-use crate::{LIMITS, OPTIONS};
-use aliasplan::{Device, Limits, RunFault, Summary, run};
+use aliasplan::{Device, Form, Limits, NoGate, Options, RunFault, Summary, run};
 use std::alloc::Global;
 use std::process::Abort;
 use std::test::Fail;
+use std::thread::Threads;
+
+const OPTIONS: Options = Options {
+    form: Form::Plan,
+    workers: 2,
+    cut: 2,
+};
 
 const SETTINGS: &[u8] =
     b"%settings\nmyhostname = relay.example.org\nmyorigin = example.org\nmydestination = example.org, localhost\nrecipient_delimiter = +\ndefault_destination_recipient_limit = 50\nmailbox_transport = lmtp:unix:mbox\nseed = 0\n";
@@ -18,60 +25,106 @@ const FIRST_PLAN: &[u8] =
     b"plan 1 transactions 1 recipients 0 findings\ntransaction 1\nfrom <a@example.net>\nvia lmtp unix:mbox\nhost unix:mbox\nto <joe@example.org>\nend\n";
 
 /// A job of the worked settings and these lines.
-fn job_of(alloc: Global, lines: &[u8]) -> Result<Vec<u8>, Fail> {
+pub fn job_of(alloc: Global, lines: &[u8]) -> Result<Vec<u8>, Fail> {
     let mut job = Vec::from_slice(alloc, SETTINGS)?;
     job.extend_from_slice(lines)?;
     Ok(job)
 }
 
 /// What a run answers, and what it wrote.
-fn planned(
-    alloc: Global,
+fn planned<R: AllocGlobal + Threads + Sync>(
+    rt: &R,
     job: &[u8],
     piece: usize,
     good_reads: usize,
     limits: Limits,
     room: usize,
 ) -> (Result<Summary, RunFault>, Vec<u8>)
-    requires { limits.bytes ≤ 67108864 }
+    requires { AreLimits limits }
 {
     let mut reader = Pieces::new(job, piece, good_reads);
     let mut writer = Paper {
-        text: Vec::new(alloc),
+        text: Vec::new(rt.alloc()),
         room,
         failed: false,
     };
-    let answer = run(alloc, &mut reader, &mut writer, OPTIONS, limits);
+    let answer = run(
+        rt,
+        rt.alloc(),
+        &mut reader,
+        &mut writer,
+        OPTIONS,
+        limits,
+        &NoGate,
+    );
     let Paper { text, .. } = writer;
     (answer, text)
 }
 
 /// A job that is planned whole.
-pub fn expect_plan(rt: &(impl Abort + AllocGlobal), job: &[u8], plan: &[u8]) {
-    let (answer, text) = planned(rt.alloc(), job, usize::MAX, usize::MAX, LIMITS, usize::MAX);
+pub fn expect_plan(rt: &(impl Abort + AllocGlobal + Threads + Sync), job: &[u8], plan: &[u8]) {
+    let (answer, text) = planned(rt, job, usize::MAX, usize::MAX, LIMITS, usize::MAX);
     assert!(rt; answer.is_ok(), "{answer:?}");
     assert_eq!(rt; text.as_slice(), plan);
 }
 
-/// A job that is refused, and nothing is written.
-fn expect_fault(rt: &(impl Abort + AllocGlobal), job: &[u8], limits: Limits, fault: RunFault)
-    requires { limits.bytes ≤ 67108864 }
+/// What a run with these options answers, and what it wrote.
+pub fn planned_by<R: AllocGlobal + Threads + Sync>(
+    rt: &R,
+    job: &[u8],
+    options: Options,
+    limits: Limits,
+) -> (Result<Summary, RunFault>, Vec<u8>)
+    requires options { AreOptions options }
+    requires limits { AreLimits limits }
 {
-    let (answer, text) = planned(rt.alloc(), job, usize::MAX, usize::MAX, limits, usize::MAX);
+    let mut reader = Pieces::new(job, usize::MAX, usize::MAX);
+    let mut writer = Paper {
+        text: Vec::new(rt.alloc()),
+        room: usize::MAX,
+        failed: false,
+    };
+    let answer = run(
+        rt,
+        rt.alloc(),
+        &mut reader,
+        &mut writer,
+        options,
+        limits,
+        &NoGate,
+    );
+    let Paper { text, .. } = writer;
+    (answer, text)
+}
+
+/// A job of the worked settings and these lines that is planned whole.
+pub fn expect_plan_of(
+    rt: &(impl Abort + AllocGlobal + Threads + Sync),
+    lines: &[u8],
+    plan: &[u8],
+) -> Result<(), Fail> {
+    let job = job_of(rt.alloc(), lines)?;
+    expect_plan(rt, job.as_slice(), plan);
+    Ok(())
+}
+
+/// A job that is refused, and nothing is written.
+fn expect_fault(
+    rt: &(impl Abort + AllocGlobal + Threads + Sync),
+    job: &[u8],
+    limits: Limits,
+    fault: RunFault,
+)
+    requires { AreLimits limits }
+{
+    let (answer, text) = planned(rt, job, usize::MAX, usize::MAX, limits, usize::MAX);
     assert_eq!(rt; answer, Err(fault));
     assert!(rt; text.is_empty());
 }
 
 #[test]
 fn plans_the_first_job(rt: HostRuntime) {
-    let (answer, text) = planned(
-        rt.alloc(),
-        FIRST_JOB,
-        usize::MAX,
-        usize::MAX,
-        LIMITS,
-        usize::MAX,
-    );
+    let (answer, text) = planned(&rt, FIRST_JOB, usize::MAX, usize::MAX, LIMITS, usize::MAX);
     let summary = Summary {
         transactions: 1,
         recipients: 1,
@@ -156,7 +209,7 @@ fn job_to_letters(alloc: Global, letters: usize) -> Result<Vec<u8>, Fail> {
 fn takes_local_parts_of_sixty_four_octets(rt: HostRuntime) -> Result<(), Fail> {
     let job = job_to_letters(rt.alloc(), 64)?;
     let (answer, _) = planned(
-        rt.alloc(),
+        &rt,
         job.as_slice(),
         usize::MAX,
         usize::MAX,
@@ -177,7 +230,7 @@ fn takes_local_parts_of_sixty_four_octets(rt: HostRuntime) -> Result<(), Fail> {
 #[test]
 fn reads_in_any_pieces(rt: HostRuntime) {
     for piece in [1usize, 2, 7, 100] {
-        let (answer, text) = planned(rt.alloc(), FIRST_JOB, piece, usize::MAX, LIMITS, usize::MAX);
+        let (answer, text) = planned(&rt, FIRST_JOB, piece, usize::MAX, LIMITS, usize::MAX);
         assert!(rt; answer.is_ok(), "{answer:?}");
         assert_eq!(rt; text.as_slice(), FIRST_PLAN);
     }
@@ -186,7 +239,7 @@ fn reads_in_any_pieces(rt: HostRuntime) {
 #[test]
 fn answers_a_failed_read(rt: HostRuntime) {
     for good_reads in 0..FIRST_JOB.len() + 1 {
-        let (answer, text) = planned(rt.alloc(), FIRST_JOB, 1, good_reads, LIMITS, usize::MAX);
+        let (answer, text) = planned(&rt, FIRST_JOB, 1, good_reads, LIMITS, usize::MAX);
         assert_eq!(rt; answer, Err(RunFault::Read), "after {good_reads} reads");
         assert!(rt; text.is_empty());
     }
@@ -196,18 +249,13 @@ fn answers_a_failed_read(rt: HostRuntime) {
 fn stops_reading_past_the_limit(rt: HostRuntime) {
     let whole = Limits {
         bytes: FIRST_JOB.len(),
+        ..LIMITS
     };
-    let (answer, _) = planned(
-        rt.alloc(),
-        FIRST_JOB,
-        usize::MAX,
-        usize::MAX,
-        whole,
-        usize::MAX,
-    );
+    let (answer, _) = planned(&rt, FIRST_JOB, usize::MAX, usize::MAX, whole, usize::MAX);
     assert!(rt; answer.is_ok(), "{answer:?}");
     let less = Limits {
         bytes: FIRST_JOB.len() - 1,
+        ..LIMITS
     };
     expect_fault(&rt, FIRST_JOB, less, RunFault::TooLong);
     let mut reader = Endless {
@@ -220,11 +268,16 @@ fn stops_reading_past_the_limit(rt: HostRuntime) {
         failed: false,
     };
     let answer = run(
+        &rt,
         rt.alloc(),
         &mut reader,
         &mut writer,
         OPTIONS,
-        Limits { bytes: 1000 },
+        Limits {
+            bytes: 1000,
+            ..LIMITS
+        },
+        &NoGate,
     );
     assert_eq!(rt; answer, Err(RunFault::TooLong));
     assert_eq!(rt; reader.reads, 1001);
@@ -234,7 +287,7 @@ fn stops_reading_past_the_limit(rt: HostRuntime) {
 #[test]
 fn leaves_a_front_where_a_write_fails(rt: HostRuntime) {
     for room in 0..FIRST_PLAN.len() {
-        let (answer, text) = planned(rt.alloc(), FIRST_JOB, usize::MAX, usize::MAX, LIMITS, room);
+        let (answer, text) = planned(&rt, FIRST_JOB, usize::MAX, usize::MAX, LIMITS, room);
         assert_eq!(rt; answer, Err(RunFault::Write), "at {room} bytes");
         assert_eq!(rt; text.as_slice(), &FIRST_PLAN[..room]);
     }
@@ -244,6 +297,14 @@ fn leaves_a_front_where_a_write_fails(rt: HostRuntime) {
 fn answers_a_writer_that_takes_nothing(rt: HostRuntime) {
     let mut reader = Pieces::new(FIRST_JOB, usize::MAX, usize::MAX);
     let mut writer = Device::new(Full);
-    let answer = run(rt.alloc(), &mut reader, &mut writer, OPTIONS, LIMITS);
+    let answer = run(
+        &rt,
+        rt.alloc(),
+        &mut reader,
+        &mut writer,
+        OPTIONS,
+        LIMITS,
+        &NoGate,
+    );
     assert_eq!(rt; answer, Err(RunFault::Write));
 }

@@ -8,3 +8,4 @@ pub mod ItemLists
 pub mod NamePlaces
 pub mod AliasLines
 pub mod IncludePaths
+pub mod FileSizes

@@ -3,6 +3,7 @@
 
 mod alias_table;
 pub mod aliases;
+pub mod counts;
 mod distinct;
 pub mod entry;
 pub mod fault;
@@ -29,6 +30,7 @@ mod tests_mailboxes;
 mod tests_shown;
 
 pub use aliases::{AliasFile, include_names, parse_aliases};
+pub use counts::file_counts;
 pub use entry::Entry;
 pub use fault::{FaultKind, LineFault};
 pub use includes::{IncludeFile, include_names_of, parse_include};

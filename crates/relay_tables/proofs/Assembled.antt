@@ -6,7 +6,7 @@ use Rattle.std.proofs.lemmas.Bool.{cases_lt, cond-true, cond-false, lt-ltb, le-l
 use Rattle.std.proofs.lemmas.List.{append-nil, append_assoc, map-append, length-map, length-append, get_or-map, get_or_append_left}
 use Rattle.std.proofs.lemmas.List.Concat.{flat_map-append}
 use Rattle.std.proofs.lemmas.List.Elements.{All-nil, All-cons, All-append, filter-append}
-use Rattle.std.proofs.lemmas.List.FromFn.{get_or-map-range_with_len}
+use Rattle.std.proofs.lemmas.List.FromFn.{length-range_with_len, get_or-map-range_with_len}
 use Rattle.std.proofs.lemmas.Option.{same_Some, slice_get_past, slice_get_within, slice_get-get_or, get_or_from_slice_get, unwrap_or-slice_get}
 use Rattle.relay_text.specs.AddressParts.{AddressParts}
 use Rattle.relay_aliasfile.specs.declared.entry.Entry.{Entry}
@@ -135,6 +135,16 @@ module _ (d : Directory) where
         let b = behind in
         let long : length nodes ≡ length (entry_nodes d ++ b.0) = ap length b.1 in
         omega (arith, length-append (entry_nodes d) b.0)
+
+    pub aliases_within : length d.aliases ≤ length nodes
+    aliases_within =
+        omega (
+          arith,
+          entries_within,
+          length-append (map Alias (range_with_len 0 (length d.aliases))) (map Include (range_with_len 0 (length d.includes))),
+          length-map (range_with_len 0 (length d.aliases)) Alias,
+          length-range_with_len 0 (length d.aliases),
+        )
 
     entry_at : (k : ℕ) (n : Node) → k < length (entry_nodes d) → get_or (entry_nodes d) k n ≡ n → slice_get nodes k ≡ Some n
     entry_at k n below is =

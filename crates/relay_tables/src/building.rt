@@ -59,6 +59,7 @@ pub(crate) fn number_all(
     requires { names ≤ 2 ^ 24 }
     ensures rows { IfOk result (λ rows. AreRows tables.now recipients.now rows.nodes.items rows.children rows.roots.items) }
     ensures within { OnOk result (length (nodes_of tables.now recipients.now) ≤ names) }
+    ensures few { IfOk result (λ rows. length rows.nodes.items ≤ names) }
     ensures full { result ≡ Err TableFault.TooManyNames → names < length (nodes_of tables.now recipients.now) }
     ensures owners { result ≡ Err TableFault.TooManyOwners → ⊥ }
 {

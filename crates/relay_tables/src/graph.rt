@@ -56,6 +56,8 @@ impl Graph {
         requires names { names ≤ 2 ^ 24 }
         requires owners { owners ≤ 2 ^ 24 }
         ensures graph { IfOk result (IsGraphOf tables.now (option_map (λ a. a.now) sender.entry) recipients.now) }
+        ensures nodes { IfOk result (λ graph. length graph.nodes ≤ names) }
+        ensures senders { IfOk result (λ graph. length graph.senders ≤ names + 1) }
         ensures refusal { Refuses result (refusal_of tables.now recipients.now names owners) }
     {
         let rows = number_all(alloc, tables, recipients, names)?;

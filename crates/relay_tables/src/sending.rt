@@ -1,5 +1,5 @@
 //! Senders by their numbers.
-ghost use Rattle.std.specs.Prelude.{◌≡◌, ◌≢◌, ◌⊎◌, AllPairs, ◌<◌, ◌≤◌, ◌-◌, ◌^◌, ◌∷◌, ◌++◌, [], is_some, length, slice_get, Some, IfOk, OnOk, option_map};
+ghost use Rattle.std.specs.Prelude.{◌≡◌, ◌≢◌, ◌⊎◌, AllPairs, ◌<◌, ◌≤◌, ◌+◌, ◌-◌, ◌^◌, ◌∷◌, ◌++◌, [], is_some, length, slice_get, Some, IfOk, OnOk, option_map};
 ghost use Rattle.relay_tables.specs.Senders.{Sender, owner_entry};
 ghost use Rattle.relay_tables.specs.Graphs.{owner_count};
 ghost use Rattle.relay_tables.specs.Sending.{sender_key, IsOwnedBy, AreOwned, MayAdd, MayAddOwner};
@@ -141,7 +141,8 @@ pub(crate) fn number_owners(
     senders: &mut SenderList,
 ) -> Result<Vec<Option<u32>>, AllocError>
     requires { length senders.old ≡ 1 }
-    ensures { IfOk result (λ owners. (sender : Sender) → senders.old ≡ sender ∷ [] → AreOwned tables.now sender (length tables.now.aliases) senders.new owners.items) }
+    ensures few { OnOk result (length senders.new ≤ length tables.now.aliases + 1) }
+    ensures owned { IfOk result (λ owners. (sender : Sender) → senders.old ≡ sender ∷ [] → AreOwned tables.now sender (length tables.now.aliases) senders.new owners.items) }
 {
     let mut owners = Vec::new(alloc);
     for alias in 0..tables.aliases().len() {

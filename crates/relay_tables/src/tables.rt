@@ -142,16 +142,16 @@ impl Tables {
         self.at_origin(alloc, entry.name.as_bytes())
     }
 
-    // The entries of the alias table.
-    pub(crate) fn aliases(&self) -> &[Entry]
+    /// The entries of the alias table, by their numbers.
+    pub fn aliases(&self) -> &[Entry]
         ensures entries { result.now ≡ self.now.aliases }
         ensures lawful { IsLawful self.now }
     {
         self.aliases.as_slice()
     }
 
-    // The include files.
-    pub(crate) fn includes(&self) -> &[IncludeEntry]
+    /// The include files, by their numbers.
+    pub fn includes(&self) -> &[IncludeEntry]
         ensures entries { result.now ≡ self.now.includes }
         ensures lawful { IsLawful self.now }
     {

@@ -15,3 +15,4 @@ pub mod Splits
 pub mod Numbers
 pub mod TextSets
 pub mod Firsts
+pub mod Sizes

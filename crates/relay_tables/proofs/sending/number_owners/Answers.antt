@@ -20,8 +20,8 @@ loop-alias-preserved c =
       owned = λ sender is. rw c.in_ok-push.ensures.items (owned_more d sender l.alias l.senders new l.owners.items c.in_ok-owner.owner (l.invariant.owned sender is) added c.in_ok-owner.ensures.owned);
     }
 
-pub returns : goal.returns
-returns c =
+pub returns-clause-owned : goal.returns-clause-owned
+returns-clause-owned c =
     let l = c.loop-alias in
     let d = c.args.tables.now in
     λ sender is.

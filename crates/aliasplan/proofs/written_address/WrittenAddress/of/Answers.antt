@@ -9,5 +9,5 @@ invariant_of-result c =
       front_of_path = c.front_number.ensures.value ∙ ap (λ path. front_number 8 (drop 1 path)) c.as_slice.ensures.value;
       path_of_address = search rules;
       bytes = subst P c.as_slice.ensures.value c.front_number.ensures.bytes;
-      valid = c.local.ensures.valid;
+      valid = c.in_ok-path.ensures.valid;
     }

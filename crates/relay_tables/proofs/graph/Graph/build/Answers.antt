@@ -6,7 +6,7 @@ use Rattle.relay_tables.specs.declared.fault.TableFault.{TableFault}
 use Rattle.relay_tables.specs.GraphParts.{GraphParts}
 use Rattle.relay_tables.specs.Targets.{targets_of}
 use Rattle.relay_tables.specs.Graphs.{entry_nodes}
-use Rattle.relay_tables.proofs.Assembled.{rows_below, rows_count, entries_within, graph_is, too_many_owners, not_refused, refused_by}
+use Rattle.relay_tables.proofs.Assembled.{rows_below, rows_count, aliases_within, entries_within, graph_is, too_many_owners, not_refused, refused_by}
 use Rattle.relay_tables.proofs.graph.Graph.build.Goals as goal
 
 pub transposed-requires-clause-numbers : goal.transposed-requires-clause-numbers
@@ -53,8 +53,15 @@ returns-clause-graph c =
     let rs = c.args.recipients.now in
     rw c.into_vec.ensures.senders
     (graph_is d rs r.nodes.items r.children r.roots.items c.in_ok-rows.ensures.rows _ c.number_owners.new.senders c.in_ok-numbers.numbers.items
-    (c.in_ok-numbers.ensures _ c.in_ok-senders.ensures) c.into_vec.ensures.distinct)
+    (c.in_ok-numbers.ensures.owned _ c.in_ok-senders.ensures) c.into_vec.ensures.distinct)
 
 pub returns-clause-refusal : goal.returns-clause-refusal
 returns-clause-refusal c =
     not_refused c.args.tables.now c.args.recipients.now c.args.names c.args.owners c.in_ok-rows.ensures.within (omega (arith, c.count_owners-owned.ensures, c.if-owned-owners.false))
+
+pub returns-clause-senders : goal.returns-clause-senders
+returns-clause-senders c =
+    let r = c.in_ok-rows.rows in
+    let d = c.args.tables.now in
+    let within = aliases_within d c.args.recipients.now r.nodes.items r.children r.roots.items c.in_ok-rows.ensures.rows in
+    omega (arith, within, c.in_ok-rows.ensures.few, c.in_ok-numbers.ensures.few, ap length c.into_vec.ensures.senders)

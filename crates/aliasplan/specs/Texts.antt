@@ -1,0 +1,50 @@
+-- The lines of a job's files and tables that are at fault.
+use Rattle.std.specs.Prelude.{ℕ, Bool, ◌||◌, List}
+use Rattle.std.specs.List.{list_any}
+use Rattle.std.specs.Str.{bytes_eq}
+use Rattle.relay_aliasfile.specs.AliasFiles.{alias_file_of}
+use Rattle.relay_aliasfile.specs.IncludeFiles.{include_file_of}
+use Rattle.relay_aliasfile.specs.MailboxFiles.{mailbox_file_of}
+use Rattle.relay_aliasfile.specs.declared.fault.LineFault.{LineFault}
+use Rattle.relay_routes.specs.declared.fault.LineFault.{LineFault as TableLineFault}
+use Rattle.relay_routes.specs.Transports.{transport_table_of}
+use Rattle.relay_routes.specs.Exchanges.{mx_table_of}
+use Rattle.relay_wire.specs.declared.finding.Finding.{Finding}
+use Rattle.relay_wire.specs.declared.finding.Finding.TheVariants as findings
+use Rattle.relay_wire.specs.Findings.{finding_text_of}
+use Rattle.relay_job.specs.declared.job.Job.{Job}
+use Rattle.relay_job.specs.declared.job.JobInclude.{JobInclude}
+use Rattle.aliasplan.specs.declared.source.Source.{Source}
+use Rattle.aliasplan.specs.declared.source.Source.TheVariants.{Aliases, Include, Mailboxes}
+use Rattle.aliasplan.specs.declared.table.Table.TheVariants as tables
+use Rattle.aliasplan.specs.Report.{word_of}
+use Rattle.aliasplan.specs.Lanes.{table_line}
+
+abbrev pub source_finding : Source → LineFault → Finding
+source_finding Aliases fault = findings.Aliases fault.line (word_of fault.kind)
+source_finding (Include path) fault = findings.Include path.now fault.line (word_of fault.kind)
+source_finding Mailboxes fault = findings.Mailboxes fault.line (word_of fault.kind)
+
+abbrev pub source_line : Source → LineFault → List ℕ
+source_line source fault = finding_text_of (source_finding source fault)
+
+-- one of an include file's lines at fault
+abbrev pub include_line : List ℕ → LineFault → List ℕ
+include_line path fault = finding_text_of (findings.Include path fault.line (word_of fault.kind))
+
+abbrev pub has_include_line : List ℕ → JobInclude → Bool
+has_include_line q i = list_any (λ fault. bytes_eq q (include_line i.path fault)) (include_file_of i.bytes).faults
+
+-- one of the lines at fault of an alias file, a mailbox file, a transport table or a table of exchangers
+abbrev pub is_table_line : List LineFault → List LineFault → List TableLineFault → List TableLineFault → List ℕ → Bool
+is_table_line aliases mailboxes transports exchanges q =
+    list_any (λ fault. bytes_eq q (source_line Aliases fault)) aliases
+    || (list_any (λ fault. bytes_eq q (source_line Mailboxes fault)) mailboxes
+    || (list_any (λ fault. bytes_eq q (table_line tables.Transport fault)) transports
+    || list_any (λ fault. bytes_eq q (table_line tables.Mx fault)) exchanges))
+
+-- one of a job's lines at fault
+abbrev pub has_fault_line : Job → List ℕ → Bool
+has_fault_line job q =
+    is_table_line (alias_file_of job.aliases).faults (mailbox_file_of job.mailboxes).faults (transport_table_of job.transport).faults (mx_table_of job.mx).faults q
+    || list_any (has_include_line q) job.includes

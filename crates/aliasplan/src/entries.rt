@@ -1,0 +1,179 @@
+//! The lines of what entries and recipients lead to and shouldn't.
+ghost use Rattle.std.specs.Prelude.{◌≡◌, ◌⊎◌, ◌↔◌, ◌<◌, ℕ, List, length, All, IsTrue, OnOk};
+ghost use Rattle.relay_text.specs.Bytes.{has_text};
+ghost use Rattle.relay_tables.specs.Graphs.{child_numbers};
+ghost use Rattle.relay_loops.specs.Loops.{AreLoopsOf};
+ghost use Rattle.aliasplan.specs.Delivery.{directory_of, IsJobGraph};
+ghost use Rattle.aliasplan.specs.Reaching.{AreReachedNodes};
+ghost use Rattle.aliasplan.specs.Report.{IsLineOf};
+ghost use Rattle.aliasplan.specs.Report.{entries};
+ghost use Rattle.aliasplan.specs.Listing.{place_at};
+ghost use Rattle.aliasplan.specs.Entries.{LeadsWithin, IsLineIn, HaveLine, IsTargetLine, IsListLine, IsNodeLine, IsLoopLine};
+
+use crate::findings::report;
+use crate::listing::Listing;
+use relay_job::Job;
+use relay_tables::{Graph, Tables};
+use relay_text::TextSet;
+use relay_wire::Finding;
+use std::alloc::{AllocError, Global};
+
+/// Adds the line of a finding, if there is one.
+fn report_any(
+    alloc: Global,
+    finding: Option<Finding>,
+    lines: &mut TextSet,
+) -> Result<(), AllocError>
+    ensures { OnOk result ((q : List ℕ) → IsTrue (has_text lines.new q) ↔ (IsTrue (has_text lines.old q) ⊎ IsLineIn finding q)) }
+{
+    match finding {
+        Some(finding) => report(alloc, &finding, lines),
+        None => Ok(()),
+    }
+}
+
+/// Adds the line of one target of a listing.
+fn report_target(
+    alloc: Global,
+    graph: &Graph,
+    listing: Listing,
+    target: u32,
+    lines: &mut TextSet,
+) -> Result<(), AllocError>
+    requires { target < length graph.now.nodes }
+    ensures { OnOk result ((q : List ℕ) → IsTrue (has_text lines.new q) ↔ (IsTrue (has_text lines.old q) ⊎ IsTargetLine graph.now (place_at listing.entry) target q)) }
+{
+    let finding = listing.target(alloc, graph.node(target))?;
+    report_any(alloc, finding, lines)
+}
+
+/// Adds the lines of the targets of a listing.
+fn report_targets(
+    alloc: Global,
+    graph: &Graph,
+    listing: Listing,
+    targets: &[u32],
+    lines: &mut TextSet,
+) -> Result<(), AllocError>
+    requires { All (λ n. n < length graph.now.nodes) targets.now }
+    ensures { OnOk result ((q : List ℕ) → IsTrue (has_text lines.new q) ↔ (IsTrue (has_text lines.old q) ⊎ HaveLine (IsTargetLine graph.now (place_at listing.entry)) targets.now q)) }
+{
+    for target in targets {
+        report_target(alloc, graph, listing, *target, lines)?;
+    }
+    Ok(())
+}
+
+/// Adds the lines of an entry or include file with these targets.
+fn report_list(
+    alloc: Global,
+    graph: &Graph,
+    listing: Listing,
+    targets: &[u32],
+    lines: &mut TextSet,
+) -> Result<(), AllocError>
+    requires { All (λ n. n < length graph.now.nodes) targets.now }
+    ensures { OnOk result ((q : List ℕ) → IsTrue (has_text lines.new q) ↔ (IsTrue (has_text lines.old q) ⊎ IsListLine graph.now (place_at listing.entry) targets.now q)) }
+{
+    if targets.is_empty() {
+        let finding = listing.empty(alloc)?;
+        return report_any(alloc, finding, lines);
+    }
+    report_targets(alloc, graph, listing, targets, lines)
+}
+
+/// Adds the lines of a node's targets.
+fn report_node(
+    alloc: Global,
+    tables: &Tables,
+    graph: &Graph,
+    node: u32,
+    lines: &mut TextSet,
+) -> Result<(), AllocError>
+    requires node { node < length graph.now.nodes }
+    requires children { All (λ c. c < length graph.now.nodes) (child_numbers graph.now node) }
+    ensures { OnOk result ((q : List ℕ) → IsTrue (has_text lines.new q) ↔ (IsTrue (has_text lines.old q) ⊎ IsNodeLine graph.now tables.now node q)) }
+{
+    match Listing::of(tables, graph.node(node)) {
+        Some(listing) => report_list(alloc, graph, listing, graph.children(node), lines),
+        None => Ok(()),
+    }
+}
+
+/// Adds the lines of the targets of nodes.
+fn report_nodes(
+    alloc: Global,
+    tables: &Tables,
+    graph: &Graph,
+    nodes: &[u32],
+    lines: &mut TextSet,
+) -> Result<(), AllocError>
+    requires graph { LeadsWithin graph.now }
+    requires nodes { All (λ n. n < length graph.now.nodes) nodes.now }
+    ensures { OnOk result ((q : List ℕ) → IsTrue (has_text lines.new q) ↔ (IsTrue (has_text lines.old q) ⊎ HaveLine (IsNodeLine graph.now tables.now) nodes.now q)) }
+{
+    for node in nodes {
+        report_node(alloc, tables, graph, *node, lines)?;
+    }
+    Ok(())
+}
+
+/// Adds the line of a node that is on a loop.
+fn report_loop(
+    alloc: Global,
+    tables: &Tables,
+    graph: &Graph,
+    node: u32,
+    lines: &mut TextSet,
+) -> Result<(), AllocError>
+    requires { node < length graph.now.nodes }
+    ensures { OnOk result ((q : List ℕ) → IsTrue (has_text lines.new q) ↔ (IsTrue (has_text lines.old q) ⊎ IsLoopLine graph.now tables.now node q)) }
+{
+    match Listing::of(tables, graph.node(node)) {
+        Some(listing) => {
+            let finding = listing.looped(alloc)?;
+            report_any(alloc, finding, lines)
+        }
+        None => Ok(()),
+    }
+}
+
+/// Adds the lines of the nodes that are on a loop.
+fn report_loops(
+    alloc: Global,
+    tables: &Tables,
+    graph: &Graph,
+    loops: &[u32],
+    lines: &mut TextSet,
+) -> Result<(), AllocError>
+    requires { All (λ n. n < length graph.now.nodes) loops.now }
+    ensures { OnOk result ((q : List ℕ) → IsTrue (has_text lines.new q) ↔ (IsTrue (has_text lines.old q) ⊎ HaveLine (IsLoopLine graph.now tables.now) loops.now q)) }
+{
+    for node in loops {
+        report_loop(alloc, tables, graph, *node, lines)?;
+    }
+    Ok(())
+}
+
+/// Adds a line for each missing name, missing include file, file and command that a reached entry or a recipient leads to, for each
+/// reached entry without items, and for each that is on a loop (aliases(5); RFC 5321 section 3.9).
+pub fn report_entries(
+    alloc: Global,
+    job: &Job,
+    tables: &Tables,
+    graph: &Graph,
+    nodes: &[u32],
+    loops: &[u32],
+    lines: &mut TextSet,
+) -> Result<(), AllocError>
+    requires tables { tables.now ≡ directory_of job.now }
+    requires graph { IsJobGraph job.now graph.now }
+    requires nodes { AreReachedNodes job.now graph.now nodes.now }
+    requires loops { AreLoopsOf graph.now nodes.now loops.now }
+    ensures { OnOk result ((q : List ℕ) → IsTrue (has_text lines.new q) ↔ (IsTrue (has_text lines.old q) ⊎ IsLineOf job.now entries q)) }
+{
+    let _ = job;
+    report_targets(alloc, graph, Listing::Envelope, graph.roots(), lines)?;
+    report_nodes(alloc, tables, graph, nodes, lines)?;
+    report_loops(alloc, tables, graph, loops, lines)
+}

@@ -1,0 +1,126 @@
+-- How the envelope follows from a pass over its commands.
+use Rattle.std.proofs.Common.{◌≡◌, ℕ, ◌+◌, ◌<◌, ◌≤◌, true, false, cond, ltb, List, [], ◌∷◌, ◌++◌, length, take, drop, Option, Some, None, Result, Ok, Err, refl, sym, ap, ◌∙◌, arith}
+use Rattle.std.specs.List.{list_all, slice_get}
+use Rattle.std.specs.Option.{option_map, is_none}
+use Rattle.std.proofs.lemmas.List.{length-append, length-take, length-map, append_assoc, append-nil, nil_from_length}
+use Rattle.std.proofs.lemmas.Slice.Eq.{bytes_eq-Decides}
+use Rattle.std.proofs.lemmas.Bool.{le-ltb}
+use Rattle.relay_text.specs.Bytes.{is_white, folded, trimmed_end, begins_with_word, each_after, first_of}
+use Rattle.relay_text.specs.AddressParts.{AddressParts}
+use Rattle.relay_text.specs.Addresses.{path_of, Fails}
+use Rattle.relay_text.specs.declared.fault.TextFault.{TextFault}
+use Rattle.relay_text.specs.declared.fault.TextFault.TheVariants as texts
+use Rattle.relay_text.specs.declared.lines.Line.{Line}
+use Rattle.relay_job.specs.declared.fault.RunFault.{RunFault}
+use Rattle.relay_job.specs.declared.fault.RunFault.TheVariants.{Read, TooLong, BadJob, BadSetting, BadEnvelope, TooManyNames, TooManyOwners, TooManyPairs, Write, Memory}
+use Rattle.relay_job.specs.JobText.{command_path, sender_in, recipient_in, breaks_envelope}
+use Rattle.relay_job.specs.JobParts.{commands_of, recipients_of, bad_recipients, first_bad_command, sender_of, Stops}
+
+-- A line that begins with a word is at least as long.
+pub begins_with_word-length : (word line : List ℕ) → begins_with_word word line ≡ true → length word ≤ length line
+begins_with_word-length word line h =
+    let same : folded (take (length word) line) ≡ word = (bytes_eq-Decides _ _).0 h in
+    let long : length (take (length word) line) ≡ length word = sym (length-map (take (length word) line) _) ∙ ap length same in
+    omega (arith, length-take (length word) line, long)
+
+-- The path of a command.
+pub command_path-other : (word origin line : List ℕ) → begins_with_word word line ≡ false → None ≡ command_path word origin line
+command_path-other word origin line e = sym (rw e)
+
+pub command_path-path : (word origin line text : List ℕ) (path : Option AddressParts) → begins_with_word word line ≡ true → text ≡ trimmed_end (drop (length word) line) → path_of origin text ≡ Ok path → Some path ≡ command_path word origin line
+command_path-path word origin line text path e t h = let at : path_of origin (trimmed_end (drop (length word) line)) ≡ Ok path = rw t at h in sym (rw (e, at))
+
+pub command_path-fault : (word origin line text : List ℕ) (fault : TextFault) → begins_with_word word line ≡ true → text ≡ trimmed_end (drop (length word) line) → path_of origin text ≡ Err fault → None ≡ command_path word origin line
+command_path-fault word origin line text fault e t h = let at : path_of origin (trimmed_end (drop (length word) line)) ≡ Err fault = rw t at h in sym (rw (e, at))
+
+pub fault-known : {A : Type 0} (fault : TextFault) (given : Result A TextFault) → (fault ≡ texts.Memory → ⊥) → Fails fault given → given ≡ Err fault
+fault-known texts.Empty given h e = e
+fault-known texts.BadByte given h e = e
+fault-known texts.BadQuote given h e = e
+fault-known texts.BadDomain given h e = e
+fault-known texts.TooLong given h e = e
+fault-known texts.Memory given h e = absurd (h refl)
+
+-- What a pass over the recipients knows before the commands of `rest`.
+pub record RecipientsRead (origin : List ℕ) (commands rest : List Line) (recipients : List AddressParts) : Type 0 where
+  pub named : recipients ++ recipients_of origin rest ≡ recipients_of origin commands
+  pub number : length recipients + length rest ≡ length commands
+  pub unbroken : bad_recipients origin rest ≡ bad_recipients origin commands
+
+pub RecipientsRead-start : (origin : List ℕ) (commands : List Line) → RecipientsRead origin commands commands []
+RecipientsRead-start origin commands = record { named = refl; number = omega arith; unbroken = refl }
+
+pub RecipientsRead-more : (origin : List ℕ) (commands : List Line) (x : Line) (xs : List Line) (recipients : List AddressParts) (a : AddressParts) → RecipientsRead origin commands (x ∷ xs) recipients → recipient_in origin x.text ≡ Some a → RecipientsRead origin commands xs (recipients ++ a ∷ [])
+RecipientsRead-more origin commands x xs recipients a h e = record {
+  named = append_assoc recipients (a ∷ []) (recipients_of origin xs) ∙ rw e at h.named;
+  number = omega (arith, h.number, length-append recipients (a ∷ []));
+  unbroken = rw e at h.unbroken;
+}
+
+pub RecipientsRead-bad : (origin : List ℕ) (commands : List Line) (x : Line) (xs : List Line) (recipients : List AddressParts) → RecipientsRead origin commands (x ∷ xs) recipients → recipient_in origin x.text ≡ None → slice_get (bad_recipients origin commands) 0 ≡ Some x.number
+RecipientsRead-bad origin commands x xs recipients h e = ap (λ (ns : List ℕ). slice_get ns 0) (sym (rw e at h.unbroken))
+
+pub RecipientsRead-named : (origin : List ℕ) (commands rest : List Line) (recipients : List AddressParts) → RecipientsRead origin commands rest recipients → rest ≡ [] → recipients ≡ recipients_of origin commands
+RecipientsRead-named origin commands rest recipients h e = sym (append-nil recipients) ∙ rw e at h.named
+
+pub RecipientsRead-number : (origin : List ℕ) (commands rest : List Line) (recipients : List AddressParts) → RecipientsRead origin commands rest recipients → rest ≡ [] → length recipients ≡ length commands
+RecipientsRead-number origin commands rest recipients h e = omega (arith, h.number, ap length e)
+
+pub RecipientsRead-unbroken : (origin : List ℕ) (commands rest : List Line) (recipients : List AddressParts) → RecipientsRead origin commands rest recipients → rest ≡ [] → bad_recipients origin commands ≡ []
+RecipientsRead-unbroken origin commands rest recipients h e = sym (rw e at h.unbroken)
+
+-- Behind the sender each command names a recipient.
+broken_behind_sender : (origin : List ℕ) (sender : Line) (earlier rest : List Line) → each_after (λ before x. cond (breaks_envelope origin before x) (x.number ∷ []) []) (sender ∷ earlier) rest ≡ bad_recipients origin rest
+broken_behind_sender origin sender earlier [] = refl
+broken_behind_sender origin sender earlier (x ∷ xs) = ap (λ (ns : List ℕ). cond (is_none (recipient_in origin x.text)) (x.number ∷ []) [] ++ ns) (broken_behind_sender origin sender (earlier ++ x ∷ []) xs)
+
+abbrev early : ℕ → List Line → Option ℕ
+early heading commands = cond (ltb (length commands) 2) (Some heading) None
+
+first_bad-behind : (origin : List ℕ) (heading : ℕ) (x : Line) (xs : List Line) (sender : Option AddressParts) → sender_in origin x.text ≡ Some sender → first_bad_command origin heading (x ∷ xs) ≡ first_of (slice_get (bad_recipients origin xs) 0 ∷ early heading (x ∷ xs) ∷ [])
+first_bad-behind origin heading x xs sender e = rw e (ap (λ (ns : List ℕ). first_of (slice_get ns 0 ∷ early heading (x ∷ xs) ∷ [])) (broken_behind_sender origin x [] xs))
+
+pub first_bad-none : (origin : List ℕ) (heading : ℕ) (commands : List Line) → commands ≡ [] → first_bad_command origin heading commands ≡ Some heading
+first_bad-none origin heading commands e = rw e
+
+pub first_bad-sender : (origin : List ℕ) (heading : ℕ) (commands : List Line) (x : Line) (xs : List Line) → commands ≡ x ∷ xs → sender_in origin x.text ≡ None → first_bad_command origin heading commands ≡ Some x.number
+first_bad-sender origin heading commands x xs c e = rw (c, e)
+
+pub Stops-from : (o p : Option RunFault) (fault : RunFault) → ((f : RunFault) → o ≡ Some f → p ≡ Some f) → Stops o fault → Stops p fault
+Stops-from o p Read h s = h _ s
+Stops-from o p TooLong h s = h _ s
+Stops-from o p (BadJob n) h s = h _ s
+Stops-from o p (BadSetting n) h s = h _ s
+Stops-from o p (BadEnvelope n) h s = h _ s
+Stops-from o p TooManyNames h s = h _ s
+Stops-from o p TooManyOwners h s = h _ s
+Stops-from o p TooManyPairs h s = h _ s
+Stops-from o p Write h s = h _ s
+Stops-from o p Memory h s = tt
+
+pub first_bad-recipients : (origin : List ℕ) (heading : ℕ) (commands : List Line) (x : Line) (xs : List Line) (sender : Option AddressParts) (fault : RunFault) → commands ≡ x ∷ xs → sender_in origin x.text ≡ Some sender → Stops (option_map BadEnvelope (slice_get (bad_recipients origin xs) 0)) fault → Stops (option_map BadEnvelope (first_bad_command origin heading commands)) fault
+first_bad-recipients origin heading commands x xs sender fault c e h = Stops-from _ _ fault (λ f g. rw c (ap (option_map BadEnvelope) (first_bad-behind origin heading x xs sender e) ∙ at (slice_get (bad_recipients origin xs) 0) f g)) h where
+  at : (o : Option ℕ) (f : RunFault) → option_map BadEnvelope o ≡ Some f → option_map BadEnvelope (first_of (o ∷ early heading (x ∷ xs) ∷ [])) ≡ Some f
+  at None f g = cc
+  at (Some n) f g = g
+
+pub first_bad-early : (origin : List ℕ) (heading : ℕ) (commands : List Line) (x : Line) (xs : List Line) (sender : Option AddressParts) → commands ≡ x ∷ xs → sender_in origin x.text ≡ Some sender → length xs ≡ 0 → first_bad_command origin heading commands ≡ Some heading
+first_bad-early origin heading commands x xs sender c e h = let none : xs ≡ [] = nil_from_length xs h in rw (c, none, e)
+
+pub first_bad-good : (origin : List ℕ) (heading : ℕ) (commands : List Line) (x : Line) (xs : List Line) (sender : Option AddressParts) → commands ≡ x ∷ xs → sender_in origin x.text ≡ Some sender → bad_recipients origin xs ≡ [] → 0 < length xs → first_bad_command origin heading commands ≡ None
+first_bad-good origin heading commands x xs sender c e b h =
+    let enough : ltb (length (x ∷ xs)) 2 ≡ false = le-ltb (length (x ∷ xs)) 2 (omega arith) in
+    rw c (first_bad-behind origin heading x xs sender e ∙ rw (b, enough))
+
+pub sender_of-first : (origin : List ℕ) (commands : List Line) (x : Line) (xs : List Line) (sender : Option AddressParts) → commands ≡ x ∷ xs → sender_in origin x.text ≡ Some sender → sender ≡ sender_of origin commands
+sender_of-first origin commands x xs sender c e = sym (rw (c, e))
+
+pub recipients_of-rest : (origin : List ℕ) (commands : List Line) (x : Line) (xs : List Line) (recipients : List AddressParts) → commands ≡ x ∷ xs → recipients ≡ recipients_of origin xs → recipients ≡ recipients_of origin (drop 1 commands)
+recipients_of-rest origin commands x xs recipients c h = rw c h
+
+-- A line of white space alone is no command.
+pub commands_of-blank : (commands : List Line) (x : Line) (xs : List Line) → commands ≡ x ∷ xs → list_all is_white x.text ≡ true → commands_of commands ≡ commands_of xs
+commands_of-blank commands x xs c e = rw (c, e)
+
+pub commands_of-first : (commands : List Line) (x : Line) (xs : List Line) → commands ≡ x ∷ xs → list_all is_white x.text ≡ false → commands_of commands ≡ x ∷ commands_of xs
+commands_of-first commands x xs c e = rw (c, e)

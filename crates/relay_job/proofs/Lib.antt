@@ -1,0 +1,12 @@
+pub mod Faults
+pub mod DomainFacts
+pub mod EnvelopeFacts
+pub mod HeadingFacts
+pub mod JobFacts
+pub mod ParseFacts
+pub mod PathFacts
+pub mod Rows
+pub mod SectionFacts
+pub mod SettingFacts
+pub mod SizeFacts
+pub mod JobBounds

@@ -1,0 +1,21 @@
+//! The bytes of sections.
+ghost use Rattle.std.specs.Prelude.{◌≡◌, flat_map, IfOk};
+ghost use Rattle.relay_job.specs.JobText.{content_of};
+ghost use Rattle.relay_job.specs.Places.{content_at};
+
+use crate::place::Place;
+use relay_text::Text;
+use std::alloc::{AllocError, Global};
+
+/// The bytes of the section behind a place, each line as it stands for itself.
+pub fn section_bytes(alloc: Global, section: Place<'_>) -> Result<Text, AllocError>
+    ensures { IfOk result (λ bytes. bytes ≡ flat_map (λ l. content_of l.raw) (content_at section.entry)) }
+{
+    let mut bytes = Vec::new(alloc);
+    let mut place = section;
+    while let Some((line, after)) = place.split_content() {
+        place = after;
+        bytes.extend_from_slice(line.content())?;
+    }
+    Ok(Text::of(bytes))
+}

@@ -1,0 +1,117 @@
+//! The envelope of a job.
+use crate::fault::RunFault;
+use crate::place::Place;
+use crate::raw_line::RawLine;
+use relay_text::{Address, Seq, TextFault, begins_with_word, parse_path, trimmed_end};
+use std::alloc::{AllocError, Global};
+
+/// The sender, none for the null path, and the recipients of an envelope (RFC 5321 section 4.1.1).
+#[derive(Drop)]
+pub struct Envelope {
+    pub sender: Option<Address>,
+    pub recipients: Seq<Address>,
+}
+
+ghost use Rattle.std.specs.Prelude.{◌≡◌, ◌<◌, [], ◌∷◌, None, length, drop, slice_get, option_map, IsTrue, IfOk, IfErr, IfSome, IfNone};
+ghost use Rattle.relay_text.specs.Addresses.{is_origin};
+ghost use Rattle.relay_job.specs.JobText.{command_path, sender_in, recipient_in};
+ghost use Rattle.relay_job.specs.Places.{line_of};
+ghost use Rattle.relay_job.specs.JobParts.{command_of, commands_at, recipients_of, bad_recipients, first_bad_command, sender_of, Stops};
+
+/// The next line of a section that isn't of white space alone, and the place behind it.
+fn split_command<'a>(section: &Place<'a>) -> Option<(RawLine<'a>, Place<'a>)>
+    ensures none { IfNone result (commands_at section.now ≡ []) }
+    ensures lines { IfSome result (λ split. commands_at section.now ≡ command_of (line_of split.0) ∷ commands_at split.1) }
+    ensures shorter { IfSome result (λ split. length split.1.rest.now < length section.now.rest.now) }
+{
+    let mut place = *section;
+    while let Some((line, after)) = place.split_content() {
+        if !line.is_blank_content() {
+            return Some((line, after));
+        }
+        place = after;
+    }
+    None
+}
+
+/// The path of a command, whose word is given in lower case; `None` where the line isn't that command and a path.
+fn command_path(
+    alloc: Global,
+    word: &[u8],
+    origin: &[u8],
+    line: &[u8],
+) -> Result<Option<Option<Address>>, AllocError>
+    requires { IsTrue (is_origin origin.now) }
+    ensures { IfOk result (λ path. path ≡ command_path word.now origin.now line.now) }
+{
+    if !begins_with_word(word, line) {
+        return Ok(None);
+    }
+    match parse_path(alloc, trimmed_end(&line[word.len()..]), origin) {
+        Ok(path) => Ok(Some(path)),
+        Err(TextFault::Memory) => Err(AllocError),
+        Err(_) => Ok(None),
+    }
+}
+
+fn recipient(alloc: Global, origin: &[u8], line: &[u8]) -> Result<Option<Address>, AllocError>
+    requires { IsTrue (is_origin origin.now) }
+    ensures { IfOk result (λ recipient. recipient ≡ recipient_in origin.now line.now) }
+{
+    match command_path(alloc, b"rcpt to:", origin, line)? {
+        Some(path) => Ok(path),
+        None => Ok(None),
+    }
+}
+
+/// The recipients of the commands behind a place.
+fn read_recipients(
+    alloc: Global,
+    section: Place<'_>,
+    origin: &[u8],
+) -> Result<Vec<Address>, RunFault>
+    requires { IsTrue (is_origin origin.now) }
+    ensures recipients { IfOk result (λ recipients. recipients.items ≡ recipients_of origin.now (commands_at section.entry)) }
+    ensures number { IfOk result (λ recipients. length recipients.items ≡ length (commands_at section.entry)) }
+    ensures unbroken { IfOk result (λ recipients. bad_recipients origin.now (commands_at section.entry) ≡ []) }
+    ensures err { IfErr result (λ fault. Stops (option_map RunFault.BadEnvelope (slice_get (bad_recipients origin.now (commands_at section.entry)) 0)) fault) }
+{
+    let mut recipients = Vec::new(alloc);
+    let mut place = section;
+    while let Some((line, after)) = split_command(&place) {
+        place = after;
+        match recipient(alloc, origin, line.content_text())? {
+            Some(address) => recipients.push(address)?,
+            None => return Err(RunFault::BadEnvelope(line.number)),
+        }
+    }
+    Ok(recipients)
+}
+
+impl Envelope {
+    /// The envelope behind a heading. BadEnvelope has the first line that isn't `MAIL FROM:` and a path, or after it `RCPT TO:` and
+    /// an address's path; where there are fewer than two lines, the heading's line.
+    pub fn read(alloc: Global, section: Place<'_>, origin: &[u8]) -> Result<Envelope, RunFault>
+        requires { IsTrue (is_origin origin.now) }
+        ensures sender { IfOk result (λ envelope. envelope.sender ≡ sender_of origin.now (commands_at section.entry)) }
+        ensures recipients { IfOk result (λ envelope. envelope.recipients ≡ recipients_of origin.now (drop 1 (commands_at section.entry))) }
+        ensures unbroken { IfOk result (λ envelope. first_bad_command origin.now section.entry.line (commands_at section.entry) ≡ None) }
+        ensures err { IfErr result (λ fault. Stops (option_map RunFault.BadEnvelope (first_bad_command origin.now section.entry.line (commands_at section.entry))) fault) }
+    {
+        let Some((line, after)) = split_command(&section) else {
+            return Err(RunFault::BadEnvelope(section.line));
+        };
+        let path = command_path(alloc, b"mail from:", origin, line.content_text())?;
+        let Some(sender) = path else {
+            return Err(RunFault::BadEnvelope(line.number));
+        };
+        let recipients = read_recipients(alloc, after, origin)?;
+        if recipients.is_empty() {
+            return Err(RunFault::BadEnvelope(section.line));
+        }
+        Ok(Envelope {
+            sender,
+            recipients: Seq::of(recipients),
+        })
+    }
+}

@@ -1,0 +1,50 @@
+//! What a job's text says.
+ghost use Rattle.std.specs.Prelude.{◌≡◌};
+ghost use Rattle.relay_job.specs.JobText.{job_of};
+ghost use Rattle.relay_job.specs.JobAnswers.{Answers};
+
+use crate::content::section_bytes;
+use crate::envelope::Envelope;
+use crate::fault::RunFault;
+use crate::include_place::read_includes;
+use crate::job::Job;
+use crate::parts::Parts;
+use crate::section::Section;
+use crate::values::Values;
+use std::alloc::Global;
+
+/// The job that a text is: its settings, the bytes of its mailboxes and tables, and the envelope.
+///
+/// The first of these faults comes: BadJob at the first line that is no heading of a section, or one of an earlier section, or that
+/// stands before the first heading and isn't of white space alone; BadSetting at the first bad line of the settings; BadEnvelope at
+/// the first bad line of the envelope, at its heading where it ends too early, at 0 where the job has none. Memory comes where a
+/// growth was refused.
+pub fn parse_job(alloc: Global, bytes: &[u8]) -> Result<Job, RunFault>
+    ensures { Answers result (job_of bytes.now) }
+{
+    let parts = Parts::find(alloc, bytes)?;
+    let sections = parts.sections;
+    let values = Values::read(alloc, sections.section(Section::Settings))?;
+    let settings = values.settings(alloc)?;
+    let envelope = Envelope::read(
+        alloc,
+        sections.section(Section::Envelope),
+        settings.origin.as_bytes(),
+    )?;
+    let aliases = section_bytes(alloc, sections.section(Section::Aliases))?;
+    let includes = read_includes(alloc, &parts.includes)?;
+    let mailboxes = section_bytes(alloc, sections.section(Section::Mailboxes))?;
+    let transport = section_bytes(alloc, sections.section(Section::Transport))?;
+    let mx = section_bytes(alloc, sections.section(Section::Mx))?;
+    let Envelope { sender, recipients } = envelope;
+    Ok(Job {
+        settings,
+        aliases,
+        includes,
+        mailboxes,
+        transport,
+        mx,
+        sender,
+        recipients,
+    })
+}

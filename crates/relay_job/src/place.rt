@@ -1,0 +1,57 @@
+//! Places in a job.
+ghost use Rattle.std.specs.Prelude.{◌+◌, ◌^◌, ◌<◌, length};
+
+use crate::raw_line::RawLine;
+use relay_text::split_line;
+
+/// A place behind a line of a job, or at its start.
+#[derive(Clone, Copy)]
+pub struct Place<'a> {
+    /// The number of the line before it; 0 at the job's start.
+    pub line: usize,
+    /// What stands behind it, to the job's end.
+    pub rest: &'a [u8],
+    ghost in_range: { line + length rest.now < 2 ^ 64 },
+}
+
+impl<'a> Place<'a> {
+    ghost use Rattle.std.specs.Prelude.{◌≡◌, [], ◌∷◌, IfSome, IfNone};
+    ghost use Rattle.relay_job.specs.JobText.{job_lines};
+    ghost use Rattle.relay_job.specs.Places.{line_of, lines_at, content_at};
+
+    /// The start of a job.
+    pub fn start(bytes: &'a [u8]) -> Place<'a>
+        ensures lines { lines_at result ≡ job_lines bytes.now }
+        ensures number { result.line ≡ 0 }
+    {
+        Place {
+            line: 0,
+            rest: bytes,
+        }
+    }
+
+    /// The next line, and the place behind it; `None` at the job's end.
+    pub fn split(&self) -> Option<(RawLine<'a>, Place<'a>)>
+        ensures none { IfNone result (lines_at self.now ≡ []) }
+        ensures lines { IfSome result (λ split. lines_at self.now ≡ line_of split.0 ∷ lines_at split.1) }
+        ensures number { IfSome result (λ split. split.1.line ≡ split.0.number) }
+        ensures shorter { IfSome result (λ split. length split.1.rest.now < length self.now.rest.now) }
+    {
+        let (raw, rest) = split_line(self.rest)?;
+        let number = self.line + 1;
+        Some((RawLine { number, raw }, Place { line: number, rest }))
+    }
+
+    /// The next line of this section, and the place behind it; `None` at the next heading and at the job's end.
+    pub fn split_content(&self) -> Option<(RawLine<'a>, Place<'a>)>
+        ensures none { IfNone result (content_at self.now ≡ []) }
+        ensures lines { IfSome result (λ split. content_at self.now ≡ line_of split.0 ∷ content_at split.1) }
+        ensures shorter { IfSome result (λ split. length split.1.rest.now < length self.now.rest.now) }
+    {
+        let (line, after) = self.split()?;
+        if line.is_heading() {
+            return None;
+        }
+        Some((line, after))
+    }
+}

@@ -1,0 +1,6 @@
+pub mod Members
+pub mod Walking
+pub mod Numbered
+pub mod Keyed
+pub mod NodeFacts
+pub mod Counted

@@ -1,0 +1,127 @@
+-- Pairs of sender and node, and their numbers in a graph.
+use Rattle.std.proofs.Common.{◌≡◌, ◌≤◌, ◌^◌, ℕ, zero, suc, ◌<◌, List, [], ◌∷◌, length, map, get_or, slice_get, Contains, Option, Some, refl, sym, ap, ◌∙◌, subst, arith}
+use Rattle.std.proofs.lemmas.Option.{same_Some, slice_get_within}
+use Rattle.std.proofs.lemmas.List.Elements.{Contains-get_or}
+use Rattle.relay_text.specs.AddressParts.{AddressParts}
+use Rattle.relay_tables.specs.declared.node.Node.{Node}
+use Rattle.relay_tables.specs.Directory.{Directory}
+use Rattle.relay_tables.specs.GraphParts.{GraphParts}
+use Rattle.relay_tables.specs.Targets.{targets_of, recipient_target}
+use Rattle.relay_tables.specs.Senders.{Sender, Pair, Step, sender_past}
+use Rattle.relay_tables.specs.Graphs.{child_numbers, nodes_at, sender_number_after, IsGraphOf}
+use Rattle.relay_pairs.specs.declared.reached.Reached.{Reached}
+use Rattle.relay_pairs.specs.Pairs.{IsRoot, IsStep, IsReachedPair, IsClosedGraph}
+use Rattle.relay_pairs.specs.Chains.{IsStart, IsReachedBy, HasNumbers}
+use Rattle.relay_pairs.proofs.Members.{Contains-map, Contains-from_map}
+use Rattle.relay_pairs.proofs.Walking.{reached_start, reached_step, reached_all}
+
+slice_get_below : {X : Type 0} (xs : List X) (n : ℕ) → n < length xs → (x : X) × (slice_get xs n ≡ Some x)
+slice_get_below [] n h = absurd (omega arith)
+slice_get_below (x ∷ xs) zero h = (x, refl)
+slice_get_below (x ∷ xs) (suc n) h =
+    let r = slice_get_below xs n (omega arith) in
+    (r.0, r.1)
+
+module _ (d : Directory) (sender : Sender) (recipients : List AddressParts) (g : GraphParts) (is : IsGraphOf d sender recipients g) where
+  -- where numbers lead to targets, each target has its number, and each number its target
+  module _ (X : Type 0) (target : X → Node) (numbers : List ℕ) (xs : List X) (e : nodes_at g numbers ≡ map (λ x. Some (target x)) xs) where
+    number_at : (x : X) → Contains xs x → (c : ℕ) × Contains numbers c × (slice_get g.nodes c ≡ Some (target x))
+    number_at x c =
+        Contains-from_map (slice_get g.nodes) numbers (Some (target x))
+        (subst (λ (ns : List (Option Node)). Contains ns (Some (target x))) (sym e) (Contains-map (λ (y : X). Some (target y)) xs x c))
+
+    target_at : (c : ℕ) → Contains numbers c → (x : X) × Contains xs x × (slice_get g.nodes c ≡ Some (target x))
+    target_at c h =
+        let r = Contains-from_map (λ (y : X). Some (target y)) xs (slice_get g.nodes c)
+        (subst (λ (ns : List (Option Node)). Contains ns (slice_get g.nodes c)) e (Contains-map (slice_get g.nodes) numbers c h)) in
+        (r.0, r.1, sym r.2)
+
+  first_numbers : (pair : Pair) → IsStart d sender recipients pair → (n : Reached) × HasNumbers g pair n
+  first_numbers pair start =
+      let a = Contains-from_map (recipient_target d) recipients pair.node start.target in
+      let c = number_at AddressParts (recipient_target d) g.roots recipients is.roots a.0 a.1 in
+      let n : Reached = record { sender = 0; node = c.0 } in
+      let root : IsRoot g n = record { sender = refl; node = c.1 } in
+      let has : HasNumbers g pair n = record {
+        reached = reached_start (IsRoot g) (IsStep g) n root;
+        sender = is.envelope_first ∙ ap (λ (s : Sender). Some s) (sym start.envelope);
+        node = c.2 ∙ ap (λ (m : Node). Some m) a.2;
+      } in
+      (n, has)
+
+  next_numbers : (from to : Pair) → IsReachedBy d sender recipients from → (n : Reached) × HasNumbers g from n → Step d from to → (m : Reached) × HasNumbers g to m
+  next_numbers from to r h s =
+      let n = h.0 in
+      let c = number_at Node (λ t. t) (child_numbers g n.node) (targets_of d from.node) (is.children n.node from.node h.1.node) to.node s.target in
+      let m : Reached = record { sender = sender_number_after g n.sender n.node; node = c.0 } in
+      let step : IsStep g n m = record { child = c.1; sender = refl } in
+      let has : HasNumbers g to m = record {
+        reached = reached_step (IsRoot g) (IsStep g) n m h.1.reached step;
+        sender = is.after n.sender n.node from.sender from.node h.1.sender h.1.node ∙ ap (λ (a : Sender). Some a) (sym s.sender);
+        node = c.2;
+      } in
+      (m, has)
+
+  pub to_numbers : (pair : Pair) → IsReachedBy d sender recipients pair → (n : Reached) × HasNumbers g pair n
+  to_numbers = reached_all (IsStart d sender recipients) (Step d) (λ pair. (n : Reached) × HasNumbers g pair n) first_numbers next_numbers
+
+  -- the pair of some numbers
+  pub record HasPair (n : Reached) : Type 0 where
+    pub pair : Pair
+    pub reached : IsReachedBy d sender recipients pair
+    pub sender_at : slice_get g.senders n.sender ≡ Some pair.sender
+    pub node_at : slice_get g.nodes n.node ≡ Some pair.node
+
+  first_pair : (n : Reached) → IsRoot g n → HasPair n
+  first_pair n root =
+      let a = target_at AddressParts (recipient_target d) g.roots recipients is.roots n.node root.node in
+      let pair : Pair = record { sender = sender; node = recipient_target d a.0 } in
+      let start : IsStart d sender recipients pair = record { envelope = refl; target = Contains-map (recipient_target d) recipients a.0 a.1 } in
+      record {
+        pair = pair;
+        reached = reached_start (IsStart d sender recipients) (Step d) pair start;
+        sender_at = ap (slice_get g.senders) root.sender ∙ is.envelope_first;
+        node_at = a.2;
+      }
+
+  next_pair : (n m : Reached) → IsReachedPair g n → HasPair n → IsStep g n m → HasPair m
+  next_pair n m r h s =
+      let t = target_at Node (λ t. t) (child_numbers g n.node) (targets_of d h.pair.node) (is.children n.node h.pair.node h.node_at) m.node s.child in
+      let pair : Pair = record { sender = sender_past d h.pair.sender h.pair.node; node = t.0 } in
+      let step : Step d h.pair pair = record { target = t.1; sender = refl } in
+      record {
+        pair = pair;
+        reached = reached_step (IsStart d sender recipients) (Step d) h.pair pair h.reached step;
+        sender_at = ap (slice_get g.senders) s.sender ∙ is.after n.sender n.node h.pair.sender h.pair.node h.sender_at h.node_at;
+        node_at = t.2;
+      }
+
+  pub has_pair : (n : Reached) → IsReachedPair g n → HasPair n
+  has_pair = reached_all (IsRoot g) (IsStep g) HasPair first_pair next_pair
+
+  pub from_numbers : (pair : Pair) → (n : Reached) × HasNumbers g pair n → IsReachedBy d sender recipients pair
+  from_numbers pair h =
+      let p = has_pair h.0 h.1.reached in
+      let senders : p.pair.sender ≡ pair.sender = same_Some p.pair.sender pair.sender (sym p.sender_at ∙ h.1.sender) in
+      let nodes : p.pair.node ≡ pair.node = same_Some p.pair.node pair.node (sym p.node_at ∙ h.1.node) in
+      let half : IsReachedBy d sender recipients (record { sender = pair.sender; node = p.pair.node }) = subst (λ (s : Sender). IsReachedBy d sender recipients (record { sender = s; node = p.pair.node })) senders p.reached in
+      subst (λ (m : Node). IsReachedBy d sender recipients (record { sender = pair.sender; node = m })) nodes half
+
+  pub closed_graph : length g.nodes ≤ 2 ^ 24 → length g.senders ≤ 2 ^ 32 → IsClosedGraph g
+  closed_graph nodes senders =
+      record {
+        few_nodes = nodes;
+        few_senders = senders;
+        some_sender = let within = slice_get_within g.senders 0 sender is.envelope_first in omega arith;
+        roots = λ k e inside.
+            let a = target_at AddressParts (recipient_target d) g.roots recipients is.roots (get_or g.roots k e) (Contains-get_or g.roots k e inside) in
+            slice_get_within g.nodes (get_or g.roots k e) (recipient_target d a.0) a.2;
+        children = λ n below k e inside.
+            let m = slice_get_below g.nodes n below in
+            let t = target_at Node (λ t. t) (child_numbers g n) (targets_of d m.0) (is.children n m.0 m.1) (get_or (child_numbers g n) k e) (Contains-get_or (child_numbers g n) k e inside) in
+            slice_get_within g.nodes (get_or (child_numbers g n) k e) t.0 t.2;
+        senders = λ s n s_below n_below.
+            let a = slice_get_below g.senders s s_below in
+            let m = slice_get_below g.nodes n n_below in
+            slice_get_within g.senders (sender_number_after g s n) (sender_past d a.0 m.0) (is.after s n a.0 m.0 a.1 m.1);
+      }

@@ -1,0 +1,72 @@
+-- Which pairs of sender and node are reached in a graph, by their numbers.
+use Rattle.std.specs.Prelude.{◌≡◌, ◌≢◌, ℕ, ◌+◌, ◌*◌, ◌/◌, ◌%◌, ◌^◌, ◌<◌, ◌≤◌, nat_lt, List, [], length, map, All, AllPairs, Contains, ◌↔◌, if◌then◌else◌}
+use Rattle.std.specs.List.Sorted.{IsStrictlyIncreasing}
+use Rattle.relay_rounds.specs.Walks.{IsReached}
+use Rattle.relay_tables.specs.GraphParts.{GraphParts}
+use Rattle.relay_tables.specs.Graphs.{child_numbers, sender_number_after}
+use Rattle.relay_pairs.specs.declared.reached.Reached.{Reached}
+
+-- A pair's key: by sender, and then by node, of which there are at most 2^24.
+abbrev pub key_of : Reached → ℕ
+key_of p = p.sender * 2 ^ 24 + p.node
+
+abbrev pub pair_at : ℕ → Reached
+pair_at key = record { sender = key / 2 ^ 24; node = key % 2 ^ 24 }
+
+module _ (g : GraphParts) where
+  -- A chain starts at the envelope's sender with a root.
+  pub record IsRoot (pair : Reached) : Type 0 where
+    pub sender : pair.sender ≡ 0
+    pub node : Contains g.roots pair.node
+
+  -- A step leads to a child, under the sender after the node.
+  pub record IsStep (from to : Reached) : Type 0 where
+    pub child : Contains (child_numbers g from.node) to.node
+    pub sender : to.sender ≡ sender_number_after g from.sender from.node
+
+  abbrev pub IsReachedPair : Reached → Type 0
+  IsReachedPair pair = IsReached IsRoot IsStep pair
+
+  -- all that are reached, by sender and then by node, each once
+  pub record ArePairs (pairs : List Reached) : Type 0 where
+    pub ascending : IsStrictlyIncreasing (map key_of pairs)
+    pub members : (pair : Reached) → Contains pairs pair ↔ IsReachedPair pair
+
+  -- more than n pairs are reached
+  pub record HasMorePairs (n : ℕ) : Type 0 where
+    pub pairs : List Reached
+    pub distinct : AllPairs (λ p q. p ≢ q) pairs
+    pub reached : All IsReachedPair pairs
+    pub more : n < length pairs
+
+  -- its numbers are those of its nodes and senders, and few enough for keys
+  pub record IsClosedGraph : Type 0 where
+    pub few_nodes : length g.nodes ≤ 2 ^ 24
+    pub few_senders : length g.senders ≤ 2 ^ 32
+    pub some_sender : 1 ≤ length g.senders
+    pub roots : All (λ n. n < length g.nodes) g.roots
+    pub children : (n : ℕ) → n < length g.nodes → All (λ c. c < length g.nodes) (child_numbers g n)
+    pub senders : (s n : ℕ) → s < length g.senders → n < length g.nodes → sender_number_after g s n < length g.senders
+
+  abbrev pub key_count : ℕ
+  key_count = length g.senders * 2 ^ 24
+
+  -- the keys after a key: those of the node's children, under the sender after it
+  abbrev pub key_after : Reached → ℕ → ℕ
+  key_after from child = sender_number_after g from.sender from.node * 2 ^ 24 + child
+
+  abbrev pub keys_from : Reached → List ℕ
+  keys_from from = if nat_lt from.node (length g.nodes) then map (key_after from) (child_numbers g from.node) else []
+
+  abbrev pub keys_after : ℕ → List ℕ
+  keys_after key = keys_from (pair_at key)
+
+  -- ascending nodes of the graph, with all children of each
+  pub record IsClosedUnder (nodes : List ℕ) : Type 0 where
+    pub in_graph : All (λ n. n < length g.nodes) nodes
+    pub children : (parent child : ℕ) → Contains nodes parent → Contains (child_numbers g parent) child → Contains nodes child
+
+-- the nodes of some pairs, ascending, each once
+pub record AreNodesOf (pairs : List Reached) (nodes : List ℕ) : Type 0 where
+  pub ascending : IsStrictlyIncreasing nodes
+  pub members : (n : ℕ) → Contains nodes n ↔ ((pair : Reached) × Contains pairs pair × (pair.node ≡ n))
