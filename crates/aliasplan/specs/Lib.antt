@@ -14,3 +14,4 @@ pub mod Gathering
 pub mod SenderOrder
 pub mod SenderGroups
 pub mod WrittenAddresses
+pub mod Collecting

@@ -10,7 +10,7 @@ ghost use Rattle.aliasplan.specs.Report.{IsLineOf};
 ghost use Rattle.aliasplan.specs.Report.{routes};
 
 use crate::batches::plan_senders;
-use crate::gathering::gather;
+use crate::gathering::gather_stops;
 use crate::sender_order::order_senders;
 use relay_job::Job;
 use relay_pairs::Reached;
@@ -37,7 +37,7 @@ pub fn plan_addresses(
     ensures transactions { IfOk result (λ transactions. AreTransactionsOf job.now transactions.items) }
     ensures lines { OnOk result ((q : List ℕ) → IsTrue (has_text lines.new q) ↔ (IsTrue (has_text lines.old q) ⊎ IsLineOf job.now routes q)) }
 {
-    let by_sender = gather(alloc, job, router, graph, pairs, lines)?;
+    let by_sender = gather_stops(alloc, job, router, graph, pairs, lines)?;
     let order = order_senders(alloc, graph, by_sender)?;
     plan_senders(alloc, job, router, graph, order)
 }

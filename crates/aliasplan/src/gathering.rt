@@ -162,7 +162,7 @@ fn add_node(
 
 /// What the pairs lead to, by the numbers of the senders. The lines of the addresses that have no route are added to those that are
 /// reported already.
-pub fn gather(
+pub fn gather_stops(
     alloc: Global,
     job: &Job,
     router: &Router,

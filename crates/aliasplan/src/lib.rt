@@ -4,6 +4,7 @@
 mod addresses;
 mod answering;
 mod batches;
+mod collecting;
 pub mod device;
 mod entries;
 mod findings;
@@ -28,10 +29,12 @@ mod texts;
 mod writing;
 mod written_address;
 
+pub use collecting::gather;
 pub use device::{Device, Failed, Feed, Sink};
 pub use options::{Form, Limits, Options};
 pub use planning::plan_job;
 pub use reading::read_job;
+pub use relay_gather::{Paths, Source, SourceFault};
 pub use relay_job::{Job, JobInclude, RunFault, Settings, parse_job};
 pub use relay_rounds::{Gate, NoGate};
 pub use running::run;

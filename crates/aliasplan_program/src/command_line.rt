@@ -2,17 +2,20 @@
 ghost use Rattle.aliasplan.specs.Outcomes.{AreOptions};
 ghost use Rattle.aliasplan_program.specs.Requests.{IsRequest};
 
-use aliasplan::{Form, Options};
+use aliasplan::{Form, Options, Paths};
 use clap::error::ErrorKind;
 use clap::{Arg, ArgMatches, Command, value_parser};
+use relay_text::Text;
 use std::alloc::{AllocError, Global};
 use std::env::Args;
 
 /// What the command line asks for.
-#[derive(Clone, Copy, Debug, PartialEq, Eq)]
+#[derive(Drop)]
 pub enum Request {
     /// A plan of the job on standard input.
     Plan(Options),
+    /// A job of the files of these paths.
+    Gather(Paths),
     /// The help, which is printed.
     Help,
     /// Something else, as is said on standard error.
@@ -49,12 +52,40 @@ fn plan_command<'a>(alloc: Global) -> Result<Command<'a>, AllocError> {
         .arg(form)
 }
 
+/// The files that a job is gathered of, each by the name of its section.
+const FILES: [(&str, &str); 6] = [
+    ("settings", "The settings"),
+    (
+        "aliases",
+        "The alias file, whose include files are followed",
+    ),
+    ("mailboxes", "The names that have a mailbox, one a line"),
+    ("transport", "The transport table"),
+    ("mx", "The mail exchangers"),
+    ("envelope", "The envelope: the sender and the recipients"),
+];
+
+fn gather_command<'a>(alloc: Global) -> Result<Command<'a>, AllocError> {
+    let mut command = Command::new(alloc, "gather").about(
+        "Writes the job of files that lie apart on standard output",
+    );
+    for (name, help) in FILES {
+        let file = Arg::new(alloc, name)
+            .long(name)
+            .value_name("FILE")
+            .help(help);
+        command = command.arg(file)?;
+    }
+    Ok(command)
+}
+
 fn command<'a>(alloc: Global) -> Result<Command<'a>, AllocError> {
     Command::new(alloc, "aliasplan")
         .about("Plans the delivery of a message to aliases and mailing lists")
         .subcommand_required(true)
         .arg_required_else_help(false)
-        .subcommand(plan_command(alloc)?)
+        .subcommand(plan_command(alloc)?)?
+        .subcommand(gather_command(alloc)?)
 }
 
 /// The options that the words after `plan` say, or their defaults. What is out of range is refused before.
@@ -74,6 +105,39 @@ fn options_of(plan: &ArgMatches<'_>) -> Options
     }
 }
 
+/// The path that an option names, if it stands there.
+fn path_of(alloc: Global, gather: &ArgMatches<'_>, name: &str) -> Result<Option<Text>, AllocError> {
+    match gather.get_str(name) {
+        Some(path) => Ok(Some(Text::of(Vec::from_slice(alloc, path.as_bytes())?))),
+        None => Ok(None),
+    }
+}
+
+/// The paths that the words after `gather` say.
+fn paths_of(alloc: Global, gather: &ArgMatches<'_>) -> Result<Paths, AllocError> {
+    Ok(Paths {
+        settings: path_of(alloc, gather, "settings")?,
+        aliases: path_of(alloc, gather, "aliases")?,
+        mailboxes: path_of(alloc, gather, "mailboxes")?,
+        transport: path_of(alloc, gather, "transport")?,
+        mx: path_of(alloc, gather, "mx")?,
+        envelope: path_of(alloc, gather, "envelope")?,
+    })
+}
+
+/// What a subcommand and the words after it ask for.
+fn request_of(alloc: Global, name: &str, words: &ArgMatches<'_>) -> Request
+    ensures { IsRequest result }
+{
+    if name == "plan" {
+        return Request::Plan(options_of(words));
+    }
+    match paths_of(alloc, words) {
+        Ok(paths) => Request::Gather(paths),
+        Err(_) => Request::Memory,
+    }
+}
+
 /// What the words of a command line ask for, the program's name first. Help goes to standard output, a fault to standard error.
 pub fn read_words<R: Print + Eprint + AllocGlobal>(rt: &R, args: Args<Global>) -> Request
     ensures { IsRequest result }
@@ -86,7 +150,7 @@ pub fn read_words<R: Print + Eprint + AllocGlobal>(rt: &R, args: Args<Global>) -
     };
     match command.try_get_matches_from(words.as_slice()) {
         Ok(matches) => match matches.subcommand() {
-            Some((_, plan)) => Request::Plan(options_of(plan)),
+            Some((name, words)) => request_of(rt.alloc(), name, words),
             None => Request::Unknown,
         },
         Err(error) => {

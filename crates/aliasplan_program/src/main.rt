@@ -1,4 +1,5 @@
-//! `aliasplan plan`: reads a job on standard input and writes its plan on standard output.
+//! `aliasplan plan` reads a job on standard input and writes its plan on standard output; `aliasplan gather` writes a job of files that lie
+//! apart.
 #![tactic(auto)]
 
 ghost use Rattle.std.specs.Prelude.{◌≡◌};
@@ -6,6 +7,7 @@ ghost use Rattle.aliasplan.specs.Outcomes.{AreOptions};
 ghost use Rattle.aliasplan_program.specs.Statuses.{code_of, code_after};
 
 mod command_line;
+mod file_source;
 mod standard_input;
 #[cfg(test)]
 mod tests;
@@ -14,22 +16,25 @@ mod tests_aliases;
 #[cfg(test)]
 mod tests_devices;
 #[cfg(test)]
+mod tests_gathering;
+#[cfg(test)]
 mod tests_options;
 #[cfg(test)]
 mod tests_tables;
 
-use aliasplan::{Device, Limits, NoGate, Options, RunFault, run};
+use aliasplan::{Device, Limits, NoGate, Options, Paths, RunFault, gather, run};
 use command_line::{Request, read_words};
+use file_source::FileSource;
 use standard_input::StandardInput;
 use std::process::ExitCode;
-use std::rt::Env;
+use std::rt::{Env, Files};
 use std::thread::Threads;
 use std::{env, io};
 
 /// What the process ends with.
 #[derive(Clone, Copy, Debug, PartialEq, Eq)]
 enum Status {
-    /// The plan is written, and has no findings.
+    /// The plan is written and has no findings, or the job is gathered.
     Done,
     /// The plan is written, and has findings.
     Found,
@@ -102,13 +107,28 @@ fn plan<R: Input + Print + Eprint + AllocGlobal + Threads + Sync>(
     }
 }
 
-fn answer<R: Input + Print + Eprint + Env + AllocGlobal + Threads + Sync>(rt: &R) -> Status {
+fn gather_job<R: Files + Print + Eprint + AllocGlobal>(rt: &R, paths: &Paths) -> Status {
+    let mut source = FileSource::new(rt);
+    let mut writer = Device::new(io::writer(rt));
+    match gather(rt.alloc(), &mut source, paths, &mut writer, LIMITS.bytes) {
+        Ok(()) => Status::Done,
+        Err(fault) => {
+            let _ = eprintln!(rt; "aliasplan: {fault}");
+            Status::of_fault(fault)
+        }
+    }
+}
+
+fn answer<R: Input + Files + Print + Eprint + Env + AllocGlobal + Threads + Sync>(
+    rt: &R,
+) -> Status {
     let Ok(words) = env::args(rt) else {
         let _ = eprintln!(rt; "aliasplan: {}", RunFault::Memory);
         return Status::OutOfMemory;
     };
     match read_words(rt, words) {
         Request::Plan(options) => plan(rt, options),
+        Request::Gather(paths) => gather_job(rt, &paths),
         Request::Help => Status::Done,
         Request::Unknown => Status::CommandLine,
         Request::Memory => {

@@ -1,5 +1,5 @@
 -- What the logical lines of an alias file make together.
-use Rattle.std.proofs.Common.{◌≡◌, ℕ, ◌+◌, ◌<◌, ◌≤◌, Bool, true, false, cond, eqb, List, [], ◌∷◌, ◌++◌, length, take, drop, get_or, map, refl, sym, ap, subst, ◌∙◌, append_assoc, arith, Some, None, Option}
+use Rattle.std.proofs.Common.{◌≡◌, ℕ, ◌+◌, ◌<◌, ◌≤◌, Bool, true, false, cond, eqb, List, [], ◌∷◌, ◌++◌, length, take, drop, get_or, map, refl, sym, ap, ◌∙◌, append_assoc, arith, Some, None, Option}
 use Rattle.std.specs.Prelude.{filter_map, option_map, not}
 use Rattle.std.specs.List.{cons_option}
 use Rattle.std.specs.Option.{ForSome}
@@ -10,7 +10,6 @@ use Rattle.relay_text.specs.Bytes.{each_after, has_text}
 use Rattle.relay_text.specs.FirstPlaces.{first_place}
 use Rattle.relay_text.specs.Lines.{logical_lines_of}
 use Rattle.relay_text.specs.declared.lines.Line.{Line}
-use Rattle.relay_text.specs.declared.lines.Lines.{Lines}
 use Rattle.relay_aliasfile.specs.AliasFiles.{Heading, heading_of, heading_name, name_in, has_entry, entry_in, entry_of, faults_in, faults_of, list_faults, orphan_fault, alias_file_of}
 use Rattle.relay_aliasfile.specs.MailboxFiles.{fault}
 use Rattle.relay_aliasfile.specs.Headings.{heading_value}
@@ -19,9 +18,7 @@ use Rattle.relay_aliasfile.specs.declared.fault.FaultKind.TheVariants.{Duplicate
 use Rattle.relay_aliasfile.specs.AliasTables.{new_entry, new_entries, new_faults, more_named}
 use Rattle.relay_aliasfile.specs.declared.entry.Entry.{Entry}
 use Rattle.relay_aliasfile.specs.declared.fault.LineFault.{LineFault}
-use Rattle.relay_aliasfile.specs.declared.heading.Heading.{Heading as FoundHeading}
 use Rattle.relay_aliasfile.specs.declared.headed_line.HeadedLine.{HeadedLine}
-use Rattle.relay_aliasfile.specs.declared.aliases.AliasFile.{AliasFile}
 use Rattle.relay_aliasfile.proofs.FirstTexts.{is_first-is}
 
 -- ---- whether the name of a line is new

@@ -1,10 +1,10 @@
 -- The texts of a list's items, their items and their faults, one after another.
-use Rattle.std.proofs.Common.{◌≡◌, ℕ, ◌+◌, Bool, true, false, not, cond, List, [], ◌∷◌, ◌++◌, length, take, drop, filter, map, refl, sym, ap, ◌∙◌, append_assoc, Some, None, Option}
-use Rattle.std.specs.Prelude.{slice_get, is_none, filter_map}
+use Rattle.std.proofs.Common.{◌≡◌, ℕ, ◌+◌, Bool, true, false, not, cond, List, [], ◌∷◌, ◌++◌, take, drop, filter, map, refl, sym, ap, ◌∙◌, append_assoc, Some, None}
+use Rattle.std.specs.Prelude.{slice_get}
 use Rattle.std.specs.List.{cons_option}
 use Rattle.std.proofs.lemmas.List.{append-nil}
 use Rattle.relay_text.specs.Bytes.{trimmed}
-use Rattle.relay_text.specs.Quotes.{places_outside, pieces_outside}
+use Rattle.relay_text.specs.Quotes.{places_outside}
 use Rattle.relay_text.specs.Addresses.{is_empty}
 use Rattle.relay_aliasfile.specs.Items.{item_texts, is_text, item_of, is_bad}
 use Rattle.relay_aliasfile.specs.Lists.{text_faults, items_of, faults_of}

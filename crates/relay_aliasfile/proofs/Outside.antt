@@ -1,12 +1,12 @@
 -- What stands outside quotes, read in one pass.
-use Rattle.std.proofs.Common.{◌≡◌, ℕ, suc, ◌+◌, ◌-◌, ◌<◌, ◌≤◌, ◌≢◌, ◌%◌, Bool, true, false, not, cond, ◌&&◌, ◌==◌, List, [], ◌∷◌, ◌++◌, length, take, drop, get_or, map, filter, refl, sym, ap, ◌∙◌, subst, arith, add-one, eq-eqb, Some, None, Option}
+use Rattle.std.proofs.Common.{◌≡◌, ℕ, suc, ◌+◌, ◌<◌, ◌≤◌, ◌≢◌, ◌%◌, Bool, true, false, not, cond, ◌&&◌, ◌==◌, List, [], ◌∷◌, length, take, drop, get_or, map, filter, refl, sym, ap, ◌∙◌, subst, arith, add-one, eq-eqb, Some, None, Option}
 use Rattle.std.specs.Prelude.{option_map, slice_get}
 use Rattle.std.specs.List.{count_by, enumerate_from, slice_split, onto_first, last_or}
 use Rattle.std.proofs.lemmas.List.{at_drop_more, at_drop_all}
 use Rattle.std.proofs.lemmas.List.Sums.{sum_by-cons}
 use Rattle.std.proofs.lemmas.Bool.Decides.{nat_tests}
 use Rattle.std.proofs.lemmas.Bool.{eqb-true, ne_eqb, false≢true}
-use Rattle.relay_text.specs.Quotes.{Mark, marks_from, is_quote, quote_count, is_outside, places_outside, pieces_outside}
+use Rattle.relay_text.specs.Quotes.{marks_from, is_quote, quote_count, is_outside, places_outside, pieces_outside}
 use Rattle.relay_aliasfile.specs.QuoteStates.{at_start, past}
 use Rattle.relay_aliasfile.specs.declared.quotes.QuoteState.{QuoteState}
 

@@ -1,5 +1,5 @@
 -- What the parsers of alias and include files give: each name and each bare item is a local part.
-use Rattle.std.proofs.Common.{◌≡◌, ℕ, Bool, true, false, not, cond, ◌&&◌, ◌||◌, ◌==◌, ◌+◌, drop, List, [], ◌∷◌, ◌++◌, Option, Some, None, Result, Ok, Err, refl, sym, ap, ◌∙◌, subst, map, codes, take}
+use Rattle.std.proofs.Common.{◌≡◌, ℕ, Bool, true, false, not, cond, ◌&&◌, ◌||◌, ◌==◌, ◌+◌, drop, List, [], ◌∷◌, ◌++◌, Option, Some, None, Result, Ok, Err, refl, sym, ap, ◌∙◌, subst, codes, take}
 use Rattle.std.specs.Bool.{IsTrue}
 use Rattle.std.specs.Prelude.{option_map, option_and_then, filter_map, flat_map, slice_get, nat_lt}
 use Rattle.std.specs.List.{list_all, list_any, last_or, cons_option}
@@ -12,14 +12,14 @@ use Rattle.relay_text.specs.Lines.{logical_lines_of, kept_lines}
 use Rattle.relay_text.specs.declared.lines.Line.{Line}
 use Rattle.relay_text.specs.declared.fault.TextFault.{TextFault}
 use Rattle.relay_text.specs.declared.fault.TextFault.TheVariants.{BadDomain, TooLong}
-use Rattle.relay_text.specs.Addresses.{Check, checked, LocalCut, Spelled, local_cut, local_of, is_local_byte, is_empty, is_quotable, is_local_too_long, is_domain_too_long, local_checks, is_bad_domain, spelled_of, name_of, spelling_of}
+use Rattle.relay_text.specs.Addresses.{Check, checked, Spelled, local_cut, local_of, is_local_byte, is_empty, is_quotable, is_local_too_long, is_domain_too_long, local_checks, is_bad_domain, spelled_of, name_of, spelling_of}
 use Rattle.relay_text.proofs.Limits.{local_nonempty, local_quotable}
 use Rattle.relay_aliasfile.specs.Items.{item_texts, item_of, item_at, spelled_item, address_item, special_item, include_path, quoted_name, named_item, content_item, bracketed_at, bracketed_item, is_well_quoted, is_one_string, good_items}
 use Rattle.relay_aliasfile.specs.AliasFiles.{Heading, heading_with, heading_at, heading_of, has_entry, entry_of, entry_in, alias_file_of}
 use Rattle.relay_aliasfile.specs.IncludeFiles.{items_in, include_file_of}
 use Rattle.relay_aliasfile.specs.MailboxFiles.{folded_name_of}
 use Rattle.relay_aliasfile.specs.declared.item.Item.{Item}
-use Rattle.relay_aliasfile.specs.declared.item.Item.TheVariants.{Bare, Full, Include, Command, File}
+use Rattle.relay_aliasfile.specs.declared.item.Item.TheVariants.{Bare}
 use Rattle.relay_aliasfile.specs.declared.entry.Entry.{Entry}
 use Rattle.relay_tables.specs.Parts.{is_local_part, is_good_item, is_good_entry}
 use Rattle.relay_tables.proofs.LocalParts.{is_local_part-folded}

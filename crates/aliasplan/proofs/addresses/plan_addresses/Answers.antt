@@ -20,7 +20,7 @@ pub returns-clause-lines : goal.returns-clause-lines
 returns-clause-lines c =
     let lines = c.in_ok-by_sender.ensures.lines in
     let are = route_lines c.args.job.now c.args.graph.now c.args.pairs.now c.requires.pairs in
-    let Q : Type 0 = (q : List ℕ) → IsTrue (has_text c.gather.new.lines q) ↔ (IsTrue (has_text c.args.lines.now q) ⊎ IsLineOf c.args.job.now routes q) in
+    let Q : Type 0 = (q : List ℕ) → IsTrue (has_text c.gather_stops.new.lines q) ↔ (IsTrue (has_text c.args.lines.now q) ⊎ IsLineOf c.args.job.now routes q) in
     on_ok_weaker {Q = Q} c.plan_senders.result
     (λ sorted q. (
       λ has. elim ((lines q).0 has) [ inl old ↦ inl old | inr line ↦ inr ((are q).0 line) ],

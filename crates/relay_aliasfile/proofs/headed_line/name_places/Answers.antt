@@ -1,4 +1,4 @@
-use Rattle.std.proofs.Common.{◌≡◌, ◌++◌, ◌∷◌, [], arith, ap, sym, ◌∙◌, option_map}
+use Rattle.std.proofs.Common.{◌++◌, ◌∷◌, [], arith, ap, sym, ◌∙◌, option_map}
 use Rattle.relay_aliasfile.specs.AliasFiles.{heading_name}
 use Rattle.relay_aliasfile.specs.Headings.{heading_value}
 use Rattle.relay_aliasfile.proofs.NamePlaces.{names_more, names_other}

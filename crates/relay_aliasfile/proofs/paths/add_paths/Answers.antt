@@ -1,4 +1,4 @@
-use Rattle.std.proofs.Common.{◌≡◌, ◌++◌, ◌∷◌, [], arith, ap, sym, ◌∙◌}
+use Rattle.std.proofs.Common.{◌++◌, ◌∷◌, [], arith, ap, ◌∙◌}
 use Rattle.relay_aliasfile.proofs.IncludePaths.{paths_more, paths_other}
 use Rattle.relay_aliasfile.proofs.paths.add_paths.Goals as goal
 use Rattle.relay_aliasfile.proofs.paths.add_paths.Goals.{in-Some+in_ok-from_slice+in_ok-push, in_default}

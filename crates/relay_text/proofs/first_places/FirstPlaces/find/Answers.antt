@@ -1,8 +1,7 @@
-use Rattle.std.proofs.Common.{◌≡◌, ℕ, ◌+◌, ◌<◌, ◌≤◌, List, length, get_or, true, false, arith, sym, ap, subst, ◌∙◌}
+use Rattle.std.proofs.Common.{◌≡◌, ℕ, ◌+◌, ◌<◌, ◌≤◌, List, length, get_or, arith, sym, ap, subst, ◌∙◌}
 use Rattle.std.specs.Prelude.{slice_set, map}
 use Rattle.std.proofs.lemmas.Bool.{true≢false}
 use Rattle.relay_text.specs.FirstPlaces.{first_place, bytes_of}
-use Rattle.relay_text.specs.declared.hashed_text.HashedText.{HashedText}
 use Rattle.relay_text.proofs.Firsts.{AreSorted, AreFound, first_of_place, place_within, has_text_at, begun, begun_anew, kept_on, found_more, found_all}
 use Rattle.relay_text.proofs.first_places.FirstPlaces.find.Goals as goal
 use Rattle.relay_text.proofs.first_places.FirstPlaces.find.Goals.{then-index-eq0, then-index-eq0-via-then-index-eq0, then-index-eq0-via-else-index-eq0+then-not-is_same_as, else-index-eq0+else-not-is_same_as}

@@ -4,7 +4,7 @@ use Rattle.relay_text.specs.AddressParts.{AddressParts}
 use Rattle.relay_text.specs.Bytes.{has_text}
 use Rattle.relay_routes.specs.declared.transport.Transport.{Transport}
 use Rattle.aliasplan.specs.Gathering.{AreNumbered, HasStopUnder, HaveStop, HaveLine}
-use Rattle.aliasplan.proofs.gathering.gather.Given as goal
+use Rattle.aliasplan.proofs.gathering.gather_stops.Given as goal
 
 abbrev pub invariant-loop-pair : goal.invariant-loop-pair
 invariant-loop-pair l = record {

@@ -9,7 +9,7 @@ use Rattle.aliasplan.specs.declared.sender_lanes.SenderLanes.{SenderLanes}
 use Rattle.aliasplan.specs.Gathering.{HasStopUnder, HaveStop, HaveLine, IsStopUnder, IsStopOfPair, IsLineOfPair}
 use Rattle.aliasplan.proofs.GatherFacts.{some_first, some_more, some_set, numbered_set, pair_stops, pair_lines}
 use Rattle.aliasplan.proofs.NodeRoutes.{stops_routed}
-use Rattle.aliasplan.proofs.gathering.gather.Goals as goal
+use Rattle.aliasplan.proofs.gathering.gather_stops.Goals as goal
 
 pub loop-pair-preserved : goal.loop-pair-preserved
 loop-pair-preserved c =

@@ -1,0 +1,10 @@
+pub mod Lines
+pub mod Putting
+pub mod Joining
+pub mod Following
+pub mod NamedSections
+pub mod NamedPaths
+pub mod TextLines
+pub mod HeadingLines
+pub mod Pieces
+pub mod FilesKept

@@ -1,0 +1,8 @@
+-- Files as a source gives them.
+use Rattle.std.specs.Prelude.{◌≡◌, ℕ, Vec, Option, Some, None}
+use Rattle.relay_gather.specs.Source.{Answer, absent, file}
+
+-- the file that an answer is, or none where it is absent
+abbrev pub IsFetched : {Z : Type 0} → Answer → Option (Vec ℕ Z) → Type 0
+IsFetched answer (Some bytes) = answer ≡ file bytes.items
+IsFetched answer None = answer ≡ absent

@@ -1,0 +1,85 @@
+//! Sections of files that are named.
+ghost use Rattle.std.specs.Prelude.{◌≡◌, ℕ, List, [], ◌∷◌, codes, IfOk, IfErr, OnOk};
+ghost use Rattle.relay_aliasfile.specs.AliasFiles.{alias_file_of, entry_items};
+ghost use Rattle.relay_aliasfile.specs.IncludeNames.{include_names_in};
+ghost use Rattle.relay_job.specs.declared.fault.RunFault.TheVariants.{Memory};
+ghost use Rattle.relay_gather.specs.Source.{Tells, file};
+ghost use Rattle.relay_gather.specs.Sections.{named_section};
+ghost use Rattle.relay_gather.specs.Gathering.{named_in, first_names};
+ghost use Rattle.relay_gather.specs.Gathered.{Adds, Stops};
+
+use crate::fetching::fetched;
+use crate::gathered::Gathered;
+use crate::source::Source;
+use relay_aliasfile::{include_names, parse_aliases};
+use relay_job::RunFault;
+use relay_text::{Seq, Text};
+use std::alloc::Global;
+
+/// Puts the section of a file, which is to be there.
+fn put_file<D: Source>(
+    alloc: Global,
+    source: &mut D,
+    heading: &[u8],
+    path: &[u8],
+    gathered: &mut Gathered,
+) -> Result<Vec<u8>, RunFault>
+    ensures file { IfOk result (λ bytes. Tells (D.answer source.old) → D.answer source.old path.now ≡ file bytes.items) }
+    ensures ok { OnOk result (Tells (D.answer source.old) → Adds (named_section heading.now (D.answer source.old path.now) ∷ []) gathered.old gathered.new) }
+    ensures err { IfErr result (Stops (D.answer source.old) (named_section heading.now (D.answer source.old path.now) ∷ []) gathered.old) }
+    ensures alike { (p : List ℕ) → D.answer source.new p ≡ D.answer source.old p }
+{
+    let Some(file) = fetched(alloc, source, path)? else {
+        return Err(RunFault::Read);
+    };
+    gathered.put_section(heading, file.as_slice())?;
+    Ok(file)
+}
+
+/// Puts a section, where its file is named.
+pub fn put_named<D: Source>(
+    alloc: Global,
+    source: &mut D,
+    heading: &[u8],
+    path: &Option<Text>,
+    gathered: &mut Gathered,
+) -> Result<(), RunFault>
+    ensures ok { OnOk result (Tells (D.answer source.old) → Adds (named_in (D.answer source.old) heading.now path.now) gathered.old gathered.new) }
+    ensures err { IfErr result (Stops (D.answer source.old) (named_in (D.answer source.old) heading.now path.now) gathered.old) }
+    ensures alike { (p : List ℕ) → D.answer source.new p ≡ D.answer source.old p }
+{
+    if let Some(path) = path {
+        let _file = put_file(alloc, source, heading, path.as_bytes(), gathered)?;
+    }
+    Ok(())
+}
+
+/// The names of the include files that an alias file has.
+fn names_in_aliases(alloc: Global, bytes: &[u8]) -> Result<Seq<Text>, RunFault>
+    ensures ok { IfOk result (λ names. names ≡ include_names_in (entry_items (alias_file_of bytes.now).entries)) }
+    ensures err { IfErr result (λ fault. fault ≡ Memory) }
+{
+    let file = parse_aliases(alloc, bytes)?;
+    Ok(include_names(alloc, &file)?)
+}
+
+/// Puts the section of the alias file, where it is named, and answers the names of its include files.
+pub fn put_aliases<D: Source>(
+    alloc: Global,
+    source: &mut D,
+    path: &Option<Text>,
+    gathered: &mut Gathered,
+) -> Result<Seq<Text>, RunFault>
+    ensures names { IfOk result (λ names. Tells (D.answer source.old) → names ≡ first_names (D.answer source.old) path.now) }
+    ensures ok { OnOk result (Tells (D.answer source.old) → Adds (named_in (D.answer source.old) (codes "%aliases") path.now) gathered.old gathered.new) }
+    ensures err { IfErr result (Stops (D.answer source.old) (named_in (D.answer source.old) (codes "%aliases") path.now) gathered.old) }
+    ensures alike { (p : List ℕ) → D.answer source.new p ≡ D.answer source.old p }
+{
+    match path {
+        Some(path) => {
+            let file = put_file(alloc, source, b"%aliases", path.as_bytes(), gathered)?;
+            names_in_aliases(alloc, file.as_slice())
+        }
+        None => Ok(Seq::of(Vec::new(alloc))),
+    }
+}
