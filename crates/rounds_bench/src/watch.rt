@@ -10,7 +10,12 @@ pub struct Watch<'a, R: Clock + Print + AllocGlobal> {
 }
 
 impl<'a, R: Clock + Print + AllocGlobal> Watch<'a, R> {
-    pub fn new(rt: &'a R, timed: bool) -> Self {
+    ghost use Rattle.std.specs.Prelude.{◌≡◌};
+
+    /// A watch that prints times where `timed` says so.
+    pub fn new(rt: &'a R, timed: bool) -> Self
+        ensures { result.timed ≡ timed }
+    {
         Watch { rt, timed }
     }
 
