@@ -1,5 +1,5 @@
 -- Which faults a job's bytes have.
-use Rattle.std.proofs.Common.{◌≡◌, ◌≢◌, ℕ, List, Ok, Err, subst}
+use Rattle.std.proofs.Common.{◌≡◌, ℕ, ◌≤◌, List, length, Ok}
 use Rattle.relay_job.specs.declared.job.Job.{Job}
 use Rattle.relay_job.specs.declared.fault.RunFault.{RunFault}
 use Rattle.relay_job.specs.declared.fault.RunFault.TheVariants.{Read, TooLong, BadJob, BadSetting, BadEnvelope, TooManyNames, TooManyOwners, TooManyPairs, Write, Memory}
@@ -7,14 +7,14 @@ use Rattle.relay_job.specs.JobText.{job_of}
 use Rattle.relay_job.specs.JobAnswers.{Fails}
 use Rattle.relay_job.proofs.Faults.{fault_of_job}
 use Rattle.aliasplan.specs.declared.options.Limits.{Limits}
-use Rattle.aliasplan.specs.Outcomes.{IsRefused, RefusesBytes, Refuses}
+use Rattle.aliasplan.specs.Outcomes.{IsRefused, RefusesBytes}
 
-module _ (limits : Limits) (text : List ℕ) where
+module _ (limits : Limits) (text : List ℕ) (size : length text ≤ limits.bytes) where
   -- a text that is no job
   pub refuses_text : (fault : RunFault) → Fails fault (job_of text) → RefusesBytes limits text fault
-  refuses_text (BadJob line) h = h
-  refuses_text (BadSetting line) h = h
-  refuses_text (BadEnvelope line) h = h
+  refuses_text (BadJob line) h = record { size = size; read = h }
+  refuses_text (BadSetting line) h = record { size = size; read = h }
+  refuses_text (BadEnvelope line) h = record { size = size; read = h }
   refuses_text Memory h = tt
   refuses_text Read h = absurd (fault_of_job text Read h)
   refuses_text TooLong h = absurd (fault_of_job text TooLong h)
@@ -31,30 +31,7 @@ module _ (limits : Limits) (text : List ℕ) where
   refuses_job job is Memory h = tt
   refuses_job job is Read h = absurd h
   refuses_job job is TooLong h = absurd h
-  refuses_job job is TooManyNames h = (job, is, h)
-  refuses_job job is TooManyOwners h = (job, is, h)
-  refuses_job job is TooManyPairs h = (job, is, h)
+  refuses_job job is TooManyNames h = record { size = size; job = job; read = is; refused = h }
+  refuses_job job is TooManyOwners h = record { size = size; job = job; read = is; refused = h }
+  refuses_job job is TooManyPairs h = record { size = size; job = job; read = is; refused = h }
   refuses_job job is Write h = absurd h
-
-  -- what a run refuses because of the bytes that it read
-  pub refuses_run : (fault : RunFault) → RefusesBytes limits text fault → Refuses limits text fault
-  refuses_run (BadJob line) h = h
-  refuses_run (BadSetting line) h = h
-  refuses_run (BadEnvelope line) h = h
-  refuses_run Memory h = tt
-  refuses_run Read h = absurd h
-  refuses_run TooLong h = absurd h
-  refuses_run TooManyNames h = h
-  refuses_run TooManyOwners h = h
-  refuses_run TooManyPairs h = h
-  refuses_run Write h = absurd h
-
-  -- it isn't a fault of reading or writing
-  pub not_read : (fault : RunFault) → RefusesBytes limits text fault → fault ≢ Read
-  not_read fault h e = subst (RefusesBytes limits text) e h
-
-  pub not_write : (fault : RunFault) → RefusesBytes limits text fault → fault ≢ Write
-  not_write fault h e = subst (RefusesBytes limits text) e h
-
-  pub not_long : (fault : RunFault) → RefusesBytes limits text fault → fault ≢ TooLong
-  not_long fault h e = subst (RefusesBytes limits text) e h

@@ -1,5 +1,6 @@
 pub mod Bytes
 pub mod Members
+pub mod OnePath
 pub mod PartFacts
 pub mod SetFacts
 pub mod RecipientFacts

@@ -1,12 +1,12 @@
 -- Addresses in the order of their paths: what a sort and the removal of repeats leave.
-use Rattle.std.proofs.Common.{◌≡◌, ◌⊎◌, ℕ, ◌+◌, ◌<◌, Bool, true, ◌&&◌, List, [], ◌∷◌, ◌++◌, length, get_or, drop, map, refl, sym, ap, subst, ◌∙◌, arith, inl, inr}
+use Rattle.std.proofs.Common.{◌≡◌, ◌⊎◌, ℕ, ◌+◌, ◌<◌, Bool, true, ◌&&◌, List, [], ◌∷◌, ◌++◌, length, get_or, drop, refl, sym, ap, subst, ◌∙◌, arith, inl, inr}
 use Rattle.std.specs.Prelude.{IsTrue, Contains, ◌↔◌, Some, nat_eq}
 use Rattle.std.specs.Cmp.{IsTotalOrder}
 use Rattle.std.specs.List.{AllByRecursion, dedup}
 use Rattle.std.specs.List.Sorted.{IsSorted, IsPermutation, IsStrictlySortedBy}
 use Rattle.std.specs.declared.cmp.Ordering.{Ordering}
 use Rattle.std.specs.declared.cmp.Ordering.TheVariants.{Less, Equal, Greater}
-use Rattle.std.specs.Ordering.{nat_cmp, ordering_then, ordering_reverse, match_ordering, is_eq, MatchOrdering, eq_by_cmp}
+use Rattle.std.specs.Ordering.{nat_cmp, ordering_then, ordering_reverse, match_ordering, is_eq, MatchOrdering}
 use Rattle.std.specs.Cmp.Lexicographic.{slice_cmp, pointwise}
 use Rattle.std.specs.BTreeSet.{insert_key}
 use Rattle.std.proofs.lemmas.Cmp.{on_total, nat_list_cmp_total, tied_itself, ranked}
@@ -15,17 +15,17 @@ use Rattle.std.proofs.lemmas.List.Elements.{Contains-push, Contains-push_cases, 
 use Rattle.std.proofs.lemmas.List.Kept.{IsStrictlySortedBy-dedup, Any-dedup, Contains-from_dedup}
 use Rattle.std.proofs.lemmas.List.Sorted.{Contains-permutation, IsPermutation-sym}
 use Rattle.std.proofs.lemmas.Map.Keys.{Less-from_sorted}
-use Rattle.std.proofs.lemmas.Map.Lookups.{exact_bytes, exact_unsigned}
+use Rattle.std.proofs.lemmas.Map.Lookups.{exact_bytes}
 use Rattle.relay_text.specs.AddressParts.{AddressParts}
 use Rattle.relay_text.specs.Addresses.{is_address, path_text_of}
 use Rattle.relay_text.specs.TextSets.{IsAscendingBy, text_cmp}
-use Rattle.relay_text.proofs.Paths.{same_address}
 use Rattle.aliasplan.specs.declared.written_address.WrittenAddress.{WrittenAddress}
 use Rattle.aliasplan.specs.contracts.written_address.WrittenAddressEq.TheImpl.Laws.{laws-law}
 use Rattle.aliasplan.specs.contracts.written_address.WrittenAddressOrd.TheImpl.Laws.{total-law, matches_eq-law}
 use Rattle.aliasplan.specs.RecipientLists.{addresses_of, in_path_order}
 use Rattle.aliasplan.specs.Plans.{path_cmp}
 use Rattle.aliasplan.proofs.Members.{In, in_from, contains_in, in_map, in_from_map, Contains-map, Contains-from_map}
+use Rattle.aliasplan.proofs.OnePath.{OnePath}
 use Rattle.aliasplan.proofs.PathFronts.{front_ascends}
 
 abbrev IsValid : AddressParts → Type 0
@@ -34,8 +34,8 @@ IsValid a = IsTrue (is_address a)
 path_total : IsTotalOrder path_cmp
 path_total = on_total (λ (a : AddressParts). path_text_of (Some a)) nat_list_cmp_total
 
-same : (a b : AddressParts) → IsValid a → IsValid b → path_cmp a b ≡ Equal → a ≡ b
-same a b good fine e = same_address a b good fine (exact_bytes _ _ e)
+same : OnePath → (a b : AddressParts) → IsValid a → IsValid b → path_cmp a b ≡ Equal → a ≡ b
+same one a b good fine e = one a b good fine (exact_bytes _ _ e)
 
 all_at : (P : AddressParts → Type 0) (xs : List AddressParts) (x : AddressParts) → AllByRecursion P xs → In xs x → P x
 all_at P [] x h has = absurd (elim has [ ])
@@ -64,16 +64,16 @@ module _ (a : AddressParts) where
     at Equal e later = s
     at Greater e later = (all_insert (λ y. path_cmp b y ≡ Less) (path_total.antisymm b a ∙ ap ordering_reverse e) bs s.0, later)
 
-  in_insert : IsValid a → (bs : List AddressParts) → AllByRecursion IsValid bs → (x : AddressParts) → In bs x ⊎ (a ≡ x) → In (insert_key path_cmp bs a) x
-  in_insert good [] h x (inl none) = elim none [ ]
-  in_insert good [] h x (inr new) = inl new
-  in_insert good (b ∷ bs) h x either = at (path_cmp a b) refl either (in_insert good bs h.1 x) where
+  in_insert : OnePath → IsValid a → (bs : List AddressParts) → AllByRecursion IsValid bs → (x : AddressParts) → In bs x ⊎ (a ≡ x) → In (insert_key path_cmp bs a) x
+  in_insert one good [] h x (inl none) = elim none [ ]
+  in_insert one good [] h x (inr new) = inl new
+  in_insert one good (b ∷ bs) h x either = at (path_cmp a b) refl either (in_insert one good bs h.1 x) where
     at : (o : Ordering) → path_cmp a b ≡ o → ((b ≡ x) ⊎ In bs x) ⊎ (a ≡ x) → (In bs x ⊎ (a ≡ x) → In (insert_key path_cmp bs a) x)
         → In (match_ordering o (a ∷ b ∷ bs) (b ∷ bs) (b ∷ insert_key path_cmp bs a)) x
     at Less e (inl old) later = inr old
     at Less e (inr new) later = inl new
     at Equal e (inl old) later = old
-    at Equal e (inr new) later = inl (sym (same a b good h.0 e) ∙ new)
+    at Equal e (inr new) later = inl (sym (same one a b good h.0 e) ∙ new)
     at Greater e (inl (inl here)) later = inl here
     at Greater e (inl (inr there)) later = inr (later (inl there))
     at Greater e (inr new) later = inr (later (inr new))
@@ -100,9 +100,9 @@ unfolding IsStrictlySortedBy
 sorted_in_order [] = tt
 sorted_in_order (a ∷ xs) = sorted_insert a (in_path_order xs) (sorted_in_order xs)
 
-in_order : (xs : List AddressParts) → AllByRecursion IsValid xs → (x : AddressParts) → In xs x → In (in_path_order xs) x
-in_order [] h x has = has
-in_order (a ∷ xs) h x has = in_insert a h.0 (in_path_order xs) (valid_in_order xs h.1) x (elim has [ inl here ↦ inr here | inr later ↦ inl (in_order xs h.1 x later) ])
+in_order : OnePath → (xs : List AddressParts) → AllByRecursion IsValid xs → (x : AddressParts) → In xs x → In (in_path_order xs) x
+in_order one [] h x has = has
+in_order one (a ∷ xs) h x has = in_insert a one h.0 (in_path_order xs) (valid_in_order xs h.1) x (elim has [ inl here ↦ inr here | inr later ↦ inl (in_order one xs h.1 x later) ])
 
 in_from_order : (xs : List AddressParts) (x : AddressParts) → In (in_path_order xs) x → In xs x
 in_from_order [] x has = has
@@ -145,14 +145,14 @@ equal Less e = cc
 equal Equal e = refl
 equal Greater e = cc
 
-path_tied : (w v : WrittenAddress) → slice_cmp nat_cmp w.path.items v.path.items ≡ Equal → w.address ≡ v.address
-path_tied w v e = same_address w.address v.address w.valid v.valid (sym w.path_of_address ∙ exact_bytes _ _ e ∙ v.path_of_address)
+path_tied : OnePath → (w v : WrittenAddress) → slice_cmp nat_cmp w.path.items v.path.items ≡ Equal → w.address ≡ v.address
+path_tied one w v e = one w.address v.address w.valid v.valid (sym w.path_of_address ∙ exact_bytes _ _ e ∙ v.path_of_address)
 
-tied : (w v : WrittenAddress) → written_cmp w v ≡ Equal → w.address ≡ v.address
-tied w v e = at (nat_cmp w.front v.front) e where
+tied : OnePath → (w v : WrittenAddress) → written_cmp w v ≡ Equal → w.address ≡ v.address
+tied one w v e = at (nat_cmp w.front v.front) e where
   at : (o : Ordering) → ordering_then o (slice_cmp nat_cmp w.path.items v.path.items) ≡ Equal → w.address ≡ v.address
   at Less e = cc
-  at Equal e = path_tied w v e
+  at Equal e = path_tied one w v e
   at Greater e = cc
 
 path_below : (w v : WrittenAddress) → text_cmp w.path.items v.path.items ≡ Less → path_cmp w.address v.address ≡ Less
@@ -192,16 +192,16 @@ written_ascend (w ∷ ws) s = (above ws s.0, written_ascend ws s.1) where
 abbrev same_written : WrittenAddress → WrittenAddress → Bool
 same_written w v = nat_eq w.front v.front && pointwise nat_eq w.path.items v.path.items
 
-pub members-push : (ws vs : List WrittenAddress) (w : WrittenAddress) → vs ≡ ws ++ w ∷ [] → (x : AddressParts) → Contains (in_path_order (addresses_of vs)) x ↔ (Contains (in_path_order (addresses_of ws)) x ⊎ (w.address ≡ x))
-members-push ws vs w is x = (
+pub members-push : OnePath → (ws vs : List WrittenAddress) (w : WrittenAddress) → vs ≡ ws ++ w ∷ [] → (x : AddressParts) → Contains (in_path_order (addresses_of vs)) x ↔ (Contains (in_path_order (addresses_of ws)) x ⊎ (w.address ≡ x))
+members-push one ws vs w is x = (
   λ has.
       let among = Contains-from_map (λ (v : WrittenAddress). v.address) vs x (contains_in (addresses_of vs) x (in_from_order (addresses_of vs) x (in_from _ x has))) in
       elim (Contains-push_cases ws w among.0 (subst (λ us. Contains us among.0) is among.1)) [
-        | inl old ↦ inl (contains_in _ x (in_order (addresses_of ws) (valid_all ws) x (in_from _ x (subst (Contains (addresses_of ws)) among.2 (Contains-map (λ (v : WrittenAddress). v.address) ws among.0 old)))))
+        | inl old ↦ inl (contains_in _ x (in_order one (addresses_of ws) (valid_all ws) x (in_from _ x (subst (Contains (addresses_of ws)) among.2 (Contains-map (λ (v : WrittenAddress). v.address) ws among.0 old)))))
         | inr new ↦ inr (ap (λ (v : WrittenAddress). v.address) new ∙ among.2)
       ],
   λ either.
-      contains_in _ x (in_order (addresses_of vs) (valid_all vs) x (in_from _ x (subst (λ us. Contains (addresses_of us) x) (sym is) (elim either [
+      contains_in _ x (in_order one (addresses_of vs) (valid_all vs) x (in_from _ x (subst (λ us. Contains (addresses_of us) x) (sym is) (elim either [
         | inl old ↦
             let among = Contains-from_map (λ (v : WrittenAddress). v.address) ws x (contains_in (addresses_of ws) x (in_from_order (addresses_of ws) x (in_from _ x old))) in
             subst (Contains (addresses_of (ws ++ w ∷ []))) among.2 (Contains-map (λ (v : WrittenAddress). v.address) (ws ++ w ∷ []) among.0 (Contains-append_left ws (w ∷ []) among.0 among.1))
@@ -212,15 +212,15 @@ members-push ws vs w is x = (
 pub ascending : (xs : List AddressParts) → IsAscendingBy path_cmp (in_path_order xs)
 ascending xs = λ i j d before inside. Less-from_sorted path_cmp (in_path_order xs) i j d (sorted_in_order xs) before inside
 
-pub in_order-some : (ws : List WrittenAddress) → 0 < length ws → 0 < length (in_path_order (addresses_of ws))
-in_order-some [] some = some
-in_order-some (w ∷ ws) some =
-    let has = contains_in _ w.address (in_order (addresses_of (w ∷ ws)) (valid_all (w ∷ ws)) w.address (inl refl)) in
+pub in_order-some : OnePath → (ws : List WrittenAddress) → 0 < length ws → 0 < length (in_path_order (addresses_of ws))
+in_order-some one [] some = some
+in_order-some one (w ∷ ws) some =
+    let has = contains_in _ w.address (in_order one (addresses_of (w ∷ ws)) (valid_all (w ∷ ws)) w.address (inl refl)) in
     omega (arith, has.1)
 
 -- a sort and the removal of repeats leave the addresses in the order of their paths, each once
-pub sorted_once : (gathered sorted kept : List WrittenAddress) → IsPermutation gathered sorted → IsSorted written_cmp sorted → kept ≡ dedup same_written sorted → addresses_of kept ≡ in_path_order (addresses_of gathered)
-sorted_once gathered sorted kept moved up is =
+pub sorted_once : OnePath → (gathered sorted kept : List WrittenAddress) → IsPermutation gathered sorted → IsSorted written_cmp sorted → kept ≡ dedup same_written sorted → addresses_of kept ≡ in_path_order (addresses_of gathered)
+sorted_once one gathered sorted kept moved up is =
     one_order (addresses_of kept) (in_path_order (addresses_of gathered))
     (written_ascend kept (subst (IsStrictlySortedBy written_cmp) (sym is) (IsStrictlySortedBy-dedup total-law matches_eq-law sorted up)))
     (sorted_in_order (addresses_of gathered)) there back where
@@ -230,7 +230,7 @@ sorted_once gathered sorted kept moved up is =
           let w = among.0 in
           let found : Contains sorted w = Contains-from_dedup same_written sorted w (subst (λ ws. Contains ws w) is (contains_in kept w among.1)) in
           let old : Contains gathered w = Contains-permutation sorted gathered w (IsPermutation-sym gathered sorted moved) found in
-          in_order (addresses_of gathered) (valid_all gathered) z (subst (In (addresses_of gathered)) among.2 (in_map (λ (v : WrittenAddress). v.address) gathered w (in_from gathered w old)))
+          in_order one (addresses_of gathered) (valid_all gathered) z (subst (In (addresses_of gathered)) among.2 (in_map (λ (v : WrittenAddress). v.address) gathered w (in_from gathered w old)))
 
       back : (z : AddressParts) → In (in_path_order (addresses_of gathered)) z → In (addresses_of kept) z
       back z has =
@@ -240,5 +240,5 @@ sorted_once gathered sorted kept moved up is =
           let alike = Any-dedup laws-law sorted w found in
           let v = alike.1 in
           let here : Contains kept v = subst (λ ws. Contains ws v) (sym is) (alike.0, alike.2, alike.3) in
-          let one : w.address ≡ v.address = tied w v (equal (written_cmp w v) (sym (matches_eq-law w v) ∙ alike.4)) in
-          subst (In (addresses_of kept)) (sym one ∙ among.2) (in_map (λ (u : WrittenAddress). u.address) kept v (in_from kept v here))
+          let same_one : w.address ≡ v.address = tied one w v (equal (written_cmp w v) (sym (matches_eq-law w v) ∙ alike.4)) in
+          subst (In (addresses_of kept)) (sym same_one ∙ among.2) (in_map (λ (u : WrittenAddress). u.address) kept v (in_from kept v here))

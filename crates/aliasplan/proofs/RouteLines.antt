@@ -27,16 +27,16 @@ use Rattle.aliasplan.specs.Lanes.{IsLineAt, IsLineOfNode}
 use Rattle.aliasplan.specs.Gathering.{HaveLine}
 
 -- a line that is added is a line of the report
-line_added : (q line : List ℕ) (old new : Bool) → new ≡ (bytes_eq q line || old) → IsTrue new ↔ (IsTrue old ⊎ (q ≡ line))
+line_added : (q line : List ℕ) (old new : Bool) → new ≡ (old || bytes_eq q line) → IsTrue new ↔ (IsTrue old ⊎ (q ≡ line))
 line_added q line old new e = (
-  λ h. elim (or_cases (bytes_eq q line) old (sym e ∙ h)) [ inl here ↦ inr ((bytes_eq-Decides q line).0 here) | inr there ↦ inl there ],
-  λ either. e ∙ elim either [ inl there ↦ or_right (bytes_eq q line) old there | inr here ↦ or_left (bytes_eq q line) old ((bytes_eq-Decides q line).1 here) ],
+  λ h. elim (or_cases old (bytes_eq q line) (sym e ∙ h)) [ inl there ↦ inl there | inr here ↦ inr ((bytes_eq-Decides q line).0 here) ],
+  λ either. e ∙ elim either [ inl there ↦ or_left old (bytes_eq q line) there | inr here ↦ or_right old (bytes_eq q line) ((bytes_eq-Decides q line).1 here) ],
 )
 
 same_reason : (r s : Reason) → Some r ≡ Some s → r ≡ s
 same_reason r s e = cc
 
-pub unrouted_added : (cause : Unrouted) (reason : Reason) (copy address : AddressParts) (q : List ℕ) (old new : Bool) → copy ≡ address → Some reason ≡ reason_of cause → new ≡ (bytes_eq q (finding_text_of (UnroutedFinding copy reason)) || old) → IsTrue new ↔ (IsTrue old ⊎ IsLineAt (Err cause) address q)
+pub unrouted_added : (cause : Unrouted) (reason : Reason) (copy address : AddressParts) (q : List ℕ) (old new : Bool) → copy ≡ address → Some reason ≡ reason_of cause → new ≡ (old || bytes_eq q (finding_text_of (UnroutedFinding copy reason))) → IsTrue new ↔ (IsTrue old ⊎ IsLineAt (Err cause) address q)
 unrouted_added cause reason copy address q old new same is e =
     let line : AddressParts → List ℕ = λ a. finding_text_of (UnroutedFinding a reason) in
     let added = line_added q (line copy) old new e in (

@@ -17,8 +17,6 @@ use Rattle.std.proofs.lemmas.Option.{unwrap_or-slice_get}
 use Rattle.relay_text.specs.AddressParts.{AddressParts}
 use Rattle.relay_text.specs.Addresses.{path_text_of}
 use Rattle.relay_text.specs.TextSets.{IsAscendingBy, text_cmp}
-use Rattle.relay_text.proofs.Paths.{same_address}
-use Rattle.relay_text.proofs.TextSets.{vec_cmp}
 use Rattle.relay_routes.specs.declared.transport.Transport.{Transport}
 use Rattle.relay_routes.specs.declared.transport.Transport.TheVariants.{Smtp, Relay, Lmtp}
 use Rattle.relay_tables.specs.Senders.{Sender}
@@ -30,16 +28,18 @@ use Rattle.aliasplan.specs.Gathering.{IsStopUnder, HasStopUnder}
 use Rattle.aliasplan.specs.SenderOrder.{IsSender, sender_at, sender_cmp, IsUnderSenderPath}
 use Rattle.aliasplan.proofs.Members.{In, in_from, contains_in}
 use Rattle.aliasplan.proofs.GatherFacts.{Some_has, some_push, some_from_push}
+use Rattle.aliasplan.proofs.OnePath.{OnePath}
+use Rattle.aliasplan.proofs.StopFacts.{vec_cmp}
 
 -- ---- paths tell senders apart
 long_path : (a : AddressParts) → 2 < length (path_text_of (Some a))
 long_path a = simp length-append (omega arith)
 
-pub same_sender : (s t : Sender) → IsSender s → IsSender t → path_text_of s ≡ path_text_of t → s ≡ t
-same_sender None None good_s good_t same = refl
-same_sender None (Some b) good_s good_t same = absurd (omega (arith, long_path b, ap length same))
-same_sender (Some a) None good_s good_t same = absurd (omega (arith, long_path a, ap length same))
-same_sender (Some a) (Some b) good_s good_t same = ap (λ x. Some x) (same_address a b good_s good_t same)
+same_sender : OnePath → (s t : Sender) → IsSender s → IsSender t → path_text_of s ≡ path_text_of t → s ≡ t
+same_sender one None None good_s good_t same = refl
+same_sender one None (Some b) good_s good_t same = absurd (omega (arith, long_path b, ap length same))
+same_sender one (Some a) None good_s good_t same = absurd (omega (arith, long_path a, ap length same))
+same_sender one (Some a) (Some b) good_s good_t same = ap (λ x. Some x) (one a b good_s good_t same)
 
 -- ---- a map after an insert at a new key
 module _ {Z V : Type 0} (k : Vec ℕ Z) (v : V) where
@@ -114,23 +114,23 @@ module _ {Z : Type 0} (g : GraphParts) where
       (record { below = omega (arith, here.below, more); path = here.path; valid = here.valid }, paths_within es m n more h.1)
 
   -- a sender's number past those of the others has another path
-  fresh_path : AllPairs (λ s t. s ≢ t) g.senders → (k : Vec ℕ Z) (x : SenderLanes) (m : ℕ) → x.sender ≡ m → x.sender < length g.senders → k.items ≡ path_text_of (sender_at g x.sender) → IsSender (sender_at g x.sender)
+  fresh_path : OnePath → AllPairs (λ s t. s ≢ t) g.senders → (k : Vec ℕ Z) (x : SenderLanes) (m : ℕ) → x.sender ≡ m → x.sender < length g.senders → k.items ≡ path_text_of (sender_at g x.sender) → IsSender (sender_at g x.sender)
       → (es : Entries Z) → AllByRecursion (IsUnderSenderPath g m) es → AllByRecursion (λ e. e.0.items ≢ k.items) es
-  fresh_path distinct k x m numbered inside path valid [] h = tt
-  fresh_path distinct k x m numbered inside path valid (e ∷ es) h =
+  fresh_path one distinct k x m numbered inside path valid [] h = tt
+  fresh_path one distinct k x m numbered inside path valid (e ∷ es) h =
       let here = h.0 in
       let at : (s : ℕ) → sender_at g s ≡ get_or g.senders s None = λ s. unwrap_or-slice_get g.senders s None in
       let apart : e.0.items ≢ k.items =
       λ same.
-      let one = same_sender (sender_at g e.1.sender) (sender_at g x.sender) here.valid valid (sym here.path ∙ same ∙ path) in
-      distinct e.1.sender x.sender None (omega (arith, here.below, numbered)) inside (sym (at e.1.sender) ∙ one ∙ at x.sender) in
-      (apart, fresh_path distinct k x m numbered inside path valid es h.1)
+      let alike = same_sender one (sender_at g e.1.sender) (sender_at g x.sender) here.valid valid (sym here.path ∙ same ∙ path) in
+      distinct e.1.sender x.sender None (omega (arith, here.below, numbered)) inside (sym (at e.1.sender) ∙ alike ∙ at x.sender) in
+      (apart, fresh_path one distinct k x m numbered inside path valid es h.1)
 
-  pub put_more : AllPairs (λ s t. s ≢ t) g.senders → (es after : Entries Z) (done : List SenderLanes) (k : Vec ℕ Z) (x : SenderLanes) → AreByPath g es done
+  pub put_more : OnePath → AllPairs (λ s t. s ≢ t) g.senders → (es after : Entries Z) (done : List SenderLanes) (k : Vec ℕ Z) (x : SenderLanes) → AreByPath g es done
       → x.sender ≡ length done → x.sender < length g.senders → k.items ≡ path_text_of (sender_at g x.sender) → IsSender (sender_at g x.sender) → after ≡ insert_entry vec_cmp es k x
       → AreByPath g after (done ++ x ∷ [])
-  put_more distinct es after done k x old numbered inside path valid is =
-      let fresh = fresh_path distinct k x (length done) numbered inside path valid es old.paths in
+  put_more one distinct es after done k x old numbered inside path valid is =
+      let fresh = fresh_path one distinct k x (length done) numbered inside path valid es old.paths in
       let n = length (done ++ x ∷ []) in
       let more : length done < n = omega (arith, length_push done x) in
       let Q : Entries Z → Type 0 = λ entries. AreByPath g entries (done ++ x ∷ []) in

@@ -1,5 +1,5 @@
 -- What a job's include files are.
-use Rattle.std.proofs.Common.{◌≡◌, Bool, true, ◌&&◌, List, [], ◌∷◌, ℕ, map, refl, subst, sym}
+use Rattle.std.proofs.Common.{List, [], ◌∷◌, ℕ, map, refl}
 use Rattle.std.specs.Prelude.{IsTrue}
 use Rattle.std.specs.List.{list_all}
 use Rattle.relay_aliasfile.specs.IncludeFiles.{include_file_of}

@@ -23,7 +23,9 @@ use Rattle.relay_text.specs.TextSets.{IsAscendingBy, text_cmp}
 use Rattle.aliasplan.specs.Stops.{Stop, stops_of, GoesTo, HasNexthop}
 use Rattle.aliasplan.specs.Lanes.{stop_cmp, stops_by, HasStop, lane_of, lanes_of, lane_cmp}
 use Rattle.aliasplan.proofs.Members.{In, in_from, contains_in, Contains-map, Contains-from_map}
-use Rattle.relay_text.proofs.TextSets.{vec_cmp}
+
+abbrev pub vec_cmp : {Z : Type 0} → Vec ℕ Z → Vec ℕ Z → Ordering
+vec_cmp k l = text_cmp k.items l.items
 
 abbrev pub Entries : Type 0 → Type 0
 Entries Z = List (Vec ℕ Z × List AddressParts)

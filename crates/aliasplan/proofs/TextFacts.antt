@@ -1,6 +1,6 @@
 -- The lines of the report that are of files and tables at fault.
-use Rattle.std.proofs.Common.{◌≡◌, ◌⊎◌, ℕ, Bool, true, ◌||◌, List, [], ◌∷◌, map, refl, sym, ap, ◌∙◌, subst, inl, inr}
-use Rattle.std.specs.Prelude.{IsTrue, Contains, ◌↔◌}
+use Rattle.std.proofs.Common.{◌≡◌, ℕ, Bool, true, ◌||◌, List, [], ◌∷◌, map, refl, sym, ap, ◌∙◌, inl, inr}
+use Rattle.std.specs.Prelude.{IsTrue, ◌↔◌}
 use Rattle.std.specs.List.{list_any}
 use Rattle.std.specs.Str.{bytes_eq}
 use Rattle.std.proofs.lemmas.Bool.{or_cases, or_left, or_right, true≢false}
@@ -20,9 +20,9 @@ use Rattle.relay_job.specs.declared.job.Job.{Job}
 use Rattle.relay_job.specs.declared.job.JobInclude.{JobInclude}
 use Rattle.aliasplan.specs.declared.source.Source.TheVariants as sources
 use Rattle.aliasplan.specs.declared.table.Table.TheVariants as tables
-use Rattle.aliasplan.specs.Report.{word_of, table_word_of, file_words, table_words, Part, texts, part_of, IsFinding, IsLineOf}
+use Rattle.aliasplan.specs.Report.{word_of, table_word_of, file_words, table_words, texts, part_of, IsFinding, IsLineOf}
 use Rattle.aliasplan.specs.Lanes.{table_line}
-use Rattle.aliasplan.specs.Texts.{source_line, include_line, has_include_line, is_table_line, has_fault_line}
+use Rattle.aliasplan.specs.Texts.{source_line, has_include_line, has_fault_line}
 use Rattle.aliasplan.proofs.Members.{In, in_from, contains_in}
 
 -- faults by their numbers and words, and the lines that report them

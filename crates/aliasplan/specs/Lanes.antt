@@ -1,11 +1,8 @@
 -- Addresses by transport and nexthop, and the lines of the findings, as targets are gathered.
-use Rattle.std.specs.Prelude.{◌≡◌, ℕ, ◌<◌, Bool, ◌||◌, List, [], ◌++◌, length, map, Contains, Some, Result, Ok, Err}
-use Rattle.std.specs.List.{list_any}
-use Rattle.std.specs.Str.{bytes_eq}
+use Rattle.std.specs.Prelude.{◌≡◌, ℕ, ◌<◌, List, [], ◌++◌, length, map, Contains, Some, Result, Ok, Err}
 use Rattle.std.specs.declared.cmp.Ordering.{Ordering}
 use Rattle.std.specs.Ordering.{ordering_then}
 use Rattle.relay_text.specs.AddressParts.{AddressParts}
-use Rattle.relay_aliasfile.specs.declared.fault.LineFault.{LineFault}
 use Rattle.relay_routes.specs.declared.fault.LineFault.{LineFault as TableLineFault}
 use Rattle.relay_routes.specs.declared.transport.Transport.{Transport}
 use Rattle.relay_routes.specs.declared.transport.Transport.TheVariants.{Smtp, Relay, Lmtp}
@@ -16,7 +13,7 @@ use Rattle.relay_routes.specs.Routing.{Routing}
 use Rattle.relay_routes.specs.Routes.{route_to, route_of, route_via_of}
 use Rattle.relay_wire.specs.declared.finding.Reason.{Reason}
 use Rattle.relay_wire.specs.declared.finding.Finding.{Finding}
-use Rattle.relay_wire.specs.declared.finding.Finding.TheVariants.{Unrouted as UnroutedFinding, Mailboxes, Mx as MxLine, Transport as TransportLine}
+use Rattle.relay_wire.specs.declared.finding.Finding.TheVariants.{Unrouted as UnroutedFinding, Mx as MxLine, Transport as TransportLine}
 use Rattle.relay_wire.specs.Findings.{finding_text_of}
 use Rattle.relay_wire.specs.declared.plan.Planned.{Planned}
 use Rattle.relay_job.specs.declared.job.Job.{Job}
@@ -28,7 +25,7 @@ use Rattle.relay_tables.specs.Senders.{Sender}
 use Rattle.aliasplan.specs.declared.lane.Lane.{Lane}
 use Rattle.aliasplan.specs.declared.lanes.Lanes.{Lanes}
 use Rattle.aliasplan.specs.Delivery.{routing_of}
-use Rattle.aliasplan.specs.Report.{word_of, table_word_of, reason_of}
+use Rattle.aliasplan.specs.Report.{table_word_of, reason_of}
 use Rattle.aliasplan.specs.Plans.{Group, path_cmp}
 use Rattle.relay_text.specs.TextSets.{text_cmp, IsAscendingBy}
 use Rattle.aliasplan.specs.Stops.{Stop, GoesTo, HasNexthop}
@@ -84,22 +81,12 @@ abbrev pub IsLineAt : Result Route Unrouted → AddressParts → List ℕ → Ty
 IsLineAt (Ok route) address line = ⊥
 IsLineAt (Err cause) address line = (reason : Reason) × (reason_of cause ≡ Some reason) × (line ≡ finding_text_of (UnroutedFinding address reason))
 
-abbrev pub fault_line : LineFault → List ℕ
-fault_line fault = finding_text_of (Mailboxes fault.line (word_of fault.kind))
-
 abbrev pub table_finding : Table → TableLineFault → Finding
 table_finding tables.Transport fault = TransportLine fault.line (table_word_of fault.kind)
 table_finding tables.Mx fault = MxLine fault.line (table_word_of fault.kind)
 
 abbrev pub table_line : Table → TableLineFault → List ℕ
 table_line table fault = finding_text_of (table_finding table fault)
-
--- the lines of the mailboxes and the tables that are at fault
-abbrev pub is_fault_line : List LineFault → List TableLineFault → List TableLineFault → List ℕ → Bool
-is_fault_line mailboxes transports exchanges q =
-    list_any (λ f. bytes_eq q (fault_line f)) mailboxes
-    || (list_any (λ f. bytes_eq q (table_line tables.Transport f)) transports
-    || list_any (λ f. bytes_eq q (table_line tables.Mx f)) exchanges)
 
 -- a transport and a nexthop give a route, which is written so
 pub record IsRoutedBy (r : Routing) (transport : Transport) (nexthop : List ℕ) : Type 0 where

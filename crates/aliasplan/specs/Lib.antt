@@ -9,6 +9,7 @@ pub mod Stops
 pub mod Outcomes
 pub mod Transfers
 pub mod Listing
+pub mod Findings
 pub mod Entries
 pub mod Gathering
 pub mod SenderOrder

@@ -1,5 +1,5 @@
 -- What the calls answer, and why they refuse.
-use Rattle.std.specs.Prelude.{◌≡◌, ◌≢◌, ℕ, ◌<◌, ◌≤◌, List, length, take, Option, Result, Ok, Err, ⊤}
+use Rattle.std.specs.Prelude.{◌≡◌, ℕ, ◌<◌, ◌≤◌, List, length, take, Option, Ok, Err, ⊤}
 use Rattle.std.specs.Io.KnownBytes.{Appends}
 use Rattle.relay_tables.specs.Graphs.{nodes_of, owner_count}
 use Rattle.relay_wire.specs.declared.plan.Plan.{Plan}
@@ -75,6 +75,7 @@ pub record Plans (limits : Limits) (form : Form) (input : List ℕ) (old new : O
 
 -- What becomes of a job's bytes: the text of its plan, and its numbers.
 pub record IsAnswer (limits : Limits) (form : Form) (input text : List ℕ) (summary : Summary) : Type 0 where
+  pub size : length input ≤ limits.bytes
   pub job : Job
   pub read : job_of input ≡ Ok job
   pub within : IsWithin limits job
@@ -84,17 +85,26 @@ pub record IsAnswer (limits : Limits) (form : Form) (input text : List ℕ) (sum
   pub summed : summary ≡ summary_of plan
   pub fewest : IsFewest job plan.transactions
 
--- the bytes are a job that is refused
-abbrev pub RefusesJob : Limits → List ℕ → RunFault → Type 0
-RefusesJob limits input fault = (job : Job) × (job_of input ≡ Ok job) × IsRefused limits job fault
+-- the bytes are within the limit, and no job
+pub record RefusesText (limits : Limits) (input : List ℕ) (fault : RunFault) : Type 0 where
+  pub size : length input ≤ limits.bytes
+  pub read : job_of input ≡ Err fault
 
--- A run that refuses because of the bytes that it read. Reading and writing have clauses of their own.
+-- the bytes are within the limit, and a job that is refused
+pub record RefusesJob (limits : Limits) (input : List ℕ) (fault : RunFault) : Type 0 where
+  pub size : length input ≤ limits.bytes
+  pub job : Job
+  pub read : job_of input ≡ Ok job
+  pub refused : IsRefused limits job fault
+
+-- A run that refuses because of the bytes that it read: more than the limit, or within it and at fault. Reading and writing have clauses
+-- of their own.
 abbrev pub Refuses : Limits → List ℕ → RunFault → Type 0
 Refuses limits input Read = ⊤
 Refuses limits input TooLong = limits.bytes < length input
-Refuses limits input (BadJob line) = job_of input ≡ Err (BadJob line)
-Refuses limits input (BadSetting line) = job_of input ≡ Err (BadSetting line)
-Refuses limits input (BadEnvelope line) = job_of input ≡ Err (BadEnvelope line)
+Refuses limits input (BadJob line) = RefusesText limits input (BadJob line)
+Refuses limits input (BadSetting line) = RefusesText limits input (BadSetting line)
+Refuses limits input (BadEnvelope line) = RefusesText limits input (BadEnvelope line)
 Refuses limits input TooManyNames = RefusesJob limits input TooManyNames
 Refuses limits input TooManyOwners = RefusesJob limits input TooManyOwners
 Refuses limits input TooManyPairs = RefusesJob limits input TooManyPairs
@@ -114,10 +124,12 @@ RefusesBytes limits input TooManyOwners = Refuses limits input TooManyOwners
 RefusesBytes limits input TooManyPairs = Refuses limits input TooManyPairs
 RefusesBytes limits input Memory = ⊤
 
--- a failed write leaves a front of the text behind what was there
-pub record WritesFront (form : Form) (input : List ℕ) (old new : Option (List ℕ)) : Type 0 where
+-- A failed write: a plan was due, and a front of its text is written behind what was there.
+pub record WritesFront (limits : Limits) (form : Form) (input : List ℕ) (old new : Option (List ℕ)) : Type 0 where
+  pub size : length input ≤ limits.bytes
   pub job : Job
   pub read : job_of input ≡ Ok job
+  pub within : IsWithin limits job
   pub plan : Plan
   pub planned : IsPlanOf job plan
   pub count : ℕ

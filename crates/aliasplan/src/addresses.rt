@@ -1,9 +1,9 @@
 //! The transactions of the addresses that are reached.
-ghost use Rattle.std.specs.Prelude.{◌≡◌, ◌⊎◌, ◌↔◌, ◌<◌, ℕ, List, IsTrue, IfOk, OnOk};
-ghost use Rattle.relay_text.specs.Bytes.{has_text};
+ghost use Rattle.std.specs.Prelude.{◌≡◌, ◌<◌, IfOk, OnOk};
 ghost use Rattle.relay_routes.specs.declared.transport.Transport as names;
 ghost use Rattle.relay_job.specs.Settings.{limit_of};
 ghost use Rattle.aliasplan.specs.Delivery.{routing_of, IsJobGraph};
+ghost use Rattle.aliasplan.specs.Findings.{Reports};
 ghost use Rattle.aliasplan.specs.Plans.{AreTransactionsOf};
 ghost use Rattle.aliasplan.specs.Reaching.{AreReachedPairs};
 ghost use Rattle.aliasplan.specs.Report.{IsLineOf};
@@ -35,7 +35,7 @@ pub fn plan_addresses(
     requires pairs { AreReachedPairs job.now graph.now pairs.now }
     requires limits { (t : names.Transport) → 0 < limit_of job.now.settings t }
     ensures transactions { IfOk result (λ transactions. AreTransactionsOf job.now transactions.items) }
-    ensures lines { OnOk result ((q : List ℕ) → IsTrue (has_text lines.new q) ↔ (IsTrue (has_text lines.old q) ⊎ IsLineOf job.now routes q)) }
+    ensures lines { OnOk result (Reports lines.old lines.new (IsLineOf job.now routes)) }
 {
     let by_sender = gather_stops(alloc, job, router, graph, pairs, lines)?;
     let order = order_senders(alloc, graph, by_sender)?;

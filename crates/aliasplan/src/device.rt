@@ -1,8 +1,11 @@
 //! Readers and writers that tell whether they have failed or ended.
-ghost use Rattle.std.specs.Prelude.{◌≡◌, ℕ, ◌≤◌, ◌<◌, List, Option, None, Bool, ◌||◌, ◌&&◌, ◌==◌, nat_lt, length, is_err, IfOk, IfErr, OnErr};
+ghost use Rattle.std.specs.Prelude.{◌≡◌, ◌≢◌, ℕ, ◌≤◌, ◌<◌, List, Option, None, Bool, ◌||◌, ◌&&◌, ◌==◌, nat_lt, length, is_err, IfOk, IfErr, OnErr};
+ghost use Rattle.std.specs.Io.{ReadsAtMost, WritesAtMost};
 ghost use Rattle.std.specs.Io.KnownBytes.{ReadConsumes, WriteAppends, Keeps};
+ghost use Rattle.std.specs.IoError.{error_kind};
 
-use std::io::{Read, Write};
+use std::io;
+use std::io::{ErrorKind, Read, Write};
 
 /// A device has failed.
 #[derive(Clone, Copy, Debug, PartialEq, Eq)]
@@ -51,7 +54,37 @@ pub trait Sink {
         ensures { result ≡ has_failed self.now };
 }
 
-/// A reader or a writer of std, with what became of it so far.
+// A read, tried again as long as a signal interrupts it. Only after 2^64 - 1 tries that has failed.
+fn read_again<R: Read>(reader: &mut R, buf: &mut [u8]) -> io::Result<usize>
+    ensures count { ReadsAtMost result buf.new }
+    ensures bytes { ReadConsumes (R.remaining reader.old) (R.remaining reader.new) result buf.new }
+    ensures again { IfErr result (λ error. error_kind error ≢ ErrorKind.Interrupted) }
+{
+    for _ in 0..u64::MAX {
+        match reader.read(buf) {
+            Err(error) if error.kind() == ErrorKind::Interrupted => {}
+            answer => return answer,
+        }
+    }
+    Err(io::Error::from(ErrorKind::TimedOut))
+}
+
+// A write, tried again as long as a signal interrupts it. Only after 2^64 - 1 tries that has failed.
+fn write_again<W: Write>(writer: &mut W, buf: &[u8]) -> io::Result<usize>
+    ensures count { WritesAtMost result buf.now }
+    ensures bytes { WriteAppends (W.contents writer.old) (W.contents writer.new) result buf.now }
+    ensures again { IfErr result (λ error. error_kind error ≢ ErrorKind.Interrupted) }
+{
+    for _ in 0..u64::MAX {
+        match writer.write(buf) {
+            Err(error) if error.kind() == ErrorKind::Interrupted => {}
+            answer => return answer,
+        }
+    }
+    Err(io::Error::from(ErrorKind::TimedOut))
+}
+
+/// A reader or a writer of std, with what became of it so far. A signal that interrupts a read or a write fails neither.
 #[derive(Drop)]
 pub struct Device<T> {
     inner: T,
@@ -82,7 +115,7 @@ impl<T: Read> Feed for Device<T> {
     ghost has_ended = { λ d. d.ended };
 
     fn read(&mut self, buf: &mut [u8]) -> Result<usize, Failed> {
-        match self.inner.read(buf) {
+        match read_again(&mut self.inner, buf) {
             Ok(count) => {
                 if count == 0 && !buf.is_empty() {
                     self.ended = true;
@@ -111,7 +144,7 @@ impl<T: Write> Sink for Device<T> {
     ghost has_failed = { λ d. d.failed };
 
     fn write(&mut self, buf: &[u8]) -> Result<usize, Failed> {
-        match self.inner.write(buf) {
+        match write_again(&mut self.inner, buf) {
             Ok(count) if count > 0 || buf.is_empty() => Ok(count),
             _ => {
                 self.failed = true;

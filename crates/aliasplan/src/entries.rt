@@ -1,6 +1,5 @@
 //! The lines of what entries and recipients lead to and shouldn't.
-ghost use Rattle.std.specs.Prelude.{◌≡◌, ◌⊎◌, ◌↔◌, ◌<◌, ℕ, List, length, All, IsTrue, OnOk};
-ghost use Rattle.relay_text.specs.Bytes.{has_text};
+ghost use Rattle.std.specs.Prelude.{◌≡◌, ◌<◌, length, All, OnOk};
 ghost use Rattle.relay_tables.specs.Graphs.{child_numbers};
 ghost use Rattle.relay_loops.specs.Loops.{AreLoopsOf};
 ghost use Rattle.aliasplan.specs.Delivery.{directory_of, IsJobGraph};
@@ -8,6 +7,7 @@ ghost use Rattle.aliasplan.specs.Reaching.{AreReachedNodes};
 ghost use Rattle.aliasplan.specs.Report.{IsLineOf};
 ghost use Rattle.aliasplan.specs.Report.{entries};
 ghost use Rattle.aliasplan.specs.Listing.{place_at};
+ghost use Rattle.aliasplan.specs.Findings.{Reports};
 ghost use Rattle.aliasplan.specs.Entries.{LeadsWithin, IsLineIn, HaveLine, IsTargetLine, IsListLine, IsNodeLine, IsLoopLine};
 
 use crate::findings::report;
@@ -24,7 +24,7 @@ fn report_any(
     finding: Option<Finding>,
     lines: &mut TextSet,
 ) -> Result<(), AllocError>
-    ensures { OnOk result ((q : List ℕ) → IsTrue (has_text lines.new q) ↔ (IsTrue (has_text lines.old q) ⊎ IsLineIn finding q)) }
+    ensures { OnOk result (Reports lines.old lines.new (IsLineIn finding)) }
 {
     match finding {
         Some(finding) => report(alloc, &finding, lines),
@@ -41,7 +41,7 @@ fn report_target(
     lines: &mut TextSet,
 ) -> Result<(), AllocError>
     requires { target < length graph.now.nodes }
-    ensures { OnOk result ((q : List ℕ) → IsTrue (has_text lines.new q) ↔ (IsTrue (has_text lines.old q) ⊎ IsTargetLine graph.now (place_at listing.entry) target q)) }
+    ensures { OnOk result (Reports lines.old lines.new (IsTargetLine graph.now (place_at listing.entry) target)) }
 {
     let finding = listing.target(alloc, graph.node(target))?;
     report_any(alloc, finding, lines)
@@ -56,7 +56,7 @@ fn report_targets(
     lines: &mut TextSet,
 ) -> Result<(), AllocError>
     requires { All (λ n. n < length graph.now.nodes) targets.now }
-    ensures { OnOk result ((q : List ℕ) → IsTrue (has_text lines.new q) ↔ (IsTrue (has_text lines.old q) ⊎ HaveLine (IsTargetLine graph.now (place_at listing.entry)) targets.now q)) }
+    ensures { OnOk result (Reports lines.old lines.new (HaveLine (IsTargetLine graph.now (place_at listing.entry)) targets.now)) }
 {
     for target in targets {
         report_target(alloc, graph, listing, *target, lines)?;
@@ -73,7 +73,7 @@ fn report_list(
     lines: &mut TextSet,
 ) -> Result<(), AllocError>
     requires { All (λ n. n < length graph.now.nodes) targets.now }
-    ensures { OnOk result ((q : List ℕ) → IsTrue (has_text lines.new q) ↔ (IsTrue (has_text lines.old q) ⊎ IsListLine graph.now (place_at listing.entry) targets.now q)) }
+    ensures { OnOk result (Reports lines.old lines.new (IsListLine graph.now (place_at listing.entry) targets.now)) }
 {
     if targets.is_empty() {
         let finding = listing.empty(alloc)?;
@@ -92,7 +92,7 @@ fn report_node(
 ) -> Result<(), AllocError>
     requires node { node < length graph.now.nodes }
     requires children { All (λ c. c < length graph.now.nodes) (child_numbers graph.now node) }
-    ensures { OnOk result ((q : List ℕ) → IsTrue (has_text lines.new q) ↔ (IsTrue (has_text lines.old q) ⊎ IsNodeLine graph.now tables.now node q)) }
+    ensures { OnOk result (Reports lines.old lines.new (IsNodeLine graph.now tables.now node)) }
 {
     match Listing::of(tables, graph.node(node)) {
         Some(listing) => report_list(alloc, graph, listing, graph.children(node), lines),
@@ -110,7 +110,7 @@ fn report_nodes(
 ) -> Result<(), AllocError>
     requires graph { LeadsWithin graph.now }
     requires nodes { All (λ n. n < length graph.now.nodes) nodes.now }
-    ensures { OnOk result ((q : List ℕ) → IsTrue (has_text lines.new q) ↔ (IsTrue (has_text lines.old q) ⊎ HaveLine (IsNodeLine graph.now tables.now) nodes.now q)) }
+    ensures { OnOk result (Reports lines.old lines.new (HaveLine (IsNodeLine graph.now tables.now) nodes.now)) }
 {
     for node in nodes {
         report_node(alloc, tables, graph, *node, lines)?;
@@ -127,7 +127,7 @@ fn report_loop(
     lines: &mut TextSet,
 ) -> Result<(), AllocError>
     requires { node < length graph.now.nodes }
-    ensures { OnOk result ((q : List ℕ) → IsTrue (has_text lines.new q) ↔ (IsTrue (has_text lines.old q) ⊎ IsLoopLine graph.now tables.now node q)) }
+    ensures { OnOk result (Reports lines.old lines.new (IsLoopLine graph.now tables.now node)) }
 {
     match Listing::of(tables, graph.node(node)) {
         Some(listing) => {
@@ -147,7 +147,7 @@ fn report_loops(
     lines: &mut TextSet,
 ) -> Result<(), AllocError>
     requires { All (λ n. n < length graph.now.nodes) loops.now }
-    ensures { OnOk result ((q : List ℕ) → IsTrue (has_text lines.new q) ↔ (IsTrue (has_text lines.old q) ⊎ HaveLine (IsLoopLine graph.now tables.now) loops.now q)) }
+    ensures { OnOk result (Reports lines.old lines.new (HaveLine (IsLoopLine graph.now tables.now) loops.now)) }
 {
     for node in loops {
         report_loop(alloc, tables, graph, *node, lines)?;
@@ -170,7 +170,7 @@ pub fn report_entries(
     requires graph { IsJobGraph job.now graph.now }
     requires nodes { AreReachedNodes job.now graph.now nodes.now }
     requires loops { AreLoopsOf graph.now nodes.now loops.now }
-    ensures { OnOk result ((q : List ℕ) → IsTrue (has_text lines.new q) ↔ (IsTrue (has_text lines.old q) ⊎ IsLineOf job.now entries q)) }
+    ensures { OnOk result (Reports lines.old lines.new (IsLineOf job.now entries)) }
 {
     let _ = job;
     report_targets(alloc, graph, Listing::Envelope, graph.roots(), lines)?;

@@ -1,8 +1,8 @@
 //! The lines that a plan reports.
-ghost use Rattle.std.specs.Prelude.{◌≡◌, ◌||◌, ℕ, List, OnOk};
+ghost use Rattle.std.specs.Prelude.{◌≡◌, OnOk};
 ghost use Rattle.std.specs.Str.{bytes_eq};
-ghost use Rattle.relay_text.specs.Bytes.{has_text};
 ghost use Rattle.relay_wire.specs.Findings.{finding_text_of};
+ghost use Rattle.aliasplan.specs.Findings.{ReportsWhere};
 ghost use Rattle.aliasplan.specs.Report.{reason_of};
 
 use relay_routes::Unrouted;
@@ -13,7 +13,7 @@ use std::alloc::{AllocError, Global};
 
 /// Adds the line of a finding.
 pub fn report(alloc: Global, finding: &Finding, lines: &mut TextSet) -> Result<(), AllocError>
-    ensures { OnOk result ((q : List ℕ) → has_text lines.new q ≡ (bytes_eq q (finding_text_of finding.now) || has_text lines.old q)) }
+    ensures { OnOk result (ReportsWhere lines.old lines.new (λ q. bytes_eq q (finding_text_of finding.now))) }
 {
     let line = finding_line(alloc, finding)?;
     lines.insert(line.into_bytes())?;

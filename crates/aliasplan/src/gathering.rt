@@ -1,10 +1,10 @@
 //! What the pairs that are reached lead to.
-ghost use Rattle.std.specs.Prelude.{◌≡◌, ◌⊎◌, ◌↔◌, ◌<◌, ◌≤◌, ◌^◌, ℕ, List, All, Err, length, IsTrue, IfOk, OnOk};
+ghost use Rattle.std.specs.Prelude.{◌≡◌, ◌⊎◌, ◌↔◌, ◌<◌, ◌≤◌, ◌^◌, ℕ, List, All, Err, length, IfOk, OnOk};
 ghost use Rattle.relay_text.specs.AddressParts.{AddressParts};
-ghost use Rattle.relay_text.specs.Bytes.{has_text};
 ghost use Rattle.relay_routes.specs.declared.transport.Transport as kinds;
 ghost use Rattle.relay_routes.specs.Routes.{route_to};
 ghost use Rattle.aliasplan.specs.Delivery.{routing_of};
+ghost use Rattle.aliasplan.specs.Findings.{Reports};
 ghost use Rattle.aliasplan.specs.Lanes.{HasStop, NoStops, AreStopsRouted, IsStopAt, IsLineAt, IsStopOf, IsLineOfNode};
 ghost use Rattle.aliasplan.specs.Gathering.{route_by_found, AreNumbered, HasStopUnder, HaveStop, HaveLine};
 
@@ -56,7 +56,7 @@ fn add_unrouted(
     address: &Address,
     lines: &mut TextSet,
 ) -> Result<(), AllocError>
-    ensures lines { OnOk result ((q : List ℕ) → IsTrue (has_text lines.new q) ↔ (IsTrue (has_text lines.old q) ⊎ IsLineAt (Err unrouted) address.now q)) }
+    ensures lines { OnOk result (Reports lines.old lines.new (IsLineAt (Err unrouted) address.now)) }
     ensures memory { OnOk result (unrouted ≡ Unrouted.Memory → ⊥) }
 {
     let address = address.copy(alloc)?;
@@ -73,7 +73,7 @@ fn add_routed(
     lines: &mut TextSet,
 ) -> Result<(), AllocError>
     ensures stops { OnOk result ((t : kinds.Transport) (n : List ℕ) (a : AddressParts) → HasStop lanes.new t n a ↔ (HasStop lanes.old t n a ⊎ IsStopAt answer address.now t n a)) }
-    ensures lines { OnOk result ((q : List ℕ) → IsTrue (has_text lines.new q) ↔ (IsTrue (has_text lines.old q) ⊎ IsLineAt answer address.now q)) }
+    ensures lines { OnOk result (Reports lines.old lines.new (IsLineAt answer address.now)) }
     ensures memory { OnOk result (answer ≡ Err Unrouted.Memory → ⊥) }
 {
     match answer {
@@ -96,7 +96,7 @@ fn add_to(
 ) -> Result<(), AllocError>
     requires { AreStopsRouted router.now lanes.old }
     ensures stops { OnOk result ((t : kinds.Transport) (n : List ℕ) (a : AddressParts) → HasStop lanes.new t n a ↔ (HasStop lanes.old t n a ⊎ IsStopAt (route_to router.now to.now.transport to.now.nexthop) address.now t n a)) }
-    ensures lines { OnOk result ((q : List ℕ) → IsTrue (has_text lines.new q) ↔ (IsTrue (has_text lines.old q) ⊎ IsLineAt (route_to router.now to.now.transport to.now.nexthop) address.now q)) }
+    ensures lines { OnOk result (Reports lines.old lines.new (IsLineAt (route_to router.now to.now.transport to.now.nexthop) address.now)) }
 {
     let nexthop = to.nexthop.as_bytes();
     if lanes.join(alloc, to.transport, nexthop, address)? {
@@ -117,7 +117,7 @@ fn add_found(
 ) -> Result<(), AllocError>
     requires { AreStopsRouted router.now lanes.old }
     ensures stops { OnOk result ((t : kinds.Transport) (n : List ℕ) (a : AddressParts) → HasStop lanes.new t n a ↔ (HasStop lanes.old t n a ⊎ IsStopAt (route_by_found router.now found) address.now t n a)) }
-    ensures lines { OnOk result ((q : List ℕ) → IsTrue (has_text lines.new q) ↔ (IsTrue (has_text lines.old q) ⊎ IsLineAt (route_by_found router.now found) address.now q)) }
+    ensures lines { OnOk result (Reports lines.old lines.new (IsLineAt (route_by_found router.now found) address.now)) }
     ensures memory { OnOk result (found ≡ Err Unrouted.Memory → ⊥) }
 {
     match found {
@@ -138,7 +138,7 @@ fn add_node(
     requires router { router.now ≡ routing_of job.now }
     requires routed { AreStopsRouted router.now lanes.old }
     ensures stops { OnOk result ((t : kinds.Transport) (n : List ℕ) (a : AddressParts) → HasStop lanes.new t n a ↔ (HasStop lanes.old t n a ⊎ IsStopOf job.now node.now t n a)) }
-    ensures lines { OnOk result ((q : List ℕ) → IsTrue (has_text lines.new q) ↔ (IsTrue (has_text lines.old q) ⊎ IsLineOfNode job.now node.now q)) }
+    ensures lines { OnOk result (Reports lines.old lines.new (IsLineOfNode job.now node.now)) }
 {
     route_by_destination();
     match node {
@@ -173,7 +173,7 @@ pub fn gather_stops(
     requires router { router.now ≡ routing_of job.now }
     requires in_graph { All (λ p. (p.sender < length graph.now.senders) × (p.node < length graph.now.nodes)) pairs.now }
     ensures stops { IfOk result (λ by_sender. (s : ℕ) (t : kinds.Transport) (n : List ℕ) (a : AddressParts) → HasStopUnder by_sender.items s t n a ↔ HaveStop job.now graph.now pairs.now s t n a) }
-    ensures lines { OnOk result ((q : List ℕ) → IsTrue (has_text lines.new q) ↔ (IsTrue (has_text lines.old q) ⊎ HaveLine job.now graph.now pairs.now q)) }
+    ensures lines { OnOk result (Reports lines.old lines.new (HaveLine job.now graph.now pairs.now)) }
     ensures numbers { IfOk result (λ by_sender. AreNumbered by_sender.items) }
     ensures few { IfOk result (λ by_sender. length by_sender.items ≤ length graph.now.senders) }
 {

@@ -15,12 +15,6 @@ pub enum Listing<'a> {
 ghost use Rattle.std.specs.Prelude.{◌≡◌, option_map, IfOk};
 ghost use Rattle.aliasplan.specs.Listing.{place_at, place_of, empty_finding, loop_finding, target_finding};
 
-fn copy_of(alloc: Global, text: &[u8]) -> Result<Text, AllocError>
-    ensures { IfOk result (λ copy. copy ≡ text.now) }
-{
-    Ok(Text::of(Vec::from_slice(alloc, text)?))
-}
-
 impl<'a> Listing<'a> {
     /// What a node lists its targets by: `None` of a node that has none, or whose number the tables don't have.
     pub fn of(tables: &'a Tables, node: &Node) -> Option<Listing<'a>>
@@ -44,8 +38,8 @@ impl<'a> Listing<'a> {
         ensures { IfOk result (λ place. place ≡ place_at self.entry) }
     {
         match self {
-            Listing::Alias(name) => Ok(Place::Alias(copy_of(alloc, name)?)),
-            Listing::Include(path) => Ok(Place::Include(copy_of(alloc, path)?)),
+            Listing::Alias(name) => Ok(Place::Alias(Text::copy_of(alloc, name)?)),
+            Listing::Include(path) => Ok(Place::Include(Text::copy_of(alloc, path)?)),
             Listing::Envelope => Ok(Place::Envelope),
         }
     }
@@ -55,8 +49,8 @@ impl<'a> Listing<'a> {
         ensures { IfOk result (λ finding. finding ≡ empty_finding (place_at self.entry)) }
     {
         match self {
-            Listing::Alias(name) => Ok(Some(Finding::EmptyAlias(copy_of(alloc, name)?))),
-            Listing::Include(path) => Ok(Some(Finding::EmptyInclude(copy_of(alloc, path)?))),
+            Listing::Alias(name) => Ok(Some(Finding::EmptyAlias(Text::copy_of(alloc, name)?))),
+            Listing::Include(path) => Ok(Some(Finding::EmptyInclude(Text::copy_of(alloc, path)?))),
             Listing::Envelope => Ok(None),
         }
     }
@@ -66,8 +60,8 @@ impl<'a> Listing<'a> {
         ensures { IfOk result (λ finding. finding ≡ loop_finding (place_at self.entry)) }
     {
         match self {
-            Listing::Alias(name) => Ok(Some(Finding::LoopAlias(copy_of(alloc, name)?))),
-            Listing::Include(path) => Ok(Some(Finding::LoopInclude(copy_of(alloc, path)?))),
+            Listing::Alias(name) => Ok(Some(Finding::LoopAlias(Text::copy_of(alloc, name)?))),
+            Listing::Include(path) => Ok(Some(Finding::LoopInclude(Text::copy_of(alloc, path)?))),
             Listing::Envelope => Ok(None),
         }
     }
@@ -78,19 +72,19 @@ impl<'a> Listing<'a> {
     {
         match node {
             Node::Missing(name) => {
-                let name = copy_of(alloc, name.as_bytes())?;
+                let name = Text::copy_of(alloc, name.as_bytes())?;
                 Ok(Some(Finding::Missing(name, self.place(alloc)?)))
             }
             Node::NoInclude(path) => {
-                let path = copy_of(alloc, path.as_bytes())?;
+                let path = Text::copy_of(alloc, path.as_bytes())?;
                 Ok(Some(Finding::NoInclude(path, self.place(alloc)?)))
             }
             Node::Command(text) => {
-                let text = copy_of(alloc, text.as_bytes())?;
+                let text = Text::copy_of(alloc, text.as_bytes())?;
                 Ok(Some(Finding::Command(text, self.place(alloc)?)))
             }
             Node::File(path) => {
-                let path = copy_of(alloc, path.as_bytes())?;
+                let path = Text::copy_of(alloc, path.as_bytes())?;
                 Ok(Some(Finding::File(path, self.place(alloc)?)))
             }
             _ => Ok(None),

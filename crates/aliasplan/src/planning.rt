@@ -5,7 +5,7 @@ ghost use Rattle.relay_routes.specs.declared.transport.Transport as names;
 ghost use Rattle.relay_job.specs.Settings.{limit_of};
 ghost use Rattle.relay_job.specs.JobAnswers.{IsJobWithin};
 ghost use Rattle.relay_loops.specs.Loops.{AreLoopsOf, IsClosedPart};
-ghost use Rattle.relay_pairs.specs.Pairs.{ArePairs, IsClosedGraph};
+ghost use Rattle.relay_pairs.specs.Pairs.{ArePairs};
 ghost use Rattle.aliasplan.specs.Delivery.{directory_of, routing_of, HasAtMostPairs, IsJobGraph};
 ghost use Rattle.aliasplan.specs.Outcomes.{name_count, owned_count, AreOptions, AreLimits, IsWithin, IsRefused};
 ghost use Rattle.aliasplan.specs.Plans.{AreTransactionsOf, IsFewest, IsPlanOf, IsSoundFor};
@@ -20,9 +20,7 @@ use crate::sources::Sources;
 use relay_aliasfile::file_counts;
 use relay_job::{Job, RunFault, parsed_jobs};
 use relay_loops::on_loops;
-use relay_pairs::{
-    Reached, closed_graphs, pairs_are_counted, pairs_by_numbers, reached_nodes, reached_pairs,
-};
+use relay_pairs::{Reached, pairs_are_counted, pairs_by_numbers, reached_nodes, reached_pairs};
 use relay_rounds::{Gate, ReachFault};
 use relay_routes::Router;
 use relay_tables::{Graph, TableFault, Tables};
@@ -36,12 +34,10 @@ fn graph_of(alloc: Global, job: &Job, tables: &Tables, limits: Limits) -> Result
     requires tables { tables.now ≡ directory_of job.now }
     requires limits { AreLimits limits }
     ensures graph { IfOk result (IsJobGraph job.now) }
-    ensures closed { IfOk result IsClosedGraph }
     ensures names { OnOk result (name_count job.now ≤ limits.names) }
     ensures owners { OnOk result (owned_count job.now ≤ limits.owners) }
     ensures refused { IfErr result (IsRefused limits job.now) }
 {
-    closed_graphs();
     let recipients = job.recipients.as_slice();
     match Graph::build(
         alloc,
@@ -71,7 +67,6 @@ fn pairs_of<G: Gate, R: Threads + Sync>(
     requires options { AreOptions options }
     requires limits { AreLimits limits }
     requires graph { IsJobGraph job.now graph.now }
-    requires closed { IsClosedGraph graph.now }
     requires names { name_count job.now ≤ limits.names }
     requires owners { owned_count job.now ≤ limits.owners }
     ensures pairs { IfOk result (λ pairs. ArePairs graph.now pairs.items) }
@@ -105,7 +100,6 @@ fn nodes_of(
     pairs: &[Reached],
 ) -> Result<Vec<u32>, AllocError>
     requires graph { IsJobGraph job.now graph.now }
-    requires closed { IsClosedGraph graph.now }
     requires pairs { ArePairs graph.now pairs.now }
     ensures reached { IfOk result (λ nodes. AreReachedNodes job.now graph.now nodes.items) }
     ensures part { IfOk result (λ nodes. IsClosedPart graph.now nodes.items) }
@@ -130,7 +124,6 @@ fn report_reached<G: Gate, R: Threads + Sync>(
     requires options { AreOptions options }
     requires tables { tables.now ≡ directory_of job.now }
     requires graph { IsJobGraph job.now graph.now }
-    requires closed { IsClosedGraph graph.now }
     requires pairs { ArePairs graph.now pairs.now }
     ensures { OnOk result ((q : List ℕ) → IsTrue (has_text lines.new q) ↔ (IsTrue (has_text lines.old q) ⊎ IsLineOf job.now entries q)) }
 {
@@ -176,7 +169,6 @@ fn plan_reached<G: Gate, R: Threads + Sync>(
     requires tables { tables.now ≡ directory_of job.now }
     requires router { router.now ≡ routing_of job.now }
     requires graph { IsJobGraph job.now graph.now }
-    requires closed { IsClosedGraph graph.now }
     requires pairs { ArePairs graph.now pairs.now }
     requires reached { AreReachedPairs job.now graph.now pairs.now }
     requires lines { (q : List ℕ) → has_text lines q ≡ has_fault_line job.now q }

@@ -1,6 +1,6 @@
 //! The recipients of a transport and nexthop.
 use crate::written_address::WrittenAddress;
-use relay_text::Address;
+use relay_text::{Address, one_spelling};
 use std::alloc::{AllocError, Global};
 use std::marker::Model;
 
@@ -43,6 +43,7 @@ impl Recipients {
         ensures err { OnErr result (self.new ≡ self.old) }
         ensures some { OnOk result (0 < length self.old) }
     {
+        one_spelling();
         self.gathered.push(WrittenAddress::of(alloc, address)?)?;
         Ok(())
     }
@@ -53,6 +54,7 @@ impl Recipients {
         ensures ascending { OnOk result (IsAscendingBy path_cmp self) }
         ensures some { OnOk result (0 < length self) }
     {
+        one_spelling();
         let Recipients { mut gathered } = self;
         gathered.sort_unstable();
         gathered.dedup();

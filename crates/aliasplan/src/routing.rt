@@ -9,19 +9,12 @@ use relay_routes::{MxTable, RouteSettings, Router, TransportTable};
 use relay_text::{Seq, Text};
 use std::alloc::{AllocError, Global};
 
-/// A copy of a text.
-pub fn copy_of(alloc: Global, text: &Text) -> Result<Text, AllocError>
-    ensures { IfOk result (λ copy. copy ≡ text.now) }
-{
-    Ok(Text::of(Vec::from_slice(alloc, text.as_bytes())?))
-}
-
 /// Puts copies at the end.
 pub fn push_copies(alloc: Global, texts: &[Text], names: &mut Vec<Text>) -> Result<(), AllocError>
     ensures { OnOk result (names.new.items ≡ names.old.items ++ texts.now) }
 {
     for text in texts {
-        names.push(copy_of(alloc, text)?)?;
+        names.push(Text::copy_of(alloc, text.as_bytes())?)?;
     }
     Ok(())
 }
@@ -31,8 +24,8 @@ fn own_names(alloc: Global, settings: &Settings) -> Result<Seq<Text>, AllocError
     ensures { IfOk result (λ names. names ≡ settings.now.hostname ∷ settings.now.origin ∷ settings.now.destinations) }
 {
     let mut names = Vec::new(alloc);
-    names.push(copy_of(alloc, &settings.hostname)?)?;
-    names.push(copy_of(alloc, &settings.origin)?)?;
+    names.push(Text::copy_of(alloc, settings.hostname.as_bytes())?)?;
+    names.push(Text::copy_of(alloc, settings.origin.as_bytes())?)?;
     push_copies(alloc, settings.destinations.as_slice(), &mut names)?;
     Ok(Seq::of(names))
 }

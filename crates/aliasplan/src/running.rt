@@ -37,7 +37,7 @@ pub fn run<F: Feed, S: Sink, G: Gate, R: Threads + Sync>(
     ensures read { (result ≡ Err RunFault.Read → F.has_failed reader.new ≡ true) × (result ≢ Err RunFault.Read → F.has_failed reader.new ≡ false) }
     ensures write { (result ≡ Err RunFault.Write → S.has_failed writer.new ≡ true) × (result ≢ Err RunFault.Write → S.has_failed writer.new ≡ false) }
     // A failed write leaves a front of the text; every other refusal writes nothing.
-    ensures front { result ≡ Err RunFault.Write → IfSome (F.remaining reader.old) (λ input. WritesFront options.form input (S.contents writer.old) (S.contents writer.new)) }
+    ensures front { result ≡ Err RunFault.Write → IfSome (F.remaining reader.old) (λ input. WritesFront limits options.form input (S.contents writer.old) (S.contents writer.new)) }
     ensures nothing { IfErr result (λ fault. fault ≢ RunFault.Write → Keeps (S.contents writer.old) (S.contents writer.new)) }
     // But for Read, TooLong and Memory, the reader has ended.
     ensures ended { (result ≢ Err RunFault.Read) → (result ≢ Err RunFault.TooLong) → (result ≢ Err RunFault.Memory) → F.has_ended reader.new ≡ true }

@@ -12,7 +12,7 @@ ghost use Rattle.aliasplan.specs.SenderOrder.{IsSender, IsUnderSenderPath, sende
 use crate::sender_lanes::SenderLanes;
 use crate::written_address::written_path;
 use relay_tables::Graph;
-use relay_text::Address;
+use relay_text::{Address, one_spelling};
 use std::alloc::{AllocError, Global};
 use std::collections::BTreeMap;
 
@@ -39,6 +39,7 @@ fn by_path(
     ensures paths { IfOk result (λ senders. AllByRecursion (IsUnderSenderPath graph.now (length graph.now.senders)) senders.entries) }
     ensures stops { IfOk result (λ senders. (s : ℕ) (t : kinds.Transport) (n : List ℕ) (a : AddressParts) → HasStopUnder (values_of senders.entries) s t n a ↔ HasStopUnder by_sender.items s t n a) }
 {
+    one_spelling();
     let mut senders = BTreeMap::new(alloc);
     for under in by_sender {
         if !under.lanes.is_empty() {

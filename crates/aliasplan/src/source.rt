@@ -37,7 +37,7 @@ impl Source<'_> {
         match self {
             Source::Aliases => Ok(Finding::Aliases(fault.line, word)),
             Source::Include(path) => {
-                let path = Text::of(Vec::from_slice(alloc, path)?);
+                let path = Text::copy_of(alloc, path)?;
                 Ok(Finding::Include(path, fault.line, word))
             }
             Source::Mailboxes => Ok(Finding::Mailboxes(fault.line, word)),

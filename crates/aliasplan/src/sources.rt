@@ -19,7 +19,7 @@ ghost use Rattle.relay_aliasfile.specs.MailboxFiles.{mailbox_file_of};
 ghost use Rattle.aliasplan.specs.Delivery.{directory_of, local_of, routing_of};
 ghost use Rattle.aliasplan.specs.Texts.{is_table_line, has_fault_line};
 
-use crate::routing::{copy_of, push_copies, router_of};
+use crate::routing::{push_copies, router_of};
 use crate::source::Source;
 use crate::table::Table;
 use crate::texts::{read_includes, report_file, report_table};
@@ -37,7 +37,7 @@ fn local_of(alloc: Global, settings: &Settings) -> Result<Local, AllocError>
     let mut domains = Vec::with_capacity(alloc, settings.destinations.as_slice().len())?;
     push_copies(alloc, settings.destinations.as_slice(), &mut domains)?;
     Ok(Local {
-        origin: copy_of(alloc, &settings.origin)?,
+        origin: Text::copy_of(alloc, settings.origin.as_bytes())?,
         domains: Seq::of(domains),
         delimiter: settings.delimiter,
         expand: settings.expand,

@@ -1,9 +1,9 @@
 //! The lines of files and tables that are at fault.
-ghost use Rattle.std.specs.Prelude.{◌≡◌, ◌||◌, ℕ, List, map, IfOk, OnOk};
+ghost use Rattle.std.specs.Prelude.{◌≡◌, map, IfOk, OnOk};
 ghost use Rattle.std.specs.List.{list_any};
 ghost use Rattle.std.specs.Str.{bytes_eq};
-ghost use Rattle.relay_text.specs.Bytes.{has_text};
 ghost use Rattle.aliasplan.specs.Delivery.{entry_of_include};
+ghost use Rattle.aliasplan.specs.Findings.{ReportsWhere};
 ghost use Rattle.aliasplan.specs.Lanes.{table_line};
 ghost use Rattle.aliasplan.specs.Texts.{source_line, has_include_line};
 
@@ -23,7 +23,7 @@ fn report_file_fault(
     fault: LineFault,
     lines: &mut TextSet,
 ) -> Result<(), AllocError>
-    ensures { OnOk result ((q : List ℕ) → has_text lines.new q ≡ (bytes_eq q (source_line source.entry fault) || has_text lines.old q)) }
+    ensures { OnOk result (ReportsWhere lines.old lines.new (λ q. bytes_eq q (source_line source.entry fault))) }
 {
     let finding = source.finding(alloc, fault)?;
     report(alloc, &finding, lines)
@@ -36,7 +36,7 @@ pub fn report_file(
     faults: &[LineFault],
     lines: &mut TextSet,
 ) -> Result<(), AllocError>
-    ensures { OnOk result ((q : List ℕ) → has_text lines.new q ≡ (has_text lines.old q || list_any (λ fault. bytes_eq q (source_line source.entry fault)) faults.now)) }
+    ensures { OnOk result (ReportsWhere lines.old lines.new (λ q. list_any (λ fault. bytes_eq q (source_line source.entry fault)) faults.now)) }
 {
     for fault in faults {
         report_file_fault(alloc, source, *fault, lines)?;
@@ -51,7 +51,7 @@ fn report_table_fault(
     fault: relay_routes::LineFault,
     lines: &mut TextSet,
 ) -> Result<(), AllocError>
-    ensures { OnOk result ((q : List ℕ) → has_text lines.new q ≡ (bytes_eq q (table_line table fault) || has_text lines.old q)) }
+    ensures { OnOk result (ReportsWhere lines.old lines.new (λ q. bytes_eq q (table_line table fault))) }
 {
     let finding = table.finding(fault);
     report(alloc, &finding, lines)
@@ -64,7 +64,7 @@ pub fn report_table(
     faults: &[relay_routes::LineFault],
     lines: &mut TextSet,
 ) -> Result<(), AllocError>
-    ensures { OnOk result ((q : List ℕ) → has_text lines.new q ≡ (has_text lines.old q || list_any (λ fault. bytes_eq q (table_line table fault)) faults.now)) }
+    ensures { OnOk result (ReportsWhere lines.old lines.new (λ q. list_any (λ fault. bytes_eq q (table_line table fault)) faults.now)) }
 {
     for fault in faults {
         report_table_fault(alloc, table, *fault, lines)?;
@@ -79,12 +79,12 @@ fn read_include(
     lines: &mut TextSet,
 ) -> Result<IncludeEntry, AllocError>
     ensures entry { IfOk result (λ entry. entry ≡ entry_of_include include.now) }
-    ensures lines { OnOk result ((q : List ℕ) → has_text lines.new q ≡ (has_text lines.old q || has_include_line q include.now)) }
+    ensures lines { OnOk result (ReportsWhere lines.old lines.new (λ q. has_include_line q include.now)) }
 {
     let file = parse_include(alloc, include.bytes.as_bytes())?;
     let source = Source::Include(include.path.as_bytes());
     report_file(alloc, source, file.faults.as_slice(), lines)?;
-    let path = Text::of(Vec::from_slice(alloc, include.path.as_bytes())?);
+    let path = Text::copy_of(alloc, include.path.as_bytes())?;
     Ok(IncludeEntry {
         path,
         items: file.items,
@@ -98,7 +98,7 @@ pub fn read_includes(
     lines: &mut TextSet,
 ) -> Result<Vec<IncludeEntry>, AllocError>
     ensures entries { IfOk result (λ entries. entries.items ≡ map entry_of_include includes.now) }
-    ensures lines { OnOk result ((q : List ℕ) → has_text lines.new q ≡ (has_text lines.old q || list_any (has_include_line q) includes.now)) }
+    ensures lines { OnOk result (ReportsWhere lines.old lines.new (λ q. list_any (has_include_line q) includes.now)) }
 {
     let mut entries = Vec::with_capacity(alloc, includes.len())?;
     for include in includes {

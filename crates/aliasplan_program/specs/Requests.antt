@@ -1,13 +1,14 @@
 -- What a command line asks for.
-use Rattle.std.specs.Prelude.{⊤}
+use Rattle.std.specs.Prelude.{◌≡◌, ◌⊎◌, ⊤}
 use Rattle.aliasplan.specs.Outcomes.{AreOptions}
+use Rattle.relay_job.specs.declared.fault.RunFault.TheVariants.{Write, Memory}
 use Rattle.aliasplan_program.specs.declared.command_line.Request.{Request}
-use Rattle.aliasplan_program.specs.declared.command_line.Request.TheVariants.{Plan, Gather, Help, Unknown, Memory}
+use Rattle.aliasplan_program.specs.declared.command_line.Request.TheVariants.{Plan, Gather, Help, Unknown, Fault}
 
--- a plan is asked for with options in range
+-- a plan is asked for with options in range, and no more than memory and standard output fail a command line
 abbrev pub IsRequest : Request → Type 0
 IsRequest (Plan options) = AreOptions options
 IsRequest (Gather paths) = ⊤
 IsRequest Help = ⊤
 IsRequest Unknown = ⊤
-IsRequest Memory = ⊤
+IsRequest (Fault fault) = (fault ≡ Memory) ⊎ (fault ≡ Write)

@@ -1,5 +1,7 @@
 -- What the process ends with.
-use Rattle.std.specs.Prelude.{ℕ}
+use Rattle.std.specs.Prelude.{◌≡◌, ◌≢◌, ℕ}
+use Rattle.aliasplan_program.specs.declared.command_line.Request.{Request}
+use Rattle.aliasplan_program.specs.declared.command_line.Request.TheVariants.{Plan, Gather, Help, Unknown, Fault}
 use Rattle.aliasplan_program.specs.declared.Status.{Status}
 use Rattle.aliasplan_program.specs.declared.Status.TheVariants.{Done, Found, Refused, OutOfMemory, Broken, CommandLine}
 use Rattle.relay_job.specs.declared.fault.RunFault.{RunFault}
@@ -26,3 +28,11 @@ code_after Refused = 2
 code_after OutOfMemory = 3
 code_after Broken = 4
 code_after CommandLine = 5
+
+-- the command line is at fault where it asks for nothing that there is, and only there; only a plan has findings
+abbrev pub IsStatusOf : Request → Status → Type 0
+IsStatusOf (Plan options) status = status ≢ CommandLine
+IsStatusOf (Gather paths) status = (status ≢ Found) × (status ≢ CommandLine)
+IsStatusOf Help status = status ≡ Done
+IsStatusOf Unknown status = status ≡ CommandLine
+IsStatusOf (Fault fault) status = code_after status ≡ code_of fault

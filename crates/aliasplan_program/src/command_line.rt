@@ -1,13 +1,18 @@
 //! The command line.
+ghost use Rattle.std.specs.Prelude.{◌≡◌, ◌≢◌, ◌⊎◌};
+ghost use Rattle.std.specs.IoError.{error_kind};
+ghost use Rattle.std.specs.declared.io.ErrorKind.TheVariants.{InvalidData};
+ghost use Rattle.clap.specs.Values.{kind_of};
 ghost use Rattle.aliasplan.specs.Outcomes.{AreOptions};
 ghost use Rattle.aliasplan_program.specs.Requests.{IsRequest};
 
-use aliasplan::{Form, Options, Paths};
+use aliasplan::{Form, Options, Paths, RunFault};
 use clap::error::ErrorKind;
 use clap::{Arg, ArgMatches, Command, value_parser};
 use relay_text::Text;
 use std::alloc::{AllocError, Global};
-use std::env::Args;
+use std::rt::Env;
+use std::{env, io};
 
 /// What the command line asks for.
 #[derive(Drop)]
@@ -20,8 +25,8 @@ pub enum Request {
     Help,
     /// Something else, as is said on standard error.
     Unknown,
-    /// Memory ran out.
-    Memory,
+    /// Words that can't be read for want of memory, or the help, which can't be written.
+    Fault(RunFault),
 }
 
 /// How many threads take part where the command line says nothing, and how many pairs one of them takes at once.
@@ -134,33 +139,63 @@ fn request_of(alloc: Global, name: &str, words: &ArgMatches<'_>) -> Request
     }
     match paths_of(alloc, words) {
         Ok(paths) => Request::Gather(paths),
-        Err(_) => Request::Memory,
+        Err(_) => Request::Fault(RunFault::Memory),
     }
 }
 
-/// What the words of a command line ask for, the program's name first. Help goes to standard output, a fault to standard error.
-pub fn read_words<R: Print + Eprint + AllocGlobal>(rt: &R, args: Args<Global>) -> Request
+/// What is asked for where the words can't be had. A word that isn't UTF-8 is a fault of the command line, even in the place of a path.
+fn request_without_words<R: Eprint>(rt: &R, error: &io::Error) -> Request
+    ensures no_text { error_kind error.now ≡ InvalidData → result ≡ Request.Unknown }
+    ensures memory { error_kind error.now ≢ InvalidData → result ≡ Request.Fault RunFault.Memory }
+{
+    match error.kind() {
+        io::ErrorKind::InvalidData => {
+            let _ = eprintln!(rt; "aliasplan: command line is not UTF-8");
+            Request::Unknown
+        }
+        _ => Request::Fault(RunFault::Memory),
+    }
+}
+
+/// What is asked for by words that are no command. Their help, or what is wrong with them, is printed; want of memory isn't.
+fn request_of_error<R: Print + Eprint>(rt: &R, error: &clap::Error) -> Request
+    ensures memory { kind_of error.now ≡ ErrorKind.OutOfMemory → result ≡ Request.Fault RunFault.Memory }
+    ensures help { kind_of error.now ≡ ErrorKind.DisplayHelp → (result ≡ Request.Help) ⊎ (result ≡ Request.Fault RunFault.Write) }
+    ensures unknown { kind_of error.now ≢ ErrorKind.OutOfMemory → kind_of error.now ≢ ErrorKind.DisplayHelp → result ≡ Request.Unknown }
+{
+    match error.kind() {
+        ErrorKind::OutOfMemory => Request::Fault(RunFault::Memory),
+        ErrorKind::DisplayHelp => match error.print(rt) {
+            Ok(()) => Request::Help,
+            Err(_) => Request::Fault(RunFault::Write),
+        },
+        _ => {
+            let _ = error.print(rt);
+            Request::Unknown
+        }
+    }
+}
+
+/// What the words of the command line ask for. Help goes to standard output, and to standard error what makes words `Unknown`; a `Fault` is
+/// left to the caller to say.
+pub fn read_words<R: Env + Print + Eprint + AllocGlobal>(rt: &R) -> Request
     ensures { IsRequest result }
 {
+    let args = match env::args(rt) {
+        Ok(args) => args,
+        Err(error) => return request_without_words(rt, &error),
+    };
     let Ok(words) = args.collect::<Vec<String>>(rt.alloc()) else {
-        return Request::Memory;
+        return Request::Fault(RunFault::Memory);
     };
     let Ok(command) = command(rt.alloc()) else {
-        return Request::Memory;
+        return Request::Fault(RunFault::Memory);
     };
     match command.try_get_matches_from(words.as_slice()) {
         Ok(matches) => match matches.subcommand() {
             Some((name, words)) => request_of(rt.alloc(), name, words),
             None => Request::Unknown,
         },
-        Err(error) => {
-            let request = match error.kind() {
-                ErrorKind::DisplayHelp => Request::Help,
-                ErrorKind::OutOfMemory => Request::Memory,
-                _ => Request::Unknown,
-            };
-            let _ = error.print(rt);
-            request
-        }
+        Err(error) => request_of_error(rt, &error),
     }
 }

@@ -1,4 +1,7 @@
 //! Files of the system.
+ghost use Rattle.std.specs.Prelude.{◌≡◌, ◌≢◌, ◌↔◌, take, IfOk, IfErr, IfSome};
+ghost use Rattle.std.specs.IoError.{error_kind};
+
 use aliasplan::{Source, SourceFault};
 use std::alloc::Global;
 use std::io::{Error, ErrorKind, Read};
@@ -20,11 +23,28 @@ impl<'a, R> FileSource<'a, R> {
     }
 }
 
-fn fault_of(error: &Error) -> SourceFault {
+/// Why a file can't be opened.
+fn opening_fault(error: &Error) -> SourceFault
+    ensures absent { (result ≡ SourceFault.Absent) ↔ (error_kind error.now ≡ ErrorKind.NotFound) }
+    ensures memory { (result ≡ SourceFault.Memory) ↔ (error_kind error.now ≡ ErrorKind.OutOfMemory) }
+{
     match error.kind() {
         ErrorKind::NotFound => SourceFault::Absent,
         ErrorKind::OutOfMemory => SourceFault::Memory,
         _ => SourceFault::Failed,
+    }
+}
+
+/// The bytes of an open file, as many as are read. The file is there, also where the system answers a read as if it weren't.
+fn bytes_of<F: Read + Drop>(alloc: Global, file: F) -> Result<Vec<u8>, SourceFault>
+    ensures bytes { IfOk result (λ bytes. IfSome (F.remaining file) (λ whole. bytes.items ≡ take MOST whole)) }
+    ensures there { IfErr result (λ fault. fault ≢ SourceFault.Absent) }
+{
+    let mut bytes = Vec::new(alloc);
+    match file.take(MOST).read_to_end(&mut bytes) {
+        Ok(_) => Ok(bytes),
+        Err(error) if error.kind() == ErrorKind::OutOfMemory => Err(SourceFault::Memory),
+        Err(_) => Err(SourceFault::Failed),
     }
 }
 
@@ -39,14 +59,9 @@ impl<R: Files> Source for FileSource<'_, R> {
         let Ok(path) = str::from_utf8(path) else {
             return Err(SourceFault::Failed);
         };
-        let file = match fs::open(self.rt, path) {
-            Ok(file) => file,
-            Err(error) => return Err(fault_of(&error)),
-        };
-        let mut bytes = Vec::new(alloc);
-        match file.take(MOST).read_to_end(&mut bytes) {
-            Ok(_) => Ok(bytes),
-            Err(error) => Err(fault_of(&error)),
+        match fs::open(self.rt, path) {
+            Ok(file) => bytes_of(alloc, file),
+            Err(error) => Err(opening_fault(&error)),
         }
     }
 }

@@ -2,9 +2,10 @@
 //! apart.
 #![tactic(auto)]
 
-ghost use Rattle.std.specs.Prelude.{◌≡◌};
+ghost use Rattle.std.specs.Prelude.{◌≡◌, ◌≢◌};
 ghost use Rattle.aliasplan.specs.Outcomes.{AreOptions};
-ghost use Rattle.aliasplan_program.specs.Statuses.{code_of, code_after};
+ghost use Rattle.aliasplan_program.specs.Requests.{IsRequest};
+ghost use Rattle.aliasplan_program.specs.Statuses.{code_of, code_after, IsStatusOf};
 
 mod command_line;
 mod file_source;
@@ -16,9 +17,17 @@ mod tests_aliases;
 #[cfg(test)]
 mod tests_devices;
 #[cfg(test)]
+mod tests_files;
+#[cfg(test)]
+mod tests_gates;
+#[cfg(test)]
 mod tests_gathering;
 #[cfg(test)]
 mod tests_options;
+#[cfg(test)]
+mod tests_proved;
+#[cfg(test)]
+mod tests_signals;
 #[cfg(test)]
 mod tests_tables;
 
@@ -26,10 +35,10 @@ use aliasplan::{Device, Limits, NoGate, Options, Paths, RunFault, gather, run};
 use command_line::{Request, read_words};
 use file_source::FileSource;
 use standard_input::StandardInput;
+use std::io;
 use std::process::ExitCode;
-use std::rt::{Env, Files};
+use std::rt::Files;
 use std::thread::Threads;
-use std::{env, io};
 
 /// What the process ends with.
 #[derive(Clone, Copy, Debug, PartialEq, Eq)]
@@ -81,11 +90,20 @@ const LIMITS: Limits = Limits {
     pairs: 16_777_216,
 };
 
+/// What a run ends with that has this fault, which is said on standard error.
+fn refused<R: Eprint>(rt: &R, fault: RunFault) -> Status
+    ensures { code_after result ≡ code_of fault }
+{
+    let _ = eprintln!(rt; "aliasplan: {fault}");
+    Status::of_fault(fault)
+}
+
 fn plan<R: Input + Print + Eprint + AllocGlobal + Threads + Sync>(
     rt: &R,
     options: Options,
 ) -> Status
     requires { AreOptions options }
+    ensures { result ≢ Status.CommandLine }
 {
     let mut reader = Device::new(StandardInput::new(rt.reader()));
     let mut writer = Device::new(io::writer(rt));
@@ -100,44 +118,38 @@ fn plan<R: Input + Print + Eprint + AllocGlobal + Threads + Sync>(
     ) {
         Ok(summary) if summary.findings == 0 => Status::Done,
         Ok(_) => Status::Found,
-        Err(fault) => {
-            let _ = eprintln!(rt; "aliasplan: {fault}");
-            Status::of_fault(fault)
-        }
+        Err(fault) => refused(rt, fault),
     }
 }
 
-fn gather_job<R: Files + Print + Eprint + AllocGlobal>(rt: &R, paths: &Paths) -> Status {
+fn gather_job<R: Files + Print + Eprint + AllocGlobal>(rt: &R, paths: &Paths) -> Status
+    ensures { (result ≢ Status.Found) × (result ≢ Status.CommandLine) }
+{
     let mut source = FileSource::new(rt);
     let mut writer = Device::new(io::writer(rt));
     match gather(rt.alloc(), &mut source, paths, &mut writer, LIMITS.bytes) {
         Ok(()) => Status::Done,
-        Err(fault) => {
-            let _ = eprintln!(rt; "aliasplan: {fault}");
-            Status::of_fault(fault)
-        }
+        Err(fault) => refused(rt, fault),
     }
 }
 
-fn answer<R: Input + Files + Print + Eprint + Env + AllocGlobal + Threads + Sync>(
+fn answer<R: Input + Files + Print + Eprint + AllocGlobal + Threads + Sync>(
     rt: &R,
-) -> Status {
-    let Ok(words) = env::args(rt) else {
-        let _ = eprintln!(rt; "aliasplan: {}", RunFault::Memory);
-        return Status::OutOfMemory;
-    };
-    match read_words(rt, words) {
+    request: Request,
+) -> Status
+    requires { IsRequest request }
+    ensures { IsStatusOf request result }
+{
+    match request {
         Request::Plan(options) => plan(rt, options),
         Request::Gather(paths) => gather_job(rt, &paths),
         Request::Help => Status::Done,
         Request::Unknown => Status::CommandLine,
-        Request::Memory => {
-            let _ = eprintln!(rt; "aliasplan: {}", RunFault::Memory);
-            Status::OutOfMemory
-        }
+        Request::Fault(fault) => refused(rt, fault),
     }
 }
 
 fn main(rt: HostRuntime) -> ExitCode {
-    ExitCode::from(answer(&rt).code())
+    let request = read_words(&rt);
+    ExitCode::from(answer(&rt, request).code())
 }

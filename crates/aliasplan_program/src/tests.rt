@@ -3,13 +3,14 @@ ghost use Rattle.aliasplan.specs.Outcomes.{AreOptions, AreLimits};
 
 use crate::LIMITS;
 use crate::tests_devices::{Endless, Full, Paper, Pieces};
+use crate::tests_options::{LISTS, PLAN};
 use aliasplan::{Device, Form, Limits, NoGate, Options, RunFault, Summary, run};
 use std::alloc::Global;
 use std::process::Abort;
 use std::test::Fail;
 use std::thread::Threads;
 
-const OPTIONS: Options = Options {
+pub const OPTIONS: Options = Options {
     form: Form::Plan,
     workers: 2,
     cut: 2,
@@ -18,10 +19,10 @@ const OPTIONS: Options = Options {
 const SETTINGS: &[u8] =
     b"%settings\nmyhostname = relay.example.org\nmyorigin = example.org\nmydestination = example.org, localhost\nrecipient_delimiter = +\ndefault_destination_recipient_limit = 50\nmailbox_transport = lmtp:unix:mbox\nseed = 0\n";
 
-const FIRST_JOB: &[u8] =
+pub const FIRST_JOB: &[u8] =
     b"%settings\nmyhostname = relay.example.org\nmyorigin = example.org\nmydestination = example.org, localhost\nrecipient_delimiter = +\ndefault_destination_recipient_limit = 50\nmailbox_transport = lmtp:unix:mbox\nseed = 0\n%mailboxes\njoe\n%envelope\nMAIL FROM:<a@example.net>\nRCPT TO:<joe@example.org>\n";
 
-const FIRST_PLAN: &[u8] =
+pub const FIRST_PLAN: &[u8] =
     b"plan 1 transactions 1 recipients 0 findings\ntransaction 1\nfrom <a@example.net>\nvia lmtp unix:mbox\nhost unix:mbox\nto <joe@example.org>\nend\n";
 
 /// A job of the worked settings and these lines.
@@ -284,13 +285,21 @@ fn stops_reading_past_the_limit(rt: HostRuntime) {
     assert!(rt; writer.text.is_empty());
 }
 
-#[test]
-fn leaves_a_front_where_a_write_fails(rt: HostRuntime) {
-    for room in 0..FIRST_PLAN.len() {
-        let (answer, text) = planned(&rt, FIRST_JOB, usize::MAX, usize::MAX, LIMITS, room);
+/// A job whose plan is written as far as there is room.
+fn expect_fronts(rt: &(impl Abort + AllocGlobal + Threads + Sync), job: &[u8], plan: &[u8]) {
+    for room in 0..plan.len() {
+        let (answer, text) = planned(rt, job, usize::MAX, usize::MAX, LIMITS, room);
         assert_eq!(rt; answer, Err(RunFault::Write), "at {room} bytes");
-        assert_eq!(rt; text.as_slice(), &FIRST_PLAN[..room]);
+        assert_eq!(rt; text.as_slice(), &plan[..room]);
     }
+}
+
+#[test]
+fn leaves_a_front_where_a_write_fails(rt: HostRuntime) -> Result<(), Fail> {
+    expect_fronts(&rt, FIRST_JOB, FIRST_PLAN);
+    let job = job_of(rt.alloc(), LISTS)?;
+    expect_fronts(&rt, job.as_slice(), PLAN);
+    Ok(())
 }
 
 #[test]

@@ -1,5 +1,5 @@
-//! Readers and writers that fail, stop or go on without end.
-ghost use Rattle.std.specs.Prelude.{false};
+//! Readers and writers that fail, stop or go on without end. Each tells what it holds, but for the one that has no end.
+ghost use Rattle.std.specs.Prelude.{false, Some, []};
 
 use aliasplan::{Failed, Feed, Sink};
 
@@ -7,7 +7,7 @@ use aliasplan::{Failed, Feed, Sink};
 #[derive(Drop)]
 pub struct Pieces<'a> {
     pub rest: &'a [u8],
-    /// How many bytes a read gives at most.
+    /// How many bytes a read gives at most. One gives at least a byte of those that are left, whatever this is.
     pub piece: usize,
     /// How many reads work.
     pub good_reads: usize,
@@ -20,6 +20,7 @@ impl<'a> Pieces<'a> {
     ghost use Rattle.std.specs.Prelude.{◌≡◌, false};
 
     pub fn new(rest: &'a [u8], piece: usize, good_reads: usize) -> Pieces<'a>
+        ensures rest { result.rest.now ≡ rest.now }
         ensures failed { result.failed ≡ false }
         ensures ended { result.ended ≡ false }
     {
@@ -35,6 +36,8 @@ impl<'a> Pieces<'a> {
 }
 
 impl Feed for Pieces<'_> {
+    ghost remaining = { λ p. Some p.rest.now };
+
     ghost has_failed = { λ p. p.failed };
 
     ghost has_ended = { λ p. p.ended };
@@ -45,7 +48,8 @@ impl Feed for Pieces<'_> {
             self.failed = true;
             return Err(Failed);
         }
-        let count = self.rest.len().min(self.piece).min(buf.len());
+        let most = self.piece.max(1).min(buf.len());
+        let count = self.rest.len().min(most);
         buf[..count].copy_from_slice(&self.rest[..count]);
         self.rest = &self.rest[count..];
         if count == 0 && !buf.is_empty() {
@@ -104,6 +108,8 @@ pub struct Paper {
 }
 
 impl Sink for Paper {
+    ghost contents = { λ p. Some p.text.items };
+
     ghost has_failed = { λ p. p.failed };
 
     fn write(&mut self, buf: &[u8]) -> Result<usize, Failed> {
@@ -126,6 +132,8 @@ impl Sink for Paper {
 pub struct Full;
 
 impl std::io::Write for Full {
+    ghost contents = { λ _. Some [] };
+
     fn write(&mut self, _buf: &[u8]) -> std::io::Result<usize> {
         Ok(0)
     }

@@ -9,75 +9,89 @@ use relay_text::Text;
 use std::alloc::{AllocError, Global};
 use std::test::Fail;
 
-/// An alias file and an include file, and perhaps an envelope that fails.
-#[derive(Drop)]
-struct Files {
-    failing: bool,
-}
+/// A job's files by their paths, in the order in which they are gathered.
+const FILES: [(&[u8], &[u8]); 7] = [
+    (b"/settings", b"seed = 0\n"),
+    (b"/aliases", b"l: :include:/l\n"),
+    (b"/l", b":include:/m\n%z"),
+    (b"/mailboxes", b"joe\n"),
+    (b"/transport", b"* smtp\n"),
+    (b"/mx", b"example.net A\n"),
+    (b"/envelope", b"MAIL FROM:<>\n"),
+];
 
-impl Source for Files {
-    ghost answer = { λ _ _. unknown };
-
-    fn fetch(&mut self, alloc: Global, path: &[u8]) -> Result<Vec<u8>, SourceFault> {
-        let file: &[u8] = match path {
-            b"/aliases" => b"l: :include:/l\n",
-            b"/l" => b":include:/m\n%z",
-            b"/envelope" if self.failing => return Err(SourceFault::Failed),
-            b"/envelope" => b"MAIL FROM:<>\n",
-            _ => return Err(SourceFault::Absent),
-        };
-        match Vec::from_slice(alloc, file) {
-            Ok(bytes) => Ok(bytes),
-            Err(_) => Err(SourceFault::Memory),
-        }
-    }
-}
-
-const GATHERED: &[u8] = b"%aliases\n\
+const GATHERED: &[u8] = b"%settings\n\
+      seed = 0\n\
+      %aliases\n\
       l: :include:/l\n\
       %include /l\n\
       :include:/m\n\
       %%z\n\
+      %mailboxes\n\
+      joe\n\
+      %transport\n\
+      * smtp\n\
+      %mx\n\
+      example.net A\n\
       %envelope\n\
       MAIL FROM:<>\n";
+
+/// The files, but that one path has a fault.
+#[derive(Drop)]
+struct FaultyFiles<'a> {
+    path: &'a [u8],
+    fault: SourceFault,
+}
+
+impl Source for FaultyFiles<'_> {
+    ghost answer = { λ _ _. unknown };
+
+    fn fetch(&mut self, alloc: Global, path: &[u8]) -> Result<Vec<u8>, SourceFault> {
+        if path == self.path {
+            return Err(self.fault);
+        }
+        for (name, file) in FILES {
+            if path == name {
+                return Vec::from_slice(alloc, file).map_err(|_| SourceFault::Memory);
+            }
+        }
+        Err(SourceFault::Absent)
+    }
+}
 
 fn text_of(alloc: Global, path: &[u8]) -> Result<Option<Text>, AllocError> {
     Ok(Some(Text::of(Vec::from_slice(alloc, path)?)))
 }
 
-/// What gathering these files answers, where the writer has so much room, and what it wrote.
+/// What gathering the files answers, where this path has this fault and the writer so much room, and what it wrote.
 fn gathered(
     alloc: Global,
-    failing: bool,
+    path: &[u8],
+    fault: SourceFault,
     room: usize,
 ) -> Result<(Result<(), RunFault>, Vec<u8>), Fail> {
     let paths = Paths {
-        settings: None,
+        settings: text_of(alloc, b"/settings")?,
         aliases: text_of(alloc, b"/aliases")?,
-        mailboxes: None,
-        transport: None,
-        mx: None,
+        mailboxes: text_of(alloc, b"/mailboxes")?,
+        transport: text_of(alloc, b"/transport")?,
+        mx: text_of(alloc, b"/mx")?,
         envelope: text_of(alloc, b"/envelope")?,
     };
+    let mut source = FaultyFiles { path, fault };
     let mut writer = Paper {
         text: Vec::new(alloc),
         room,
         failed: false,
     };
-    let answer = gather(
-        alloc,
-        &mut Files { failing },
-        &paths,
-        &mut writer,
-        LIMITS.bytes,
-    );
+    let answer = gather(alloc, &mut source, &paths, &mut writer, LIMITS.bytes);
     let Paper { text, .. } = writer;
     Ok((answer, text))
 }
 
 #[test]
 fn writes_the_text_that_is_gathered(rt: HostRuntime) -> Result<(), Fail> {
-    let (answer, text) = gathered(rt.alloc(), false, usize::MAX)?;
+    let (answer, text) = gathered(rt.alloc(), b"", SourceFault::Failed, usize::MAX)?;
     assert_eq!(rt; answer, Ok(()));
     assert_eq!(rt; text.as_slice(), GATHERED);
     Ok(())
@@ -85,15 +99,22 @@ fn writes_the_text_that_is_gathered(rt: HostRuntime) -> Result<(), Fail> {
 
 #[test]
 fn writes_nothing_where_a_file_fails(rt: HostRuntime) -> Result<(), Fail> {
-    let (answer, text) = gathered(rt.alloc(), true, usize::MAX)?;
-    assert_eq!(rt; answer, Err(RunFault::Read));
-    assert!(rt; text.is_empty());
+    for (path, _) in FILES {
+        for (fault, told) in [
+            (SourceFault::Failed, RunFault::Read),
+            (SourceFault::Memory, RunFault::Memory),
+        ] {
+            let (answer, text) = gathered(rt.alloc(), path, fault, usize::MAX)?;
+            assert_eq!(rt; answer, Err(told), "at {path:?}");
+            assert!(rt; text.is_empty());
+        }
+    }
     Ok(())
 }
 
 #[test]
 fn writes_a_front_where_the_writer_fails(rt: HostRuntime) -> Result<(), Fail> {
-    let (answer, text) = gathered(rt.alloc(), false, 20)?;
+    let (answer, text) = gathered(rt.alloc(), b"", SourceFault::Failed, 20)?;
     assert_eq!(rt; answer, Err(RunFault::Write));
     assert_eq!(rt; text.as_slice(), &GATHERED[..20]);
     Ok(())

@@ -9,7 +9,7 @@ use std::test::Fail;
 use std::thread::Threads;
 
 /// Six names, one of them with an owner; five pairs of a sender and a name are reached.
-const LISTS: &[u8] = b"%mx\n\
+pub const LISTS: &[u8] = b"%mx\n\
       example.net MX 10 mx1.example.net\n\
       %mailboxes\n\
       joe\n\
@@ -21,7 +21,7 @@ const LISTS: &[u8] = b"%mx\n\
       MAIL FROM:<a@example.com>\n\
       RCPT TO:<outer@example.org>\n";
 
-const PLAN: &[u8] = b"plan 2 transactions 3 recipients 0 findings\n\
+pub const PLAN: &[u8] = b"plan 2 transactions 3 recipients 0 findings\n\
       transaction 1\n\
       from <a@example.com>\n\
       via smtp example.net\n\

@@ -16,7 +16,7 @@ pub(crate) fn add_paths(
 {
     for item in items {
         if let Some(path) = item.included_path() {
-            paths.push(Text::of(Vec::from_slice(alloc, path)?))?;
+            paths.push(Text::copy_of(alloc, path)?)?;
         }
     }
     Ok(())

@@ -41,9 +41,9 @@ impl Special {
         ensures { IfOk result (λ item. item ≡ special_as text.now self) }
     {
         match self {
-            Special::Path => Ok(Item::File(copy_of(alloc, text)?)),
-            Special::Program => Ok(Item::Command(copy_of(alloc, text)?)),
-            Special::Members => Ok(Item::Include(copy_of(alloc, include_path(text))?)),
+            Special::Path => Ok(Item::File(Text::copy_of(alloc, text)?)),
+            Special::Program => Ok(Item::Command(Text::copy_of(alloc, text)?)),
+            Special::Members => Ok(Item::Include(Text::copy_of(alloc, include_path(text))?)),
         }
     }
 
@@ -55,18 +55,11 @@ impl Special {
             Special::Path => Ok(Item::File(text)),
             Special::Program => Ok(Item::Command(text)),
             Special::Members => {
-                let path = copy_of(alloc, include_path(text.as_bytes()))?;
+                let path = Text::copy_of(alloc, include_path(text.as_bytes()))?;
                 Ok(Item::Include(path))
             }
         }
     }
-}
-
-/// The same bytes in memory of their own.
-fn copy_of(alloc: Global, text: &[u8]) -> Result<Text, AllocError>
-    ensures { IfOk result (λ copy. copy ≡ text.now) }
-{
-    Ok(Text::of(Vec::from_slice(alloc, text)?))
 }
 
 /// Whether a text begins with this byte.

@@ -1,7 +1,9 @@
 -- The chains of a closed round, one after another.
-use Rattle.std.proofs.Common.{◌≡◌, ◌≢◌, ℕ, zero, suc, ◌+◌, ◌-◌, ◌*◌, ◌%◌, ◌<◌, ◌≤◌, Bool, true, false, cond, eqb, min, List, [], ◌∷◌, ◌++◌, length, get_or, slice_index, sym, refl, ap, ◌∙◌, subst, arith, append_assoc, append-nil, length-append, count_by}
+use Rattle.std.proofs.Common.{◌≡◌, ◌≢◌, ℕ, zero, suc, ◌+◌, ◌-◌, ◌*◌, ◌%◌, ◌<◌, ◌≤◌, Bool, true, false, cond, eqb, min, List, [], ◌∷◌, ◌++◌, length, get_or, slice_index, sym, refl, ap, ◌∙◌, subst, arith, append_assoc, append-nil, length-append, count_by, filter, ltb, inl, inr}
 use Rattle.std.proofs.lemmas.Bool.Decides.{nat_tests}
 use Rattle.std.proofs.lemmas.List.Recursion.{is_count_by}
+use Rattle.std.proofs.lemmas.Bool.{cases_Bool}
+use Rattle.std.proofs.lemmas.List.Kept.{IsStrictlyIncreasing-filter}
 use Rattle.std.proofs.lemmas.List.Sorted.{sum_by-IsPermutation}
 use Rattle.std.specs.List.Sorted.{IsPermutation, IsNonDecreasing, IsStrictlyIncreasing}
 use mathlib.Core.Option.{some, some-injective, some-ne-none}
@@ -12,14 +14,14 @@ use Rattle.atomic_table.specs.Table.{State}
 use Rattle.atomic_table.specs.Seated.{TableId}
 use Rattle.relay_claims.specs.declared.view.View.{View}
 use Rattle.relay_claims.specs.declared.view.Settled.{Settled}
-use Rattle.relay_claims.specs.Counting.{times, IsIn, once_below}
+use Rattle.relay_claims.specs.Counting.{times, IsIn, span, once_below}
 use Rattle.relay_claims.specs.Settled.{won_of, places_of}
 use Rattle.relay_claims.specs.Round.{Terms, pieces_of, bucket_of, head_word, link_word, ticket_of, link_of}
 use Rattle.relay_claims.specs.View.{won}
 use Rattle.relay_claims.specs.Lawful.{Leads, AreHeld, Lawful}
 use Rattle.relay_claims.specs.Seat.{Progress, shown}
-use Rattle.relay_claims.specs.Closing.{IsChainWithRoom, AddsChain, HasHolders, Closes}
-use Rattle.relay_claims.proofs.Counts.{total_at, total_only, times_append, times_head, times_else, few}
+use Rattle.relay_claims.specs.Closing.{IsChainWithRoom, AddsChain, HasHolders, Closes, HasClosing}
+use Rattle.relay_claims.proofs.Counts.{total_at, total_only, times_append, times_head, times_else, times_span, few}
 use Rattle.relay_claims.proofs.Chains.{leads_word, word_none}
 use Rattle.relay_claims.proofs.Looks.{bucket_small}
 use Rattle.relay_claims.proofs.Pieces.{pieces_end}
@@ -185,17 +187,27 @@ module _ (keys : List ℕ) (heads cut id : ℕ) (v : View) (words : List ℕ) wh
   rises xs once le k small = let h = le k (k + 1) 0 (omega arith) small in dite (ℕ_discrete (get_or xs k 0) (get_or xs (k + 1) 0))
       (λ e. absurd (let t = twice xs k small e in let o = once (get_or xs k 0) in omega arith)) (λ n. omega arith)
 
-  pub closes : (name of : TableId) (p : Progress) (items sorted : List ℕ) → record (shown of v) { round = record { name = name; keys = keys; heads = heads; cut = cut } } ≡ p → v.spent ≡ false → Gathered heads items → IsPermutation items sorted → IsNonDecreasing sorted → Closes p sorted
-  closes name of p items sorted is live g moves le = subst (λ (q : Progress). Closes q sorted) is (
+  -- a list without repeats, in which each number stands as often as among the gathered ones
+  pub gathered_once : (items sorted : List ℕ) → Gathered heads items → ((x : ℕ) → times x sorted ≡ times x items) → (x : ℕ) → times x sorted ≤ 1
+  gathered_once items sorted g as_often x = let r = g.law in let s = as_often x in let a : times x items ≡ times x (gather r.chain heads) = ap (λ (l : List ℕ). times x l) g.are in
+      let e = gather_earlier g.s r heads x (omega arith) (bucket_small keys heads cut g.s r x) in let o = r.once (bucket_of keys heads x) x (bucket_small keys heads cut g.s r x) in omega arith
+
+  -- the gathered ones are places
+  pub gathered_within : (items : List ℕ) → Gathered heads items → (x : ℕ) → IsIn x items → x < length keys
+  gathered_within items g x on = let r = g.law in let a : times x items ≡ times x (gather r.chain heads) = ap (λ (l : List ℕ). times x l) g.are in
+      let e = gather_earlier g.s r heads x (omega arith) (bucket_small keys heads cut g.s r x) in (r.inside (bucket_of keys heads x) x (bucket_small keys heads cut g.s r x) (omega arith)).0
+
+  pub closes : (name of : TableId) (p : Progress) (items sorted : List ℕ) → record (shown of v) { round = record { name = name; keys = keys; heads = heads; cut = cut } } ≡ p → v.spent ≡ false → Gathered heads items → ((x : ℕ) → times x sorted ≡ times x items) → IsStrictlyIncreasing sorted → Closes p sorted
+  closes name of p items sorted is live g as_often rising = subst (λ (q : Progress). Closes q sorted) is (
       let r = g.law in let so = r.each id v g.at live in
-      let same : (x : ℕ) → times x sorted ≡ times x (r.chain (bucket_of keys heads x)) = λ x. moved x items sorted moves ∙ ap (λ (l : List ℕ). times x l) g.are ∙ gather_earlier g.s r heads x (omega arith) (bucket_small keys heads cut g.s r x) in
-      let once : (x : ℕ) → times x sorted ≤ 1 = λ x. let e = same x in let o = r.once (bucket_of keys heads x) x (bucket_small keys heads cut g.s r x) in omega arith in
+      let same : (x : ℕ) → times x sorted ≡ times x (r.chain (bucket_of keys heads x)) = λ x. as_often x ∙ ap (λ (l : List ℕ). times x l) g.are ∙ gather_earlier g.s r heads x (omega arith) (bucket_small keys heads cut g.s r x) in
+      let once : (x : ℕ) → times x sorted ≤ 1 = gathered_once items sorted g as_often in
       let on : (x : ℕ) → IsIn x sorted → IsIn x (r.chain (bucket_of keys heads x)) = λ x i. let e = same x in omega arith in
       -- at the root the other seats are spent
       let others : v.position ≡ [] → (k : ℕ) (u : View) → k ≢ id → get_elem? g.s.views k ≡ some u → u.spent ≡ true = λ root k u n at. ended u (λ lu. absurd (n (sym (r.apart id k v u g.at at live lu (u.position, sym (append-nil u.position) ∙ ap (λ (q : List Bool). u.position ++ q) (sym root)))))) in
       let all_won : v.position ≡ [] → (x : ℕ) → times x sorted ≡ times x (won v) = λ root x. same x ∙ sym (r.wins x) ∙ total_only (λ (z : View). times x (won z)) g.s.views id v g.at (λ k u n at. ap (λ (l : List Settled). times x (won_of l)) (r.empty k u at (others root k u n at)).1) in
       record {
-        rising = rises sorted once le;
+        rising = rising;
         places = λ x i. (r.inside (bucket_of keys heads x) x (bucket_small keys heads cut g.s r x) (on x i)).0;
         apart = λ i k oi ok key. r.distinct (bucket_of keys heads i) i k (bucket_small keys heads cut g.s r i) (on i oi) (subst (λ (n : ℕ). IsIn k (r.chain (n % heads))) (sym key) (on k ok)) key;
         holders = holders r.chain sorted same v.settled so.held;
@@ -247,4 +259,51 @@ ended_next r p words b items more low e adds = record {
 }
 
 pub ended_last : (r : Terms) (p : Progress) (words : List ℕ) (b : ℕ) (items sorted : List ℕ) → b ≡ r.heads → Ended r p words b items → IsPermutation items sorted → IsNonDecreasing sorted → Closes p sorted
-ended_last r p words b items sorted all e moves le = closes r.keys r.heads r.cut e.id e.v words r.name e.of p items sorted e.is e.live (subst (λ (n : ℕ). Gathered r.keys r.heads r.cut e.id e.v words n items) all e.gathered) moves le
+ended_last r p words b items sorted all e moves le =
+    let g = subst (λ (n : ℕ). Gathered r.keys r.heads r.cut e.id e.v words n items) all e.gathered in
+    let as_often : (x : ℕ) → times x sorted ≡ times x items = λ x. moved r.keys r.heads r.cut e.id e.v words x items sorted moves in
+    closes r.keys r.heads r.cut e.id e.v words r.name e.of p items sorted e.is e.live g as_often (rises r.keys r.heads r.cut e.id e.v words sorted (gathered_once r.keys r.heads r.cut e.id e.v words items sorted g as_often) le)
+
+-- the numbers from a on rise
+span_at : (a n k : ℕ) → k < n → slice_index (span a n) k ≡ a + k
+span_at a zero k h = absurd (omega arith)
+span_at a (suc n) zero h = omega arith
+span_at a (suc n) (suc k) h = let e = span_at (a + 1) n k (omega arith) in omega arith
+
+length-span : (a n : ℕ) → length (span a n) ≡ n
+length-span a zero = refl
+length-span a (suc n) = let h = length-span (a + 1) n in omega arith
+
+span_rises : (a n : ℕ) → IsStrictlyIncreasing (span a n)
+span_rises a n k h = let l = length-span a n in let e = span_at a n k (omega arith) in let f = span_at a n (k + 1) (omega arith) in omega arith
+
+-- how often a number stands among those that a test keeps
+times_filter : (p : ℕ → Bool) (x : ℕ) (xs : List ℕ) → times x (filter p xs) ≡ cond (p x) (times x xs) 0
+times_filter p x [] = grind (arith, nat_tests)
+times_filter p x (y ∷ ys) = let h = times_filter p x ys in dite (ℕ_discrete x y)
+    (λ e. elim (cases_Bool (p y)) [
+      | inl kept ↦ let q : p x ≡ true = ap p e ∙ kept in rw (kept, q) (let g : times x (filter p ys) ≡ times x ys = h ∙ ap (λ (b : Bool). cond b (times x ys) 0) q in omega arith)
+      | inr left ↦ let q : p x ≡ false = ap p e ∙ left in rw (left, q) (h ∙ ap (λ (b : Bool). cond b (times x ys) 0) q)
+    ])
+    (λ n. let z = times_else x y ys n in elim (cases_Bool (p y)) [
+      | inl kept ↦ rw kept (times_else x y (filter p ys) n ∙ h ∙ ap (λ (m : ℕ). cond (p x) m 0) (sym z))
+      | inr left ↦ rw left (h ∙ ap (λ (m : ℕ). cond (p x) m 0) (sym z))
+    ])
+
+-- the places that stand in a list, rising
+abbrev placed : List ℕ → ℕ → List ℕ
+placed items n = filter (λ x. ltb 0 (times x items)) (span 0 n)
+
+placed_times : (items : List ℕ) (n x : ℕ) → times x items ≤ 1 → (IsIn x items → x < n) → times x (placed items n) ≡ times x items
+placed_times items n x once within = times_filter (λ y. ltb 0 (times y items)) x (span 0 n) ∙ (let s = times_span x 0 n in grind (arith, nat_tests))
+
+-- A closed round has places to give, also where nobody walks along its chains.
+pub ended_any : (r : Terms) (p : Progress) (words : List ℕ) → Ended r p words 0 [] → HasClosing p
+ended_any r p words e =
+    let g = e.gathered in let law = g.law in
+    let all : List ℕ = gather law.chain r.heads in
+    let whole : Gathered r.keys r.heads r.cut e.id e.v words r.heads all = record { s = g.s; law = law; at = g.at; same = g.same; are = refl } in
+    let once = gathered_once r.keys r.heads r.cut e.id e.v words all all whole (λ x. refl) in
+    let within = gathered_within r.keys r.heads r.cut e.id e.v words all whole in
+    let as_often : (x : ℕ) → times x (placed all (length r.keys)) ≡ times x all = λ x. placed_times all (length r.keys) x (once x) (within x) in
+    (placed all (length r.keys), closes r.keys r.heads r.cut e.id e.v words r.name e.of p all (placed all (length r.keys)) e.is e.live whole as_often (IsStrictlyIncreasing-filter (λ x. ltb 0 (times x all)) (span 0 (length r.keys)) (span_rises 0 (length r.keys))))

@@ -26,7 +26,7 @@ HasHolders (p ∷ ps) items = IsIn p.holder items × HasHolders ps items
 abbrev pub IsAllSettled : Progress → Type 0
 IsAllSettled s = (j : ℕ) → j < length s.round.keys → IsIn j (places_of s.settled)
 
--- the places on chains, where s closes the round
+-- what closing tells, where s closes the round with these places on chains
 pub record Closes (s : Progress) (items : List ℕ) : Type 0 where
   pub rising : IsStrictlyIncreasing items
   pub places : ArePlaces s.round.keys items
@@ -43,3 +43,7 @@ pub record Closes (s : Progress) (items : List ℕ) : Type 0 where
   pub one_winner : s.position ≡ [] → (j : ℕ) → IsIn j (places_of s.settled) → (i : ℕ) × (times i (won_of s.settled) ≡ 1) × (slice_index s.round.keys i ≡ slice_index s.round.keys j)
   -- and at the last ticket it has drawn each place
   pub drew_all : s.position ≡ [] → s.seen ≡ piece_count s.round → (x : ℕ) → x < length s.round.keys → IsIn x s.drawn
+
+-- closing tells it of some places
+abbrev pub HasClosing : Progress → Type 0
+HasClosing s = (items : List ℕ) × Closes s items

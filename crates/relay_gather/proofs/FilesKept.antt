@@ -1,18 +1,18 @@
 -- The sections of a gathered text have the lines of their files.
 use Rattle.std.proofs.Common.{◌≡◌, ℕ, false, List, [], ◌++◌, codes, Option, Ok, refl, ap, subst, ◌∙◌, append_assoc}
-use Rattle.std.specs.List.{flat_map}
+use Rattle.std.specs.List.{flat_map, filter_map}
 use Rattle.std.specs.Str.{bytes_eq}
 use Rattle.std.proofs.lemmas.List.{append-nil}
-use Rattle.std.proofs.lemmas.List.Elements.{All-from_recursion, All-contains}
+use Rattle.std.proofs.lemmas.List.Elements.{filter_map-append}
 use Rattle.relay_job.specs.declared.job.JobInclude.{JobInclude}
 use Rattle.relay_job.specs.JobText.{named, sections_of}
 use Rattle.relay_gather.specs.declared.paths.Paths.{Paths}
 use Rattle.relay_gather.specs.Source.{Answer}
 use Rattle.relay_gather.specs.Sections.{joined}
-use Rattle.relay_gather.specs.Gathering.{first_names, sections_in, IsBreadthFirst, IsWhole, HasNamed, HasFiles, IsBodyOf}
+use Rattle.relay_gather.specs.Gathering.{first_names, sections_in, IsBreadthFirst, IsWhole, HasNamed, HasFiles, found_include}
 use Rattle.relay_gather.proofs.HeadingLines.{settings_heading, aliases_heading, mailboxes_heading, transport_heading, mx_heading, envelope_heading}
-use Rattle.relay_gather.proofs.TextLines.{Piece, piece_text, AllHeadings, first_file, file_bytes, AllAnswered, NoRepeats, text_section, text_unbroken, text_includes}
-use Rattle.relay_gather.proofs.Pieces.{joined-texts, Writes, Writes-append, AllHeadings-append, skipped, taken, Lacks-append, rank, IsFree-none, named_pieces, include_pieces, writes_in, writes_includes, headings_in, headings_includes, lacks_named, lacks_includes, new_named, new_includes, answered_in, answered_includes, AllAnswered-append, has_named, order_pass, order_distinct}
+use Rattle.relay_gather.proofs.TextLines.{Piece, piece_text, AllHeadings, first_file, file_bytes, include_of, NoRepeats, text_section, text_unbroken, text_includes}
+use Rattle.relay_gather.proofs.Pieces.{joined-texts, Writes, Writes-append, AllHeadings-append, skipped, taken, Lacks-append, rank, IsFree-none, named_pieces, include_pieces, writes_in, writes_includes, headings_in, headings_includes, lacks_named, lacks_includes, new_named, new_includes, includes_named, includes_found, has_named, order_pass, order_distinct}
 
 module _ (answer : List ℕ → Answer) (files : Paths) (includes : List (List ℕ)) (order : IsBreadthFirst answer (first_names answer files.aliases) includes) where
   abbrev Ss : List Piece
@@ -63,14 +63,23 @@ module _ (answer : List ℕ → Answer) (files : Paths) (includes : List (List �
         (AllHeadings-append Ts _ (headings_in answer (codes "%transport") files.transport transport_heading)
         (AllHeadings-append Xs Es (headings_in answer (codes "%mx") files.mx mx_heading) (headings_in answer (codes "%envelope") files.envelope envelope_heading))))))
 
-    answered : AllAnswered answer all
-    answered =
-        AllAnswered-append answer Ss _ (answered_in answer (codes "%settings") files.settings)
-        (AllAnswered-append answer As _ (answered_in answer (codes "%aliases") files.aliases)
-        (AllAnswered-append answer Is _ (answered_includes answer includes)
-        (AllAnswered-append answer Ms _ (answered_in answer (codes "%mailboxes") files.mailboxes)
-        (AllAnswered-append answer Ts _ (answered_in answer (codes "%transport") files.transport)
-        (AllAnswered-append answer Xs Es (answered_in answer (codes "%mx") files.mx) (answered_in answer (codes "%envelope") files.envelope))))))
+    -- ---- the include files
+    unnamed : (word : List ℕ) (path : Option (List ℕ)) (ps : List Piece) → filter_map include_of (named_pieces answer word path ++ ps) ≡ filter_map include_of ps
+    unnamed word path ps =
+        filter_map-append include_of (named_pieces answer word path) ps
+        ∙ ap (λ (is : List JobInclude). is ++ filter_map include_of ps) (includes_named answer word path)
+
+    no_later : filter_map include_of (Ms ++ (Ts ++ (Xs ++ Es))) ≡ []
+    no_later =
+        unnamed (codes "%mailboxes") files.mailboxes (Ts ++ (Xs ++ Es)) ∙ unnamed (codes "%transport") files.transport (Xs ++ Es)
+        ∙ unnamed (codes "%mx") files.mx Es ∙ includes_named answer (codes "%envelope") files.envelope
+
+    has_includes : (sections_of text).includes ≡ filter_map (found_include answer) includes
+    has_includes =
+        text_includes all text text_is headings
+        ∙ unnamed (codes "%settings") files.settings (As ++ (Is ++ (Ms ++ (Ts ++ (Xs ++ Es))))) ∙ unnamed (codes "%aliases") files.aliases (Is ++ (Ms ++ (Ts ++ (Xs ++ Es))))
+        ∙ filter_map-append include_of Is (Ms ++ (Ts ++ (Xs ++ Es))) ∙ ap (λ (is : List JobInclude). filter_map include_of Is ++ is) no_later
+        ∙ append-nil (filter_map include_of Is) ∙ includes_found answer includes
 
     once : NoRepeats [] all
     unfolding rank
@@ -148,9 +157,9 @@ module _ (answer : List ℕ → Answer) (files : Paths) (includes : List (List �
       transport = section (codes "%transport") files.transport has_transport;
       mx = section (codes "%mx") files.mx has_mx;
       envelope = section (codes "%envelope") files.envelope has_envelope;
-      includes = λ i there.
-          let P : JobInclude → Type 0 = λ j. IsBodyOf j.bytes (answer j.path) in
-          All-contains P (sections_of text).includes i (All-from_recursion P (sections_of text).includes (text_includes all text text_is headings answer answered)) there;
+      paths = includes;
+      order = order;
+      includes = has_includes;
     }
 
 pub whole_has_files : (answer : List ℕ → Answer) (files : Paths) (max : ℕ) (text : List ℕ) → IsWhole answer files max (Ok text) → HasFiles answer files text

@@ -1,23 +1,25 @@
 -- The sections of a gathered text, by the files that the source has.
 use Rattle.std.proofs.Common.{◌≡◌, ℕ, ◌+◌, ◌-◌, ◌≤◌, ◌<◌, Bool, true, false, not, cond, ltb, ◌&&◌, ◌||◌, List, [], ◌∷◌, ◌++◌, length, map, codes, Option, Some, None, Result, Ok, Err, refl, sym, ap, subst, ◌∙◌, append_assoc, arith}
-use Rattle.std.specs.List.{flat_map, list_any, list_all, filter}
+use Rattle.std.specs.List.{flat_map, filter_map, cons_option, list_any, list_all, filter}
 use Rattle.std.specs.Str.{bytes_eq}
 use Rattle.std.proofs.lemmas.Bool.{and_parts, true≢false}
 use Rattle.std.proofs.lemmas.Grind.{flat_map-append}
+use Rattle.std.proofs.lemmas.List.Elements.{filter_map-append}
 use Rattle.std.proofs.lemmas.List.Folds.{list_all-append}
 use Rattle.std.proofs.lemmas.Slice.Eq.{bytes_eq-Decides}
 use Rattle.relay_text.specs.Addresses.{result_map}
 use Rattle.relay_text.specs.Bytes.{firsts}
+use Rattle.relay_job.specs.declared.job.JobInclude.{JobInclude}
 use Rattle.relay_job.specs.JobText.{named, include, same_section, section_bytes}
 use Rattle.relay_job.specs.JobText as texts
 use Rattle.relay_job.specs.declared.fault.RunFault.{RunFault}
 use Rattle.relay_job.specs.declared.fault.RunFault.TheVariants.{TooLong}
 use Rattle.relay_gather.specs.Source.{Answer, unknown, absent, failed, file}
 use Rattle.relay_gather.specs.Sections.{joined, named_section, include_section}
-use Rattle.relay_gather.specs.Gathering.{named_in, included_in, first_names, names_of, later_names, names_in_aliases, names_in_include, IsBreadthFirst, HasNamed, IsBodyOf}
+use Rattle.relay_gather.specs.Gathering.{named_in, included_in, first_names, names_of, later_names, names_in_aliases, names_in_include, IsBreadthFirst, HasNamed, IsBodyOf, include_of_answer, found_include}
 use Rattle.relay_gather.proofs.NamedPaths.{is_path, alias_paths, include_paths, all_firsts}
 use Rattle.relay_gather.proofs.HeadingLines.{include_heading}
-use Rattle.relay_gather.proofs.TextLines.{Piece, piece_text, IsHeading, AllHeadings, first_file, file_bytes, AllAnswered, NoRepeats}
+use Rattle.relay_gather.proofs.TextLines.{Piece, piece_text, IsHeading, AllHeadings, first_file, file_bytes, include_of, NoRepeats}
 
 -- ---- the texts of sections
 pub texts_of : List (Result (List ℕ) RunFault) → List ℕ
@@ -243,19 +245,14 @@ module _ (answer : List ℕ → Answer) where
   new_named known word None least ps e free next = next known (λ s h. free s (omega (arith, h)))
   new_named known word (Some path) least ps e free next = new_section known (named word) (answer path) least ps e free next
 
-  answered_by : (word : List ℕ) (a : Answer) → AllAnswered answer (by_answer (named word) a)
-  answered_by word (file text) = (tt, tt)
-  answered_by word absent = tt
-  answered_by word failed = tt
-  answered_by word unknown = tt
-
-  pub answered_in : (word : List ℕ) (path : Option (List ℕ)) → AllAnswered answer (named_pieces word path)
-  answered_in word None = tt
-  answered_in word (Some path) = answered_by word (answer path)
-
-  pub AllAnswered-append : (ps qs : List Piece) → AllAnswered answer ps → AllAnswered answer qs → AllAnswered answer (ps ++ qs)
-  AllAnswered-append [] qs h g = g
-  AllAnswered-append (p ∷ ps) qs h g = (h.0, AllAnswered-append ps qs h.1 g)
+  pub includes_named : (word : List ℕ) (path : Option (List ℕ)) → filter_map include_of (named_pieces word path) ≡ []
+  includes_named word None = refl
+  includes_named word (Some path) = at (answer path) where
+    at : (a : Answer) → filter_map include_of (by_answer (named word) a) ≡ []
+    at (file text) = refl
+    at absent = refl
+    at failed = refl
+    at unknown = refl
 
   -- the bytes of a named section
   pub has_named : (text word : List ℕ) (path : Option (List ℕ)) → section_bytes text word ≡ file_bytes (first_file (named word) (named_pieces word path)) → HasNamed answer text word path
@@ -285,15 +282,23 @@ module _ (answer : List ℕ → Answer) where
   lacks_includes word [] = refl
   lacks_includes word (p ∷ ps) = Lacks-append word (piece_of p) (include_pieces ps) (lacks_by word (include p) (answer p) refl) (lacks_includes word ps)
 
-  answered_include : (path : List ℕ) (a : Answer) → answer path ≡ a → AllAnswered answer (by_answer (include path) a)
-  answered_include path (file text) e = (e, tt)
-  answered_include path absent e = tt
-  answered_include path failed e = tt
-  answered_include path unknown e = tt
+  -- what a job has of an answer
+  include_by : (path : List ℕ) (a : Answer) → filter_map include_of (by_answer (include path) a) ≡ cons_option (include_of_answer path a) []
+  include_by path (file text) = refl
+  include_by path absent = refl
+  include_by path failed = refl
+  include_by path unknown = refl
 
-  pub answered_includes : (paths : List (List ℕ)) → AllAnswered answer (include_pieces paths)
-  answered_includes [] = tt
-  answered_includes (p ∷ ps) = AllAnswered-append (piece_of p) (include_pieces ps) (answered_include p (answer p) refl) (answered_includes ps)
+  pub includes_found : (paths : List (List ℕ)) → filter_map include_of (include_pieces paths) ≡ filter_map (found_include answer) paths
+  includes_found [] = refl
+  includes_found (p ∷ ps) =
+      filter_map-append include_of (piece_of p) (include_pieces ps)
+      ∙ ap (λ is. is ++ filter_map include_of (include_pieces ps)) (include_by p (answer p))
+      ∙ ap (λ is. cons_option (found_include answer p) [] ++ is) (includes_found ps)
+      ∙ onto (found_include answer p) where
+        onto : (o : Option JobInclude) → cons_option o [] ++ filter_map (found_include answer) ps ≡ cons_option o (filter_map (found_include answer) ps)
+        onto None = refl
+        onto (Some i) = refl
 
   paths_once : (known : List texts.Section) (paths : List (List ℕ)) (ps : List Piece) → Distinct paths → AreNew known paths → IsFree known 3
       → ((now : List texts.Section) → IsFree now 3 → NoRepeats now ps) → NoRepeats known (include_pieces paths ++ ps)

@@ -1,30 +1,28 @@
 -- The lines of a text that is made of headings and the lines of files.
-use Rattle.std.proofs.Common.{◌≡◌, ℕ, ◌+◌, Bool, true, false, not, cond, eqb, ◌&&◌, ◌||◌, ◌==◌, List, [], ◌∷◌, ◌++◌, length, map, codes, Option, Some, None, refl, sym, ap, subst, ◌∙◌, append_assoc, arith}
-use Rattle.std.specs.List.{flat_map, list_any, onto_first, cons_option, slice_get, AllByRecursion}
+use Rattle.std.proofs.Common.{◌≡◌, ℕ, ◌+◌, Bool, true, false, not, cond, eqb, ◌&&◌, ◌||◌, ◌==◌, List, [], ◌∷◌, ◌++◌, length, take, map, codes, Option, Some, None, refl, sym, ap, subst, ◌∙◌, append_assoc, arith, suc}
+use Rattle.std.specs.List.{flat_map, filter_map, list_any, before_first, onto_first, cons_option, slice_get}
 use Rattle.std.proofs.lemmas.Bool.Decides.{Decides-eqb}
 use Rattle.std.proofs.lemmas.List.Folds.{list_any-append}
-use Rattle.relay_text.specs.Bytes.{begins_with}
+use Rattle.relay_text.specs.Bytes.{begins_with, each_after, first_of}
 use Rattle.relay_text.specs.Lines.{raw_lines, line_text, without_cr, Cut, cut_before}
-use Rattle.relay_text.proofs.Paths.{before_behind}
 use Rattle.relay_job.specs.declared.job.JobInclude.{JobInclude}
-use Rattle.relay_job.specs.JobText.{JobLine, named, include, same_section, job_lines, text_of, is_heading, content_of, section_of, has_section, breaks_job, bad_job, Part, part_bytes, part_at, section_bytes, sections_of}
+use Rattle.relay_job.specs.JobText.{JobLine, named, include, same_section, job_lines, text_of, is_heading, content_of, section_of, has_section, breaks_job, bad_job, Part, part_of, parts_of, part_bytes, section_bytes, included, sections_of}
 use Rattle.relay_job.specs.JobText as texts
 use Rattle.relay_job.specs.Places.{numbered_from}
-use Rattle.relay_job.proofs.SectionFacts.{content_before, part_if, or_later, part_in, part_at-is, include_if, includes_in, includes_of-are, broken_after, breaks-heading, seen-heading}
-use Rattle.relay_job.proofs.ParseFacts.{bytes_in, section_bytes-is}
-use Rattle.relay_gather.specs.Source.{Answer, file}
 use Rattle.relay_gather.specs.Sections.{with_end, section_body, section_text}
-use Rattle.relay_gather.specs.Gathering.{IsBodyOf}
 use Rattle.relay_gather.specs.Gathered.{percent}
 use Rattle.relay_gather.proofs.Lines.{HasNoEnd, AllPlain, marked_line, closed_line, percent_plain, has_texts}
 
 -- ---- lines without their ends
-no_lf : (text : List ℕ) → HasNoEnd text → list_any (λ b. b == 10) text ≡ false
-no_lf [] h = refl
-no_lf (b ∷ bs) h = rw h.0 (no_lf bs h.1)
+take_one : (n b : ℕ) (bs : List ℕ) → take (1 + n) (b ∷ bs) ≡ b ∷ take n bs
+take_one n b bs = ap (λ k. take k (b ∷ bs)) (let e : 1 + n ≡ suc n = omega arith in e)
+
+before_end : (text : List ℕ) → HasNoEnd text → before_first (λ b. b == 10) (text ++ 10 ∷ []) ≡ text
+before_end [] h = refl
+before_end (b ∷ bs) h = rw h.0 (take_one _ b (bs ++ 10 ∷ []) ∙ ap (λ t. b ∷ t) (before_end bs h.1))
 
 line_text-closed : (text : List ℕ) → HasNoEnd text → line_text (closed_line text) ≡ without_cr text
-line_text-closed text h = ap without_cr (before_behind (λ b. b == 10) text 10 [] (no_lf text h) refl)
+line_text-closed text h = ap without_cr (before_end text h)
 
 raw_first : (text rest : List ℕ) → HasNoEnd text → raw_lines (text ++ 10 ∷ rest) ≡ closed_line text ∷ raw_lines rest
 raw_first [] rest h = refl
@@ -174,29 +172,60 @@ heading_is l s e h = ap heads (heading_text l s e h) ∙ h.starts
 heading_names : (l : JobLine) (s : texts.Section) → l.raw ≡ closed_line (heading_of s) → IsHeading s → section_of (text_of l) ≡ Some s
 heading_names l s e h = ap section_of (heading_text l s e h) ∙ h.names
 
-before_later : (ps : List Piece) (ls : List JobLine) → AllHeadings ps → AreLinesOf ps ls → content_before ls ≡ []
-before_later [] ls h e = ap content_before e
-before_later (p ∷ ps) ls h e = ap content_before e.1.is ∙ stop (is_heading e.1.heading) (heading_is e.1.heading p.section e.1.raw h.0) where
-  stop : (t : Bool) → t ≡ true
-      → (cond {A = Cut JobLine} t (record { before = []; pieces = (e.1.heading ∷ (cut_before is_heading (e.1.body ++ e.0)).before) ∷ (cut_before is_heading (e.1.body ++ e.0)).pieces })
-      (record { before = e.1.heading ∷ (cut_before is_heading (e.1.body ++ e.0)).before; pieces = (cut_before is_heading (e.1.body ++ e.0)).pieces })).before ≡ []
-  stop t f = rw f
+body_bytes : (p : Piece) (ls later : List JobLine) (h : PieceLines p ls later) → flat_map (λ (l : JobLine). content_of l.raw) h.body ≡ with_end p.file
+body_bytes p ls later h = contents h.body (has_texts p.file).texts h.raws ∙ sym (has_texts p.file).ended
 
-before_body : (body later : List JobLine) → AllOther body → content_before later ≡ [] → content_before (body ++ later) ≡ body
-before_body [] later h e = e
-before_body (l ∷ ls) later h e = go (is_heading l) h.0 (before_body ls later h.1 e) where
-  go : (t : Bool) → t ≡ false → content_before (ls ++ later) ≡ ls
-      → (cond {A = Cut JobLine} t (record { before = []; pieces = (l ∷ (cut_before is_heading (ls ++ later)).before) ∷ (cut_before is_heading (ls ++ later)).pieces })
-      (record { before = l ∷ (cut_before is_heading (ls ++ later)).before; pieces = (cut_before is_heading (ls ++ later)).pieces })).before ≡ l ∷ ls
-  go t f g = rw f (ap (λ xs. l ∷ xs) g)
+body_others : (p : Piece) (ls later : List JobLine) (h : PieceLines p ls later) → AllOther h.body
+body_others p ls later h = others h.body (has_texts p.file).texts h.raws (has_texts p.file).plain
 
-part_behind_body : (s : texts.Section) (body later : List JobLine) → AllOther body → part_in s (body ++ later) ≡ part_in s later
-part_behind_body s [] later h = refl
-part_behind_body s (l ∷ ls) later h = rw h.0 (part_behind_body s ls later h.1)
+-- ---- lines cut at their headings
+abbrev cut_at : Bool → JobLine → Cut JobLine → Cut JobLine
+cut_at heads_one x rest = cond heads_one (record { before = []; pieces = (x ∷ rest.before) ∷ rest.pieces }) (record { before = x ∷ rest.before; pieces = rest.pieces })
 
-includes_behind_body : (body later : List JobLine) → AllOther body → includes_in (body ++ later) ≡ includes_in later
-includes_behind_body [] later h = refl
-includes_behind_body (l ∷ ls) later h = rw h.0 (includes_behind_body ls later h.1)
+cut_heading : (x : JobLine) (xs : List JobLine) → is_heading x ≡ true → cut_before is_heading (x ∷ xs) ≡ record { before = []; pieces = (x ∷ (cut_before is_heading xs).before) ∷ (cut_before is_heading xs).pieces }
+cut_heading x xs e = ap (λ (t : Bool). cut_at t x (cut_before is_heading xs)) e
+
+cut_other : (x : JobLine) (xs : List JobLine) → is_heading x ≡ false → cut_before is_heading (x ∷ xs) ≡ record { before = x ∷ (cut_before is_heading xs).before; pieces = (cut_before is_heading xs).pieces }
+cut_other x xs e = ap (λ (t : Bool). cut_at t x (cut_before is_heading xs)) e
+
+cut_body : (body later : List JobLine) → AllOther body → (cut_before is_heading later).before ≡ [] → cut_before is_heading (body ++ later) ≡ record { before = body; pieces = (cut_before is_heading later).pieces }
+cut_body [] later h e = ap (λ (ls : List JobLine). record { before = ls; pieces = (cut_before is_heading later).pieces }) e
+cut_body (l ∷ ls) later h e =
+    cut_other l (ls ++ later) h.0
+    ∙ ap (λ (c : Cut JobLine). record { before = l ∷ c.before; pieces = c.pieces }) (cut_body ls later h.1 e)
+
+heading_first : (ps : List Piece) (ls : List JobLine) → AllHeadings ps → AreLinesOf ps ls → (cut_before is_heading ls).before ≡ []
+heading_first [] ls h e = ap (λ (xs : List JobLine). (cut_before is_heading xs).before) e
+heading_first (p ∷ ps) ls h e =
+    ap (λ (xs : List JobLine). (cut_before is_heading xs).before) e.1.is
+    ∙ ap (λ (c : Cut JobLine). c.before) (cut_heading e.1.heading (e.1.body ++ e.0) (heading_is e.1.heading p.section e.1.raw h.0))
+
+-- ---- the parts of a job are the pieces
+record IsPiece (p : Piece) (part : Part) : Type 0 where
+  pub section : part.section ≡ p.section
+  pub bytes : part_bytes part ≡ with_end p.file
+
+abbrev ArePieces : List Piece → List Part → Type 0
+ArePieces [] parts = parts ≡ []
+ArePieces (p ∷ ps) [] = ⊥
+ArePieces (p ∷ ps) (part ∷ parts) = IsPiece p part × ArePieces ps parts
+
+abbrev parts_in : List JobLine → List Part
+parts_in ls = filter_map part_of (cut_before is_heading ls).pieces
+
+part_is : (x : JobLine) (xs : List JobLine) (s : texts.Section) → section_of (text_of x) ≡ Some s → part_of (x ∷ xs) ≡ Some (record { section = s; number = x.number; lines = xs })
+part_is x xs s e = rw e
+
+parts_are : (ps : List Piece) (ls : List JobLine) → AllHeadings ps → AreLinesOf ps ls → ArePieces ps (parts_in ls)
+parts_are [] ls h e = ap parts_in e
+parts_are (p ∷ ps) ls h e =
+    subst (ArePieces (p ∷ ps)) (sym is) (record { section = refl; bytes = body_bytes p ls e.0 e.1 }, parts_are ps e.0 h.1 e.2) where
+      is : parts_in ls ≡ record { section = p.section; number = e.1.heading.number; lines = e.1.body } ∷ parts_in e.0
+      is =
+          ap parts_in e.1.is
+          ∙ ap (λ (c : Cut JobLine). filter_map part_of c.pieces) (cut_heading e.1.heading (e.1.body ++ e.0) (heading_is e.1.heading p.section e.1.raw h.0))
+          ∙ ap (λ (c : Cut JobLine). filter_map part_of ((e.1.heading ∷ c.before) ∷ c.pieces)) (cut_body e.1.body e.0 (body_others p ls e.0 e.1) (heading_first ps e.0 h.1 e.2))
+          ∙ ap (λ (o : Option Part). cons_option o (parts_in e.0)) (part_is e.1.heading e.1.body p.section (heading_names e.1.heading p.section e.1.raw h.0))
 
 -- ---- the bytes of a section
 abbrev pub first_file : texts.Section → List Piece → Option (List ℕ)
@@ -207,66 +236,49 @@ abbrev pub file_bytes : Option (List ℕ) → List ℕ
 file_bytes None = []
 file_bytes (Some text) = with_end text
 
-body_bytes : (p : Piece) (ls later : List JobLine) (h : PieceLines p ls later) → flat_map (λ (l : JobLine). content_of l.raw) h.body ≡ with_end p.file
-body_bytes p ls later h = contents h.body (has_texts p.file).texts h.raws ∙ sym (has_texts p.file).ended
+abbrev bytes_in : Option Part → List ℕ
+bytes_in None = []
+bytes_in (Some part) = part_bytes part
 
-body_others : (p : Piece) (ls later : List JobLine) (h : PieceLines p ls later) → AllOther h.body
-body_others p ls later h = others h.body (has_texts p.file).texts h.raws (has_texts p.file).plain
+abbrev part_among : texts.Section → List Part → Option Part
+part_among s parts = first_of (map (λ (q : Part). cond (same_section s q.section) (Some q) None) parts)
 
--- what stands behind a piece's heading, up to the next
-body_before : (p : Piece) (ps : List Piece) (ls later : List JobLine) (h : PieceLines p ls later) → AllHeadings ps → AreLinesOf ps later → content_before (h.body ++ later) ≡ h.body
-body_before p ps ls later h all e = before_body h.body later (body_others p ls later h) (before_later ps later all e)
+bytes_among : (s : texts.Section) (ps : List Piece) (parts : List Part) → ArePieces ps parts → bytes_in (part_among s parts) ≡ file_bytes (first_file s ps)
+bytes_among s [] parts e = ap (λ (qs : List Part). bytes_in (part_among s qs)) e
+bytes_among s (p ∷ ps) [] e = absurd e
+bytes_among s (p ∷ ps) (q ∷ qs) e =
+    ap (λ (t : texts.Section). bytes_in (first_of (cond (same_section s t) (Some q) None ∷ map (λ (r : Part). cond (same_section s r.section) (Some r) None) qs))) e.0.section
+    ∙ at (same_section s p.section) (bytes_among s ps qs e.1) where
+      at : (t : Bool) → bytes_in (part_among s qs) ≡ file_bytes (first_file s ps)
+          → bytes_in (first_of (cond t (Some q) None ∷ map (λ (r : Part). cond (same_section s r.section) (Some r) None) qs)) ≡ file_bytes (cond t (Some p.file) (first_file s ps))
+      at true later = e.0.bytes
+      at false later = later
 
-part_of_piece : (s : texts.Section) (p : Piece) (ps : List Piece) (ls later : List JobLine) (h : PieceLines p ls later) → IsHeading p.section → AllHeadings ps → AreLinesOf ps later
-    → part_in s ls ≡ or_later (part_if s h.heading h.body (Some p.section)) (part_in s later)
-part_of_piece s p ps ls later h good all e =
-    ap (part_in s) h.is
-    ∙ ap (λ (t : Bool). cond t (or_later (part_if s h.heading (content_before (h.body ++ later)) (section_of (text_of h.heading))) (part_in s (h.body ++ later))) (part_in s (h.body ++ later))) (heading_is h.heading p.section h.raw good)
-    ∙ ap (λ (o : Option texts.Section). or_later (part_if s h.heading (content_before (h.body ++ later)) o) (part_in s (h.body ++ later))) (heading_names h.heading p.section h.raw good)
-    ∙ ap (λ (ls : List JobLine). or_later (part_if s h.heading ls (Some p.section)) (part_in s (h.body ++ later))) (body_before p ps ls later h all e)
-    ∙ ap (or_later (part_if s h.heading h.body (Some p.section))) (part_behind_body s h.body later (body_others p ls later h))
-
-part_bytes_in : (s : texts.Section) (ps : List Piece) (ls : List JobLine) → AllHeadings ps → AreLinesOf ps ls → bytes_in (part_in s ls) ≡ file_bytes (first_file s ps)
-part_bytes_in s [] ls h e = ap (λ (ls : List JobLine). bytes_in (part_in s ls)) e
-part_bytes_in s (p ∷ ps) ls h e =
-    ap bytes_in (part_of_piece s p ps ls e.0 e.1 h.0 h.1 e.2) ∙ at (same_section s p.section) (body_bytes p ls e.0 e.1) (part_bytes_in s ps e.0 h.1 e.2) where
-      at : (t : Bool) → flat_map (λ (l : JobLine). content_of l.raw) e.1.body ≡ with_end p.file → bytes_in (part_in s e.0) ≡ file_bytes (first_file s ps)
-          → bytes_in (or_later (cond t (Some (record { section = p.section; number = e.1.heading.number; lines = e.1.body })) None) (part_in s e.0)) ≡ file_bytes (cond t (Some p.file) (first_file s ps))
-      at true here later = here
-      at false here later = later
+section_bytes-is : (text word : List ℕ) → section_bytes text word ≡ bytes_in (part_among (named word) (parts_of text))
+section_bytes-is text word = at (part_among (named word) (parts_of text)) refl where
+  at : (o : Option Part) → part_among (named word) (parts_of text) ≡ o → section_bytes text word ≡ bytes_in o
+  at None e = rw e
+  at (Some part) e = rw e
 
 -- ---- the include files
--- a piece of an include file is what the source answers for its path
-abbrev pub IsAnswered : (List ℕ → Answer) → Piece → Type 0
-IsAnswered answer p = answered p.section where
-  answered : texts.Section → Type 0
-  answered (named word) = Unit {0}
-  answered (include path) = answer path ≡ file p.file
+abbrev pub include_of : Piece → Option JobInclude
+include_of p = include_in p.section where
+  include_in : texts.Section → Option JobInclude
+  include_in (named word) = None
+  include_in (include path) = Some (record { path = path; bytes = with_end p.file })
 
-abbrev pub AllAnswered : (List ℕ → Answer) → List Piece → Type 0
-AllAnswered answer [] = Unit {0}
-AllAnswered answer (p ∷ ps) = IsAnswered answer p × AllAnswered answer ps
+include_of_part : (p : Piece) (part : Part) → IsPiece p part → included part ≡ include_of p
+include_of_part p part e = at p.section refl where
+  at : (s : texts.Section) → p.section ≡ s → included part ≡ include_of p
+  at (named word) f = rw (e.section, f)
+  at (include path) f = rw (e.section, f, e.bytes)
 
-abbrev IsIncluded : (List ℕ → Answer) → JobInclude → Type 0
-IsIncluded answer i = IsBodyOf i.bytes (answer i.path)
-
-includes_of_pieces : (answer : List ℕ → Answer) (ps : List Piece) (ls : List JobLine) → AllHeadings ps → AllAnswered answer ps → AreLinesOf ps ls → AllByRecursion (IsIncluded answer) (includes_in ls)
-includes_of_pieces answer [] ls h a e = subst (λ (ls : List JobLine). AllByRecursion (IsIncluded answer) (includes_in ls)) (sym e) tt
-includes_of_pieces answer (p ∷ ps) ls h a e =
-    subst (AllByRecursion (IsIncluded answer)) (sym is) (at p.section refl a.0 (includes_of_pieces answer ps e.0 h.1 a.1 e.2)) where
-      is : includes_in ls ≡ cons_option (include_if e.1.body (Some p.section)) (includes_in e.0)
-      is =
-          ap includes_in e.1.is
-          ∙ ap (λ (t : Bool). cond t (cons_option (include_if (content_before (e.1.body ++ e.0)) (section_of (text_of e.1.heading))) (includes_in (e.1.body ++ e.0))) (includes_in (e.1.body ++ e.0))) (heading_is e.1.heading p.section e.1.raw h.0)
-          ∙ ap (λ (o : Option texts.Section). cons_option (include_if (content_before (e.1.body ++ e.0)) o) (includes_in (e.1.body ++ e.0))) (heading_names e.1.heading p.section e.1.raw h.0)
-          ∙ ap (λ (ls : List JobLine). cons_option (include_if ls (Some p.section)) (includes_in (e.1.body ++ e.0))) (body_before p ps ls e.0 e.1 h.1 e.2)
-          ∙ ap (cons_option (include_if e.1.body (Some p.section))) (includes_behind_body e.1.body e.0 (body_others p ls e.0 e.1))
-
-      at : (s : texts.Section) → p.section ≡ s → IsAnswered answer p → AllByRecursion (IsIncluded answer) (includes_in e.0) → AllByRecursion (IsIncluded answer) (cons_option (include_if e.1.body (Some s)) (includes_in e.0))
-      at (named word) f g later = later
-      at (include path) f g later = (subst (IsBodyOf (flat_map (λ (l : JobLine). content_of l.raw) e.1.body)) (sym (answered f g)) (body_bytes p ls e.0 e.1), later) where
-        answered : p.section ≡ include path → IsAnswered answer p → answer path ≡ file p.file
-        answered f g = rw f at g
+includes_are : (ps : List Piece) (parts : List Part) → ArePieces ps parts → filter_map included parts ≡ filter_map include_of ps
+includes_are [] parts e = ap (filter_map included) e
+includes_are (p ∷ ps) [] e = absurd e
+includes_are (p ∷ ps) (q ∷ qs) e =
+    ap (λ (o : Option JobInclude). cons_option o (filter_map included qs)) (include_of_part p q e.0)
+    ∙ ap (cons_option (include_of p)) (includes_are ps qs e.1)
 
 -- ---- no line breaks the job
 abbrev pub NoRepeats : List texts.Section → List Piece → Type 0
@@ -287,6 +299,16 @@ or_true false = refl
 or_swapped : (a b : Bool) → (a || b) ≡ (b || a)
 or_swapped true b = sym (or_true b)
 or_swapped false b = sym (or_false b)
+
+-- the numbers of the lines that break the job, after those before them
+abbrev broken_after : List JobLine → List JobLine → List ℕ
+broken_after done rest = each_after (λ earlier x. cond (breaks_job earlier x) (x.number ∷ []) []) done rest
+
+broken_again : (done : List JobLine) (x : JobLine) (s : texts.Section) → is_heading x ≡ true → section_of (text_of x) ≡ Some s → breaks_job done x ≡ has_section done s
+broken_again done x s e f = rw (e, f)
+
+seen_heading : (done : List JobLine) (x : JobLine) (s t : texts.Section) → is_heading x ≡ true → section_of (text_of x) ≡ Some t → has_section (done ++ x ∷ []) s ≡ (has_section done s || same_section s t)
+seen_heading done x s t e f = list_any-append _ done (x ∷ []) ∙ rw (e, f) (ap (λ (b : Bool). has_section done s || b) (or_false (same_section s t)))
 
 unseen_other : (done : List JobLine) (x : JobLine) (s : texts.Section) → is_heading x ≡ false → has_section (done ++ x ∷ []) s ≡ has_section done s
 unseen_other done x s e = list_any-append _ done (x ∷ []) ∙ rw e (or_false (has_section done s))
@@ -317,9 +339,9 @@ unbroken done known (p ∷ ps) ls h n k e =
     let head : is_heading x ≡ true = heading_is x p.section e.1.raw h.0 in
     let names : section_of (text_of x) ≡ Some p.section = heading_names x p.section e.1.raw h.0 in
     ap (broken_after done) e.1.is
-    ∙ unbroken_line done x (e.1.body ++ e.0) (breaks-heading done x p.section head names ∙ k p.section ∙ n.0)
+    ∙ unbroken_line done x (e.1.body ++ e.0) (broken_again done x p.section head names ∙ k p.section ∙ n.0)
     ∙ unbroken_body (done ++ x ∷ []) e.1.body e.0 (p.section ∷ known) (body_others p ls e.0 e.1) (started_by done x head)
-    (λ s. seen-heading done x s p.section head names ∙ ap (λ (t : Bool). t || same_section s p.section) (k s) ∙ or_swapped (list_any (same_section s) known) (same_section s p.section))
+    (λ s. seen_heading done x s p.section head names ∙ ap (λ (t : Bool). t || same_section s p.section) (k s) ∙ or_swapped (list_any (same_section s) known) (same_section s p.section))
     (λ now started knows. unbroken now (p.section ∷ known) ps e.0 h.1 n.1 knows e.2)
 
 -- ---- of a text
@@ -327,11 +349,14 @@ module _ (ps : List Piece) (text : List ℕ) (is : text ≡ flat_map piece_text 
   are_lines : AreLinesOf ps (job_lines text)
   are_lines = subst (λ (t : List ℕ). AreLinesOf ps (job_lines t)) (sym is) (lines_of 1 ps h)
 
+  are_parts : ArePieces ps (parts_of text)
+  are_parts = parts_are ps (job_lines text) h are_lines
+
   pub text_section : (word : List ℕ) → section_bytes text word ≡ file_bytes (first_file (named word) ps)
-  text_section word = section_bytes-is text word ∙ ap bytes_in (part_at-is text (named word)) ∙ part_bytes_in (named word) ps (job_lines text) h are_lines
+  text_section word = section_bytes-is text word ∙ bytes_among (named word) ps (parts_of text) are_parts
 
   pub text_unbroken : NoRepeats [] ps → bad_job text ≡ None
   text_unbroken n = ap (λ (ns : List ℕ). slice_get ns 0) (unbroken [] [] ps (job_lines text) h n (λ s. refl) are_lines)
 
-  pub text_includes : (answer : List ℕ → Answer) → AllAnswered answer ps → AllByRecursion (λ (i : JobInclude). IsBodyOf i.bytes (answer i.path)) (sections_of text).includes
-  text_includes answer a = subst (AllByRecursion (IsIncluded answer)) (sym (includes_of-are text)) (includes_of_pieces answer ps (job_lines text) h a are_lines)
+  pub text_includes : (sections_of text).includes ≡ filter_map include_of ps
+  text_includes = includes_are ps (parts_of text) are_parts

@@ -1,5 +1,5 @@
 -- The job text that is gathered from files.
-use Rattle.std.specs.Prelude.{◌≡◌, ℕ, List, [], ◌∷◌, ◌++◌, take, map, flat_map, codes, Contains, slice_get, Option, Some, None, Result, Ok, Err, ◌⊎◌, ⊤}
+use Rattle.std.specs.Prelude.{◌≡◌, ℕ, List, [], ◌∷◌, ◌++◌, take, map, filter_map, flat_map, codes, Contains, slice_get, Option, Some, None, Result, Ok, Err, ◌⊎◌, ⊤}
 use Rattle.std.specs.Str.{bytes_eq}
 use Rattle.relay_text.specs.Bytes.{firsts}
 use Rattle.relay_aliasfile.specs.AliasFiles.{alias_file_of, entry_items}
@@ -110,6 +110,17 @@ abbrev pub HasNamed : (List ℕ → Answer) → List ℕ → List ℕ → Option
 HasNamed answer text heading None = section_bytes text heading ≡ []
 HasNamed answer text heading (Some path) = IsBodyOf (section_bytes text heading) (answer path)
 
+-- The include file of a path, as a job has it; none where the source has no file for the path.
+abbrev pub include_of_answer : List ℕ → Answer → Option JobInclude
+include_of_answer path (file text) = Some (record { path = path; bytes = with_end text })
+include_of_answer path absent = None
+include_of_answer path failed = None
+include_of_answer path unknown = None
+
+abbrev pub found_include : (List ℕ → Answer) → List ℕ → Option JobInclude
+found_include answer path = include_of_answer path (answer path)
+
+-- The include sections are those of the include files that the source has, breadth first, and no others.
 pub record HasFiles (answer : List ℕ → Answer) (files : Paths) (text : List ℕ) : Type 0 where
   pub no_bad_line : bad_job text ≡ None
   pub settings : HasNamed answer text (codes "%settings") files.settings
@@ -118,4 +129,6 @@ pub record HasFiles (answer : List ℕ → Answer) (files : Paths) (text : List 
   pub transport : HasNamed answer text (codes "%transport") files.transport
   pub mx : HasNamed answer text (codes "%mx") files.mx
   pub envelope : HasNamed answer text (codes "%envelope") files.envelope
-  pub includes : (i : JobInclude) → Contains (sections_of text).includes i → IsBodyOf i.bytes (answer i.path)
+  pub paths : List (List ℕ)
+  pub order : IsBreadthFirst answer (first_names answer files.aliases) paths
+  pub includes : (sections_of text).includes ≡ filter_map (found_include answer) paths

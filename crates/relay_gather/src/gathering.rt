@@ -49,7 +49,8 @@ fn put_later<D: Source>(
 /// The text of a job, gathered from files that lie apart. The sections stand in the order settings, aliases, include files, mailboxes,
 /// transport, mx and envelope, each where its file is named. Include files are followed breadth first from the alias file (aliases(5) of
 /// Postfix, ":include:/file/name"), each path once; one that is absent is left out. Each line that begins with `%` gets one more of it,
-/// and a file whose last line lacks its LF gets one. So the text has no bad job line, and each of its sections has the lines of its file.
+/// and a file whose last line lacks its LF gets one. So the text has no bad job line, each of its sections has the lines of its file, and
+/// a job read from it has the include files that are there and no others.
 ///
 /// `Read` where a named file is absent or fails, or an include file fails, and `TooLong` where there are more than `max` bytes in all,
 /// headings too: the first section that has a fault decides, and no file behind it is fetched. `Memory` where memory runs out.

@@ -11,19 +11,20 @@ use relay_text::Text;
 use std::alloc::{AllocError, Global};
 use std::test::Fail;
 
-/// A few files, and a path that fails.
+/// A few files, and a path that has a fault.
 #[derive(Drop)]
 struct Files<'a> {
     files: &'a [(&'a [u8], &'a [u8])],
-    failed: &'a [u8],
+    faulty: &'a [u8],
+    fault: SourceFault,
 }
 
 impl<'a> Source for Files<'a> {
     ghost answer = { λ _ _. unknown };
 
     fn fetch(&mut self, alloc: Global, path: &[u8]) -> Result<Vec<u8>, SourceFault> {
-        if path == self.failed {
-            return Err(SourceFault::Failed);
+        if path == self.faulty {
+            return Err(self.fault);
         }
         for (name, bytes) in self.files {
             if *name == path {
@@ -53,8 +54,7 @@ fn paths(alloc: Global, named: &[&[u8]]) -> Result<Paths, AllocError> {
 }
 
 fn gathered(
-    files: &[(&[u8], &[u8])],
-    failed: &[u8],
+    mut source: Files<'_>,
     named: &[&[u8]],
     max: usize,
     alloc: Global,
@@ -62,15 +62,33 @@ fn gathered(
     requires { max ≤ 67108864 }
 {
     let paths = paths(alloc, named)?;
-    let mut source = Files { files, failed };
     gathered_text(alloc, &mut source, &paths, max)
 }
 
-fn fault_of(gathered: Result<Text, RunFault>) -> Option<RunFault> {
-    match gathered {
-        Ok(_) => None,
-        Err(fault) => Some(fault),
+fn faultless<'a>(files: &'a [(&'a [u8], &'a [u8])]) -> Files<'a> {
+    Files {
+        files,
+        faulty: b"",
+        fault: SourceFault::Absent,
     }
+}
+
+/// The fault of gathering `FILES`, of which one path has a fault.
+fn fault_at(
+    path: &[u8],
+    fault: SourceFault,
+    named: &[&[u8]],
+    max: usize,
+    alloc: Global,
+) -> Option<RunFault>
+    requires { max ≤ 67108864 }
+{
+    let source = Files {
+        files: FILES,
+        faulty: path,
+        fault,
+    };
+    gathered(source, named, max, alloc).err()
 }
 
 const FILES: &[(&[u8], &[u8])] = &[
@@ -86,7 +104,7 @@ const NAMED: &[&[u8]] = &[b"/aliases", b"/envelope"];
 
 #[test]
 fn sections_in_order(rt: HostRuntime) -> Result<(), Fail> {
-    let text = gathered(FILES, b"", NAMED, 75, rt.alloc())?;
+    let text = gathered(faultless(FILES), NAMED, 75, rt.alloc())?;
     assert_eq!(rt; text.as_bytes(), TEXT);
     Ok(())
 }
@@ -95,23 +113,34 @@ fn sections_in_order(rt: HostRuntime) -> Result<(), Fail> {
 fn one_byte_too_long(rt: HostRuntime) {
     assert_eq!(rt; TEXT.len(), 75);
     assert_eq!(rt;
-        fault_of(gathered(FILES, b"", NAMED, 74, rt.alloc())),
+        fault_at(b"", SourceFault::Absent, NAMED, 74, rt.alloc()),
         Some(RunFault::TooLong)
     );
 }
 
 #[test]
-fn unread_files(rt: HostRuntime) {
+fn each_path_in_turn(rt: HostRuntime) {
+    for path in [b"/aliases".as_slice(), b"/l", b"/m", b"/envelope"] {
+        assert_eq!(rt;
+            fault_at(path, SourceFault::Failed, NAMED, 1000, rt.alloc()),
+            Some(RunFault::Read)
+        );
+        assert_eq!(rt;
+            fault_at(path, SourceFault::Memory, NAMED, 1000, rt.alloc()),
+            Some(RunFault::Memory)
+        );
+    }
+}
+
+#[test]
+fn first_fault_decides(rt: HostRuntime) {
+    let named: &[&[u8]] = &[b"/settings", b"/aliases"];
     assert_eq!(rt;
-        fault_of(gathered(FILES, b"/l", NAMED, 1000, rt.alloc())),
+        fault_at(b"/aliases", SourceFault::Memory, named, 1000, rt.alloc()),
         Some(RunFault::Read)
     );
     assert_eq!(rt;
-        fault_of(gathered(FILES, b"", &[b"/mx"], 1000, rt.alloc())),
-        Some(RunFault::Read)
-    );
-    assert_eq!(rt;
-        fault_of(gathered(FILES, b"/l", NAMED, 1, rt.alloc())),
+        fault_at(b"/l", SourceFault::Failed, NAMED, 1, rt.alloc()),
         Some(RunFault::TooLong)
     );
 }
@@ -125,7 +154,12 @@ fn includes_that_name_each_other(rt: HostRuntime) -> Result<(), Fail> {
         (b"/c", b""),
         (b"/mailboxes", b"joe\n"),
     ];
-    let text = gathered(files, b"", &[b"/mailboxes", b"/aliases"], 1000, rt.alloc())?;
+    let text = gathered(
+        faultless(files),
+        &[b"/mailboxes", b"/aliases"],
+        1000,
+        rt.alloc(),
+    )?;
     let wanted: &[u8] =
         b"%aliases\na: :include:/a, :include:/b\n%include /a\n:include:/c\n:include:/b\n%include /b\n:include:/a\n%include /c\n%mailboxes\njoe\n";
     assert_eq!(rt; text.as_bytes(), wanted);
@@ -140,7 +174,7 @@ fn heading_reads_back(rt: HostRuntime) -> Result<(), Fail> {
         (b"/b  c", b"%include /d\n"),
         (b"/envelope", b"MAIL FROM:<>\nRCPT TO:<joe@example.org>"),
     ];
-    let text = gathered(files, b"", NAMED, 1000, rt.alloc())?;
+    let text = gathered(faultless(files), NAMED, 1000, rt.alloc())?;
     let job = parse_job(rt.alloc(), text.as_bytes())?;
     assert_eq!(rt; job.includes.len(), 1);
     assert_eq!(rt;

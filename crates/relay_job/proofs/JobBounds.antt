@@ -7,29 +7,21 @@ use Rattle.relay_text.specs.Addresses.{is_origin}
 use Rattle.relay_routes.specs.declared.transport.Transport.{Transport}
 use Rattle.relay_job.specs.declared.job.Job.{Job}
 use Rattle.relay_job.specs.declared.settings.Settings.{Settings}
-use Rattle.relay_job.specs.Settings.{value_at, limit_of}
+use Rattle.relay_job.specs.Settings.{limit_of}
 use Rattle.relay_job.specs.JobText.{job_of, settings_part}
-use Rattle.relay_job.specs.JobAnswers.{IsJobWithin}
-use Rattle.relay_job.proofs.JobFacts.{settings_by-origin, settings_by-destinations, settings_by-limit, job-settings}
+use Rattle.relay_job.proofs.JobFacts.{settings_of-origin, settings_of-destinations, settings_of-limit, job-settings}
 
 module _ (text : List ℕ) (job : Job) (h : job_of text ≡ Ok job) where
   -- the origin is one
   pub text_origin : IsTrue (is_origin job.settings.origin)
-  text_origin = subst (λ (s : Settings). IsTrue (is_origin s.origin)) (sym (job-settings text job h)) (settings_by-origin (value_at (settings_part text)))
+  text_origin = subst (λ (s : Settings). IsTrue (is_origin s.origin)) (sym (job-settings text job h)) (settings_of-origin (settings_part text))
 
   -- the local domains are folded
   pub text_destinations : All (λ domain. folded domain ≡ domain) job.settings.destinations
   text_destinations =
       subst (λ (s : Settings). All (λ domain. folded domain ≡ domain) s.destinations) (sym (job-settings text job h))
-      (All-from_recursion (λ (domain : List ℕ). folded domain ≡ domain) _ (settings_by-destinations (value_at (settings_part text))))
+      (All-from_recursion (λ (domain : List ℕ). folded domain ≡ domain) _ (settings_of-destinations (settings_part text)))
 
   -- each limit is at least 1
   pub text_limit : (transport : Transport) → 1 ≤ limit_of job.settings transport
-  text_limit transport = subst (λ (s : Settings). 1 ≤ limit_of s transport) (sym (job-settings text job h)) (settings_by-limit (value_at (settings_part text)) transport)
-
--- the same of a job that some text of at most this many bytes is
-pub job_origin : (bytes : ℕ) (job : Job) → IsJobWithin bytes job → IsTrue (is_origin job.settings.origin)
-job_origin bytes job within = text_origin within.0 job within.2
-
-pub job_limit : (bytes : ℕ) (job : Job) (transport : Transport) → IsJobWithin bytes job → 1 ≤ limit_of job.settings transport
-job_limit bytes job transport within = text_limit within.0 job within.2 transport
+  text_limit transport = subst (λ (s : Settings). 1 ≤ limit_of s transport) (sym (job-settings text job h)) (settings_of-limit (settings_part text) transport)

@@ -9,15 +9,15 @@ use Rattle.std.proofs.lemmas.Option.{cond_some, option_and_then_some}
 use Rattle.relay_text.specs.Bytes.{folded}
 use Rattle.relay_text.specs.Addresses.{is_domain, is_domain_name, is_literal, is_origin}
 use Rattle.relay_text.specs.Numbers.{number_of}
+use Rattle.relay_text.specs.declared.lines.Line.{Line}
 use Rattle.relay_text.proofs.Folds.{is_domain-folded, folded-folded}
 use Rattle.relay_text.proofs.Limits.{origin_parts, origin_from_parts}
 use Rattle.relay_routes.specs.declared.transport.Transport.{Transport}
 use Rattle.relay_routes.specs.declared.transport.Transport.TheVariants.{Smtp, Relay, Lmtp}
 use Rattle.relay_job.specs.declared.fault.RunFault.{RunFault}
 use Rattle.relay_job.specs.declared.job.Job.{Job}
-use Rattle.relay_job.specs.Settings.{host_value, domains_value, domain_texts, limit_value, read_or, settings_of, limit_of}
+use Rattle.relay_job.specs.Settings.{host_value, domains_value, domain_texts, limit_value, value_at, read_or, settings_of, limit_of}
 use Rattle.relay_job.specs.JobText.{settings_part, job_fault, sections_of, job_of}
-use Rattle.relay_job.specs.JobParts.{settings_by}
 use Rattle.relay_job.proofs.ParseFacts.{job-fault, job-good}
 
 -- what holds of a key's default and of each value that is read holds of the key
@@ -62,27 +62,27 @@ all_folded (text ∷ texts) = (folded-folded text, all_folded texts)
 domains_are_folded : (text : List ℕ) (domains : List (List ℕ)) → domains_value text ≡ Some domains → AllByRecursion IsFolded domains
 domains_are_folded text domains h = rw (← (cond_some (list_all is_domain (domain_texts text)) (map folded (domain_texts text)) domains h).1) (all_folded (domain_texts text))
 
--- by the values of the keys
-module _ (at : List ℕ → Option (List ℕ)) where
-  hostname_by : IsOrigin (settings_by at).hostname
-  hostname_by = read_or-holds IsOrigin host_value (codes "localhost") localhost_is_origin host_is_origin (at (codes "myhostname"))
+-- by the lines of the settings
+module _ (lines : List Line) where
+  hostname_of : IsOrigin (settings_of lines).hostname
+  hostname_of = read_or-holds IsOrigin host_value (codes "localhost") localhost_is_origin host_is_origin (value_at lines (codes "myhostname"))
 
-  pub settings_by-origin : IsTrue (is_origin (settings_by at).origin)
-  settings_by-origin = read_or-holds IsOrigin host_value (settings_by at).hostname hostname_by host_is_origin (at (codes "myorigin"))
+  pub settings_of-origin : IsTrue (is_origin (settings_of lines).origin)
+  settings_of-origin = read_or-holds IsOrigin host_value (settings_of lines).hostname hostname_of host_is_origin (value_at lines (codes "myorigin"))
 
-  pub settings_by-destinations : AllByRecursion (λ domain. folded domain ≡ domain) (settings_by at).destinations
-  settings_by-destinations =
-      read_or-holds (AllByRecursion IsFolded) domains_value ((settings_by at).hostname ∷ codes "localhost" ∷ []) ((origin_parts (settings_by at).hostname hostname_by).1, (refl, tt)) domains_are_folded (at (codes "mydestination"))
+  pub settings_of-destinations : AllByRecursion (λ domain. folded domain ≡ domain) (settings_of lines).destinations
+  settings_of-destinations =
+      read_or-holds (AllByRecursion IsFolded) domains_value ((settings_of lines).hostname ∷ codes "localhost" ∷ []) ((origin_parts (settings_of lines).hostname hostname_of).1, (refl, tt)) domains_are_folded (value_at lines (codes "mydestination"))
 
-  limit_by : (key : List ℕ) → 1 ≤ read_or limit_value (read_or limit_value 50 (at (codes "default_destination_recipient_limit"))) (at key)
-  limit_by key =
-      let default : 1 ≤ read_or limit_value 50 (at (codes "default_destination_recipient_limit")) = read_or-holds (λ n. 1 ≤ n) limit_value 50 (omega arith) limit_is_some (at (codes "default_destination_recipient_limit")) in
-      read_or-holds (λ n. 1 ≤ n) limit_value (read_or limit_value 50 (at (codes "default_destination_recipient_limit"))) default limit_is_some (at key)
+  limit_at : (key : List ℕ) → 1 ≤ read_or limit_value (read_or limit_value 50 (value_at lines (codes "default_destination_recipient_limit"))) (value_at lines key)
+  limit_at key =
+      let default : 1 ≤ read_or limit_value 50 (value_at lines (codes "default_destination_recipient_limit")) = read_or-holds (λ n. 1 ≤ n) limit_value 50 (omega arith) limit_is_some (value_at lines (codes "default_destination_recipient_limit")) in
+      read_or-holds (λ n. 1 ≤ n) limit_value (read_or limit_value 50 (value_at lines (codes "default_destination_recipient_limit"))) default limit_is_some (value_at lines key)
 
-  pub settings_by-limit : (transport : Transport) → 1 ≤ limit_of (settings_by at) transport
-  settings_by-limit Smtp = limit_by (codes "smtp_destination_recipient_limit")
-  settings_by-limit Relay = limit_by (codes "relay_destination_recipient_limit")
-  settings_by-limit Lmtp = limit_by (codes "lmtp_destination_recipient_limit")
+  pub settings_of-limit : (transport : Transport) → 1 ≤ limit_of (settings_of lines) transport
+  settings_of-limit Smtp = limit_at (codes "smtp_destination_recipient_limit")
+  settings_of-limit Relay = limit_at (codes "relay_destination_recipient_limit")
+  settings_of-limit Lmtp = limit_at (codes "lmtp_destination_recipient_limit")
 
 -- A text that is a job has no fault, and its sections are the job.
 pub job_is-sections : (text : List ℕ) (job : Job) → job_of text ≡ Ok job → sections_of text ≡ job

@@ -1,5 +1,4 @@
 pub mod Faults
-pub mod DomainFacts
 pub mod EnvelopeFacts
 pub mod HeadingFacts
 pub mod JobFacts

@@ -1,19 +1,14 @@
 -- The parts of a job, each by its lines.
-use Rattle.std.specs.Prelude.{◌≡◌, ℕ, false, not, nat_lt, List, [], ◌∷◌, length, map, take, filter, filter_map, flat_map, codes, Option, Some, None, is_none, unwrap_or, if◌then◌else◌, ⊤}
+use Rattle.std.specs.Prelude.{◌≡◌, ℕ, not, nat_lt, List, [], ◌∷◌, length, map, take, filter, filter_map, flat_map, Option, Some, None, is_none, unwrap_or, if◌then◌else◌, ⊤}
 use Rattle.std.specs.List.{list_all}
 use Rattle.relay_text.specs.Bytes.{is_white, first_of}
 use Rattle.relay_text.specs.Lines.{line_text}
 use Rattle.relay_text.specs.AddressParts.{AddressParts}
 use Rattle.relay_text.specs.declared.lines.Line.{Line}
-use Rattle.relay_routes.specs.declared.transport.Transport.TheVariants.{Smtp}
-use Rattle.relay_routes.specs.Transports.{transport_named}
-use Rattle.relay_routes.specs.Nexthops.{via_setting_of}
-use Rattle.relay_job.specs.declared.settings.Settings.{Settings}
 use Rattle.relay_job.specs.declared.place.Place.{Place}
 use Rattle.relay_job.specs.declared.fault.RunFault.{RunFault}
 use Rattle.relay_job.specs.declared.fault.RunFault.TheVariants.{Memory}
-use Rattle.relay_job.specs.Settings.{Setting, breaks_settings, setting_lines, value_at, read_or, host_value, domains_value, delimiter_value, limit_value, seed_value, choice_value}
-use Rattle.relay_job.specs.SettingValues.{value_in, default_via}
+use Rattle.relay_job.specs.Settings.{breaks_settings, setting_lines}
 use Rattle.relay_job.specs.Places.{content_at}
 use Rattle.relay_job.specs.JobText.{JobLine, content_of, first_broken, breaks_envelope, sender_in, recipient_in}
 
@@ -31,30 +26,6 @@ Stops fault given = fault ≡ Some given
 
 abbrev pub first_bad_setting : List Line → Option ℕ
 first_bad_setting lines = first_broken breaks_settings (λ l. l.number) (setting_lines lines)
-
--- No line breaks the settings, and each key has its value.
-pub record AreValuesOf (lines : List Line) (settings : List Setting) : Type 0 where
-  pub unbroken : first_bad_setting lines ≡ None
-  pub values : (name : List ℕ) → value_in settings name ≡ value_at lines name
-
--- the settings by the values of their keys
-abbrev pub settings_by : (List ℕ → Option (List ℕ)) → Settings
-settings_by at =
-    let hostname : List ℕ = read_or host_value (codes "localhost") (at (codes "myhostname")) in
-    let limit : ℕ = read_or limit_value 50 (at (codes "default_destination_recipient_limit")) in
-    record {
-      hostname = hostname;
-      origin = read_or host_value hostname (at (codes "myorigin"));
-      destinations = read_or domains_value (hostname ∷ codes "localhost" ∷ []) (at (codes "mydestination"));
-      delimiter = read_or delimiter_value None (at (codes "recipient_delimiter"));
-      smtp_limit = read_or limit_value limit (at (codes "smtp_destination_recipient_limit"));
-      relay_limit = read_or limit_value limit (at (codes "relay_destination_recipient_limit"));
-      lmtp_limit = read_or limit_value limit (at (codes "lmtp_destination_recipient_limit"));
-      default_transport = read_or transport_named Smtp (at (codes "default_transport"));
-      mailbox_transport = read_or via_setting_of default_via (at (codes "mailbox_transport"));
-      seed = read_or seed_value 0 (at (codes "seed"));
-      expand = read_or choice_value false (at (codes "expand_owner_alias"));
-    }
 
 -- the commands of an envelope: its lines that aren't of white space alone
 abbrev pub commands_of : List Line → List Line

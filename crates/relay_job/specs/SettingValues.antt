@@ -1,64 +1,75 @@
--- Settings by their lines, and the values of their keys.
-use Rattle.std.specs.Prelude.{ℕ, Bool, ◌||◌, ◌==◌, List, [], ◌∷◌, map, codes, Option, Some, None, is_some, if◌then◌else◌}
-use Rattle.std.specs.List.{find}
+-- The values of the keys, and the settings that they make.
+use Rattle.std.specs.Prelude.{◌≡◌, ℕ, Bool, true, false, not, ◌&&◌, List, [], ◌∷◌, codes, Option, Some, None, is_some, option_and_then, unwrap_or, if◌then◌else◌}
 use Rattle.std.specs.Str.{bytes_eq}
-use Rattle.relay_text.specs.Bytes.{is_white, first_of}
-use Rattle.relay_routes.specs.declared.transport.Transport.TheVariants.{Lmtp}
+use Rattle.relay_text.specs.declared.lines.Line.{Line}
+use Rattle.relay_routes.specs.declared.transport.Transport.TheVariants.{Smtp, Lmtp}
 use Rattle.relay_routes.specs.declared.via.Via.{Via}
 use Rattle.relay_routes.specs.Nexthops.{via_setting_of}
 use Rattle.relay_routes.specs.Transports.{transport_named}
 use Rattle.relay_job.specs.declared.setting.Setting as lines
-use Rattle.relay_job.specs.declared.key.Key.{Key}
-use Rattle.relay_job.specs.declared.key.Key.TheVariants.{Myhostname, Myorigin, Mydestination, RecipientDelimiter, DefaultDestinationRecipientLimit, SmtpDestinationRecipientLimit, RelayDestinationRecipientLimit, LmtpDestinationRecipientLimit, DefaultTransport, MailboxTransport, Seed, ExpandOwnerAlias}
-use Rattle.relay_job.specs.Settings.{Setting, host_value, domains_value, delimiter_value, limit_value, seed_value, choice_value}
+use Rattle.relay_job.specs.declared.setting_values.SettingValues.{SettingValues}
+use Rattle.relay_job.specs.declared.settings.Settings.{Settings}
+use Rattle.relay_job.specs.Settings.{Setting, is_good_setting, value_at, host_value, domains_value, delimiter_value, limit_value, seed_value, choice_value}
+use Rattle.relay_job.specs.JobParts.{first_bad_setting}
 
--- what stands between domains
-abbrev pub is_separator : ℕ → Bool
-is_separator b = is_white b || (b == 44)
+abbrev pub setting_in : lines.Setting → Setting
+setting_in s = record { key = s.key.now; value = s.value.now }
+
+-- what the texts of keys say
+abbrev pub values_by : (List ℕ → Option (List ℕ)) → SettingValues
+values_by at = record {
+  hostname = option_and_then host_value (at (codes "myhostname"));
+  origin = option_and_then host_value (at (codes "myorigin"));
+  destinations = option_and_then domains_value (at (codes "mydestination"));
+  delimiter = option_and_then delimiter_value (at (codes "recipient_delimiter"));
+  limit = option_and_then limit_value (at (codes "default_destination_recipient_limit"));
+  smtp_limit = option_and_then limit_value (at (codes "smtp_destination_recipient_limit"));
+  relay_limit = option_and_then limit_value (at (codes "relay_destination_recipient_limit"));
+  lmtp_limit = option_and_then limit_value (at (codes "lmtp_destination_recipient_limit"));
+  default_transport = option_and_then transport_named (at (codes "default_transport"));
+  mailbox_transport = option_and_then via_setting_of (at (codes "mailbox_transport"));
+  seed = option_and_then seed_value (at (codes "seed"));
+  expand = option_and_then choice_value (at (codes "expand_owner_alias"));
+}
 
 -- the transport of mailboxes where no setting names one
 abbrev pub default_via : Via
 default_via = record { transport = Lmtp; nexthop = Some (codes "unix:mailbox") }
 
-abbrev pub setting_in : lines.Setting → Setting
-setting_in s = record { key = s.key.now; value = s.value.now }
+-- the settings, each at its value or its default
+abbrev pub settings_with : SettingValues → Settings
+settings_with v =
+    let hostname : List ℕ = unwrap_or v.hostname (codes "localhost") in
+    let limit : ℕ = unwrap_or v.limit 50 in
+    record {
+      hostname = hostname;
+      origin = unwrap_or v.origin hostname;
+      destinations = unwrap_or v.destinations (hostname ∷ codes "localhost" ∷ []);
+      delimiter = unwrap_or v.delimiter None;
+      smtp_limit = unwrap_or v.smtp_limit limit;
+      relay_limit = unwrap_or v.relay_limit limit;
+      lmtp_limit = unwrap_or v.lmtp_limit limit;
+      default_transport = unwrap_or v.default_transport Smtp;
+      mailbox_transport = unwrap_or v.mailbox_transport default_via;
+      seed = unwrap_or v.seed 0;
+      expand = unwrap_or v.expand false;
+    }
 
--- the name of a key
-abbrev pub key_name : Key → List ℕ
-key_name Myhostname = codes "myhostname"
-key_name Myorigin = codes "myorigin"
-key_name Mydestination = codes "mydestination"
-key_name RecipientDelimiter = codes "recipient_delimiter"
-key_name DefaultDestinationRecipientLimit = codes "default_destination_recipient_limit"
-key_name SmtpDestinationRecipientLimit = codes "smtp_destination_recipient_limit"
-key_name RelayDestinationRecipientLimit = codes "relay_destination_recipient_limit"
-key_name LmtpDestinationRecipientLimit = codes "lmtp_destination_recipient_limit"
-key_name DefaultTransport = codes "default_transport"
-key_name MailboxTransport = codes "mailbox_transport"
-key_name Seed = codes "seed"
-key_name ExpandOwnerAlias = codes "expand_owner_alias"
+-- the texts of keys beside one more
+abbrev pub with_setting : (List ℕ → Option (List ℕ)) → Setting → List ℕ → Option (List ℕ)
+with_setting at s name = if bytes_eq s.key name then Some s.value else at name
 
-abbrev pub all_keys : List Key
-all_keys = Myhostname ∷ Myorigin ∷ Mydestination ∷ RecipientDelimiter ∷ DefaultDestinationRecipientLimit ∷ SmtpDestinationRecipientLimit ∷ RelayDestinationRecipientLimit ∷ LmtpDestinationRecipientLimit ∷ DefaultTransport ∷ MailboxTransport ∷ Seed ∷ ExpandOwnerAlias ∷ []
+-- These are the values of keys by their texts, which are good.
+pub record AreRead (at : List ℕ → Option (List ℕ)) (v : SettingValues) : Type 0 where
+  pub values : v ≡ values_by at
+  pub good : (s : Setting) → at s.key ≡ Some s.value → is_good_setting s ≡ true
 
-abbrev pub key_named : List ℕ → Option Key
-key_named name = find (λ key. bytes_eq (key_name key) name) all_keys
+-- A key is set where it's known, has no value yet, and takes this one.
+pub record HasSet (at : List ℕ → Option (List ℕ)) (s : Setting) (good : Bool) (v : SettingValues) : Type 0 where
+  pub fresh : good ≡ (is_good_setting s && not (is_some (at s.key)))
+  pub set : good ≡ true → v ≡ values_by (with_setting at s)
 
--- whether a text is a value of a key
-abbrev pub is_good_value : Key → List ℕ → Bool
-is_good_value Myhostname v = is_some (host_value v)
-is_good_value Myorigin v = is_some (host_value v)
-is_good_value Mydestination v = is_some (domains_value v)
-is_good_value RecipientDelimiter v = is_some (delimiter_value v)
-is_good_value DefaultDestinationRecipientLimit v = is_some (limit_value v)
-is_good_value SmtpDestinationRecipientLimit v = is_some (limit_value v)
-is_good_value RelayDestinationRecipientLimit v = is_some (limit_value v)
-is_good_value LmtpDestinationRecipientLimit v = is_some (limit_value v)
-is_good_value DefaultTransport v = is_some (transport_named v)
-is_good_value MailboxTransport v = is_some (via_setting_of v)
-is_good_value Seed v = is_some (seed_value v)
-is_good_value ExpandOwnerAlias v = is_some (choice_value v)
-
--- the value of a key, where one of these settings names it
-abbrev pub value_in : List Setting → List ℕ → Option (List ℕ)
-value_in settings name = first_of (map (λ s. if bytes_eq s.key name then Some s.value else None) settings)
+-- No line breaks the settings, and each key has its value.
+pub record AreValuesOf (lines : List Line) (v : SettingValues) : Type 0 where
+  pub unbroken : first_bad_setting lines ≡ None
+  pub values : v ≡ values_by (value_at lines)

@@ -20,7 +20,7 @@ impl<'a> IncludePlace<'a> {
     fn read(&self, alloc: Global) -> Result<JobInclude, AllocError>
         ensures { IfOk result (λ file. file ≡ include_at self.now) }
     {
-        let path = Text::of(Vec::from_slice(alloc, self.path)?);
+        let path = Text::copy_of(alloc, self.path)?;
         let bytes = section_bytes(alloc, self.place)?;
         Ok(JobInclude { path, bytes })
     }

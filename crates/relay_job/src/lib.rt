@@ -2,13 +2,13 @@
 #![tactic(auto)]
 
 mod content;
+mod defaults;
 mod domains;
 mod envelope;
 pub mod fault;
 mod heading;
 mod include_place;
 pub mod job;
-mod key;
 pub mod parsed;
 pub mod parsing;
 mod parts;
@@ -23,7 +23,7 @@ pub mod settings;
 mod tests_includes;
 #[cfg(test)]
 mod tests_parsing;
-mod values;
+mod value;
 
 pub use fault::RunFault;
 pub use job::{Job, JobInclude};

@@ -10,7 +10,7 @@ use crate::include_place::read_includes;
 use crate::job::Job;
 use crate::parts::Parts;
 use crate::section::Section;
-use crate::values::Values;
+use crate::setting_values::SettingValues;
 use std::alloc::Global;
 
 /// The job that a text is: its settings, the bytes of its mailboxes and tables, and the envelope.
@@ -24,7 +24,7 @@ pub fn parse_job(alloc: Global, bytes: &[u8]) -> Result<Job, RunFault>
 {
     let parts = Parts::find(alloc, bytes)?;
     let sections = parts.sections;
-    let values = Values::read(alloc, sections.section(Section::Settings))?;
+    let values = SettingValues::read(alloc, sections.section(Section::Settings))?;
     let settings = values.settings(alloc)?;
     let envelope = Envelope::read(
         alloc,

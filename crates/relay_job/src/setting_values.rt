@@ -1,119 +1,131 @@
-//! What the values of settings say.
-ghost use Rattle.std.specs.Prelude.{◌≡◌, ◌==◌, Some, codes, is_some, option_map, IfOk};
-ghost use Rattle.std.specs.List.{list_any};
-ghost use Rattle.relay_text.specs.Bytes.{folded};
-ghost use Rattle.relay_text.specs.Addresses.{is_atext};
-ghost use Rattle.relay_routes.specs.Nexthops.{via_setting_of};
-ghost use Rattle.relay_job.specs.Settings.{host_value, delimiter_value, limit_value, seed_value, choice_value, read_or};
-ghost use Rattle.relay_job.specs.SettingValues.{default_via};
-
+//! The values of the settings.
+use crate::defaults::{domains_or_own, text_or, via_or_mailbox};
+use crate::domains::read_domains;
+use crate::fault::RunFault;
+use crate::place::Place;
+use crate::setting::Setting;
+use crate::settings::Settings;
+use crate::value::{read_choice, read_delimiter, read_host, read_limit, read_seed};
 use relay_routes::{Transport, Via};
-use relay_text::{Text, fold, is_domain, number_within};
+use relay_text::{Seq, Text, is_ignored};
 use std::alloc::{AllocError, Global};
 
-/// A text with its ASCII capitals in lower case, in memory of its own.
-pub fn folded_text(alloc: Global, text: &[u8]) -> Result<Text, AllocError>
-    ensures { IfOk result (λ copy. copy ≡ folded text.now) }
-{
-    let mut bytes = Vec::from_slice(alloc, text)?;
-    fold(&mut bytes);
-    Ok(Text::of(bytes))
+/// What lines set: the value of each key (postconf(5) of Postfix) that one of them names.
+#[derive(Default, Drop)]
+pub struct SettingValues {
+    hostname: Option<Text>,
+    origin: Option<Text>,
+    destinations: Option<Seq<Text>>,
+    delimiter: Option<Option<u8>>,
+    /// How many recipients a transaction takes, of any transport.
+    limit: Option<u32>,
+    smtp_limit: Option<u32>,
+    relay_limit: Option<u32>,
+    lmtp_limit: Option<u32>,
+    default_transport: Option<Transport>,
+    mailbox_transport: Option<Via>,
+    seed: Option<u64>,
+    expand: Option<bool>,
 }
 
-/// Whether a value is a domain without literal, of at most 189 octets.
-pub fn is_host(text: &[u8]) -> bool
-    ensures { result ≡ is_some (host_value text.now) }
+ghost use Rattle.std.specs.Prelude.{◌≡◌, true, not, ◌&&◌, ℕ, List, Option, is_some, option_map, IfOk, IfErr};
+ghost use Rattle.relay_job.specs.Places.{content_at};
+ghost use Rattle.relay_job.specs.SettingValues.{setting_in, settings_with, AreRead, HasSet, AreValuesOf};
+ghost use Rattle.relay_job.specs.JobParts.{lines_of, first_bad_setting, Stops};
+
+/// Puts a value where none is, and answers whether it did: not where there is no value to put.
+fn put<T: Drop>(place: &mut Option<T>, value: Option<T>) -> bool
+    ensures good { result ≡ (is_some value && not (is_some place.old)) }
+    ensures put { result ≡ true → place.new ≡ value }
 {
-    if text.len() > 189 {
-        return false;
+    let good = value.is_some() && place.is_none();
+    if good {
+        *place = value;
     }
-    if text.starts_with(b"[") {
-        return false;
-    }
-    is_domain(text)
+    good
 }
 
-/// The folded host name of a value, or else the default.
-pub fn host_or(alloc: Global, value: Option<&[u8]>, default: &[u8]) -> Result<Text, AllocError>
-    ensures { IfOk result (λ host. host ≡ read_or host_value default.now (option_map (λ v. v.now) value.entry)) }
-{
-    if let Some(text) = value {
-        if is_host(text) {
-            return folded_text(alloc, text);
+impl SettingValues {
+    /// Sets a key, and answers whether it did: not an unknown or a repeated key, nor a bad value.
+    fn set(&mut self, alloc: Global, setting: Setting<'_>) -> Result<bool, AllocError>
+        ensures { IfOk result (λ good. (at : List ℕ → Option (List ℕ)) → AreRead at self.old → HasSet at (setting_in setting.entry) good self.new) }
+    {
+        let Setting { key, value } = setting;
+        // No `match`: one of texts is proved byte by byte, with a goal for each byte that may differ.
+        if key == b"myhostname".as_slice() {
+            Ok(put(&mut self.hostname, read_host(alloc, value)?))
+        } else if key == b"myorigin".as_slice() {
+            Ok(put(&mut self.origin, read_host(alloc, value)?))
+        } else if key == b"mydestination".as_slice() {
+            Ok(put(&mut self.destinations, read_domains(alloc, value)?))
+        } else if key == b"recipient_delimiter".as_slice() {
+            Ok(put(&mut self.delimiter, read_delimiter(value)))
+        } else if key == b"default_destination_recipient_limit".as_slice() {
+            Ok(put(&mut self.limit, read_limit(value)))
+        } else if key == b"smtp_destination_recipient_limit".as_slice() {
+            Ok(put(&mut self.smtp_limit, read_limit(value)))
+        } else if key == b"relay_destination_recipient_limit".as_slice() {
+            Ok(put(&mut self.relay_limit, read_limit(value)))
+        } else if key == b"lmtp_destination_recipient_limit".as_slice() {
+            Ok(put(&mut self.lmtp_limit, read_limit(value)))
+        } else if key == b"default_transport".as_slice() {
+            Ok(put(&mut self.default_transport, Transport::named(value)))
+        } else if key == b"mailbox_transport".as_slice() {
+            Ok(put(&mut self.mailbox_transport, Via::parse(alloc, value)?))
+        } else if key == b"seed".as_slice() {
+            Ok(put(&mut self.seed, read_seed(value)))
+        } else if key == b"expand_owner_alias".as_slice() {
+            Ok(put(&mut self.expand, read_choice(value)))
+        } else {
+            Ok(false)
         }
     }
-    Ok(Text::of(Vec::from_slice(alloc, default)?))
-}
 
-fn has_byte(bytes: &[u8], byte: u8) -> bool
-    ensures { result ≡ list_any (λ b. b == byte) bytes.now }
-{
-    bytes.iter().any(|b| *b == byte)
-}
-
-/// Whether a byte is atext (RFC 5321 section 4.1.2).
-fn is_atext(byte: u8) -> bool
-    ensures { result ≡ is_atext byte }
-{
-    byte.is_ascii_alphanumeric() || has_byte(b"!#$%&'*+-/=?^_`{|}~", byte)
-}
-
-/// The delimiter that a value names, if any; `None` where it's neither empty nor one byte of atext.
-pub fn read_delimiter(text: &[u8]) -> Option<Option<u8>>
-    ensures { result ≡ delimiter_value text.now }
-{
-    match text {
-        [] => Some(None),
-        [byte] if is_atext(*byte) => Some(Some(*byte)),
-        _ => None,
-    }
-}
-
-/// How many recipients a value allows.
-pub fn read_limit(text: &[u8]) -> Option<u32>
-    ensures { result ≡ limit_value text.now }
-{
-    let limit = number_within(1, 65_535, text)?;
-    Some(limit as u32)
-}
-
-/// The seed that a value gives.
-pub fn read_seed(text: &[u8]) -> Option<u64>
-    ensures { result ≡ seed_value text.now }
-{
-    number_within(0, 18_446_744_073_709_551_615, text)
-}
-
-/// What `yes` or `no` says.
-pub fn read_choice(text: &[u8]) -> Option<bool>
-    ensures { result ≡ choice_value text.now }
-{
-    match text {
-        b"yes" => Some(true),
-        b"no" => Some(false),
-        _ => None,
-    }
-}
-
-/// Whether a value is a transport, alone or with a nexthop of its forms.
-pub fn is_via(alloc: Global, value: &[u8]) -> Result<bool, AllocError>
-    ensures { IfOk result (λ good. good ≡ is_some (via_setting_of value.now)) }
-{
-    let via = Via::parse(alloc, value)?;
-    Ok(via.is_some())
-}
-
-/// The transport and nexthop of a value, or else LMTP to `unix:mailbox`.
-pub fn via_or_default(alloc: Global, value: Option<&[u8]>) -> Result<Via, AllocError>
-    ensures { IfOk result (λ via. via ≡ read_or via_setting_of default_via (option_map (λ v. v.now) value.entry)) }
-{
-    if let Some(text) = value {
-        if let Some(via) = Via::parse(alloc, text)? {
-            return Ok(via);
+    /// The values of the settings section behind a place. BadSetting has the first line that isn't ignored and has no `=`, an
+    /// unknown or repeated key, or a bad value.
+    pub fn read(alloc: Global, section: Place<'_>) -> Result<SettingValues, RunFault>
+        ensures ok { IfOk result (AreValuesOf (lines_of (content_at section.entry))) }
+        ensures err { IfErr result (λ fault. Stops (option_map RunFault.BadSetting (first_bad_setting (lines_of (content_at section.entry)))) fault) }
+    {
+        let mut values = SettingValues::default();
+        let mut place = section;
+        while let Some((line, after)) = place.split_content() {
+            place = after;
+            let text = line.content_text();
+            if is_ignored(text) {
+                continue;
+            }
+            let Some(setting) = Setting::of(text) else {
+                return Err(RunFault::BadSetting(line.number));
+            };
+            if !values.set(alloc, setting)? {
+                return Err(RunFault::BadSetting(line.number));
+            }
         }
+        Ok(values)
     }
-    Ok(Via {
-        transport: Transport::Lmtp,
-        nexthop: Some(Text::of(Vec::from_slice(alloc, b"unix:mailbox")?)),
-    })
+
+    /// The settings, each at its value or its default.
+    pub fn settings(self, alloc: Global) -> Result<Settings, AllocError>
+        ensures { IfOk result (λ settings. settings ≡ settings_with self) }
+    {
+        let hostname = text_or(alloc, self.hostname, b"localhost")?;
+        let origin = text_or(alloc, self.origin, hostname.as_bytes())?;
+        let destinations = domains_or_own(alloc, self.destinations, hostname.as_bytes())?;
+        let mailbox_transport = via_or_mailbox(alloc, self.mailbox_transport)?;
+        let limit = self.limit.unwrap_or(50);
+        Ok(Settings {
+            hostname,
+            origin,
+            destinations,
+            delimiter: self.delimiter.unwrap_or(None),
+            smtp_limit: self.smtp_limit.unwrap_or(limit),
+            relay_limit: self.relay_limit.unwrap_or(limit),
+            lmtp_limit: self.lmtp_limit.unwrap_or(limit),
+            default_transport: self.default_transport.unwrap_or(Transport::Smtp),
+            mailbox_transport,
+            seed: self.seed.unwrap_or(0),
+            expand: self.expand.unwrap_or(false),
+        })
+    }
 }

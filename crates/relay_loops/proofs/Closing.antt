@@ -4,8 +4,8 @@ use Rattle.std.proofs.lemmas.List.FromFn.{length-range_with_len, get_or-range_wi
 use Rattle.std.specs.List.{list_any, range_with_len}
 use Rattle.std.proofs.lemmas.Bool.{cases_Bool}
 use Rattle.std.proofs.lemmas.Bool.Decides.{eqb_tells}
-use Rattle.std.proofs.lemmas.List.Elements.{All-contains, Contains-get_or}
-use Rattle.relay_rounds.specs.Closures.{IsClosureOf}
+use Rattle.std.proofs.lemmas.List.Elements.{Contains-get_or}
+use Rattle.relay_rounds.specs.Closures.{IsClosureOf, HasMoreReached}
 use Rattle.relay_tables.specs.GraphParts.{GraphParts}
 use Rattle.relay_tables.specs.Graphs.{child_numbers, parent_numbers}
 use Rattle.relay_loops.specs.declared.place.Place.{Place}
@@ -14,7 +14,8 @@ use Rattle.relay_loops.specs.Inner.{left-below, same_part-left, inner_keys-below
 use Rattle.relay_loops.specs.Parts.{place_at, is_same_part, inner_key, inner_keys, starts_of, is_head, IsInnerStep}
 use Rattle.relay_loops.proofs.Members.{Contains-map, Contains-from_map, Contains-filter, Contains-from_filter, Contains-from_flat_map, some_passes, passes_some}
 use Rattle.relay_loops.proofs.Placing.{same_part-equal, same_part-first, same_part-itself}
-use Rattle.relay_loops.proofs.Walking.{Leads, leads_last, leads_keeps}
+use Rattle.relay_loops.proofs.Reaching.{reached_below, few_reached}
+use Rattle.relay_loops.proofs.Walking.{Leads, leads_last}
 
 module _ (next : ℕ → List ℕ) (roots keys : List ℕ) (closed : IsClosureOf next roots keys) where
   pub closed_root : (x : ℕ) → Contains roots x → Contains keys x
@@ -73,10 +74,13 @@ child_of_parent g x y c =
 pub closed_below : (places : List Place) (near : ℕ → List ℕ) (roots keys : List ℕ) → IsClosureOf (λ key. inner_keys places key (near key)) roots keys → All (λ n. n < length places) roots → All (λ n. n < length places) keys
 closed_below places near roots keys closed below k d inside =
     let x : ℕ = get_or keys k d in
-    let r = closed_leads (λ key. inner_keys places key (near key)) roots keys closed x (Contains-get_or keys k d inside) in
-    leads_keeps (λ a b. Contains (inner_keys places a (near a)) b) (λ (y : ℕ). y < length places)
-    (λ a b s h. All-contains (λ (n : ℕ). n < length places) (inner_keys places a (near a)) b (inner_keys-below places a (near a) h) s) r.0 x r.2
-    (All-contains (λ (n : ℕ). n < length places) roots r.0 below r.1)
+    reached_below (λ key. inner_keys places key (near key)) roots (length places) (λ key h. inner_keys-below places key (near key) h) below x ((closed.members x).0 (Contains-get_or keys k d inside))
+
+-- a limit that isn't below the number of places is never reached
+pub none_refused : (places : List Place) (near : ℕ → List ℕ) (roots : List ℕ) (limit : ℕ) → All (λ n. n < length places) roots → length places ≤ limit → HasMoreReached (λ key. inner_keys places key (near key)) roots limit → ⊥
+none_refused places near roots limit below few more =
+    let reached = few_reached (λ key. inner_keys places key (near key)) roots (length places) (λ key h. inner_keys-below places key (near key) h) below limit more in
+    omega arith
 
 pub starts_below : (g : GraphParts) (places : List Place) (pivots : List ℕ) → All (λ n. n < length places) (starts_of g places pivots)
 starts_below g places pivots k d inside =

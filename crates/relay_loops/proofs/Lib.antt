@@ -1,5 +1,6 @@
 pub mod Members
 pub mod Walking
+pub mod Reaching
 pub mod Placing
 pub mod Closing
 pub mod Ends

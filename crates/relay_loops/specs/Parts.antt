@@ -108,9 +108,9 @@ pub record IsParting (g : GraphParts) (reached : List ℕ) (places : List Place)
   pub looped : (n : ℕ) → place_at places n ≡ Looped → IsOnLoop g n
   pub clear : (n : ℕ) → Contains reached n → place_at places n ≡ Clear → ¬ IsOnLoop g n
 
--- no node of the graph has a number that is too large
+-- there are no more places than nodes, and so few enough to be searched
 pub record HasPlaces (g : GraphParts) (places : List Place) : Type 0 where
-  pub numbers : length places ≤ 2 ^ 32
+  pub numbers : length places ≤ 2 ^ 24
   pub in_graph : length places ≤ length g.nodes
 
 -- every answer stays

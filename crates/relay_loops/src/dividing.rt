@@ -1,5 +1,5 @@
 //! A part is divided by what its pivot's chains lead to.
-ghost use Rattle.std.specs.Prelude.{◌≡◌, ◌≤◌, ◌<◌, ◌++◌, true, false, length, filter, All, IfOk, OnOk};
+ghost use Rattle.std.specs.Prelude.{◌≡◌, ◌≤◌, ◌<◌, ◌++◌, true, false, length, filter, All, Err, IfOk, OnOk};
 ghost use Rattle.relay_rounds.specs.Closures.{IsClosureOf};
 ghost use Rattle.std.specs.List.Sorted.{IsStrictlyIncreasing};
 ghost use Rattle.relay_tables.specs.Graphs.{child_numbers, parent_numbers};
@@ -113,15 +113,17 @@ fn find_around<G: Gate, R: Threads + Sync>(
     known(reach(rt, alloc, &steps, &looped, workers, cut, KEYS_MAX, gate))
 }
 
-// As many keys as `reach` may be asked for. There are never more: a graph has at most as many nodes.
+// As many keys as `reach` may be asked for. There are always fewer: a key is a node, and a graph has at most 2^24 nodes.
 const KEYS_MAX: usize = (1 << 32) - 2;
 
 fn known(reached: Result<Vec<u64>, ReachFault>) -> Result<Vec<u64>, AllocError>
+    requires { reached ≡ Err ReachFault.TooManyPairs → ⊥ }
     ensures { IfOk result (λ keys. reached ≡ Ok keys) }
 {
     match reached {
         Ok(keys) => Ok(keys),
-        Err(ReachFault::Memory | ReachFault::TooManyPairs) => Err(AllocError),
+        Err(ReachFault::Memory) => Err(AllocError),
+        Err(ReachFault::TooManyPairs) => unreachable!(),
     }
 }
 

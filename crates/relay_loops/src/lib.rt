@@ -25,6 +25,7 @@
 
 mod counts;
 mod dividing;
+mod laws;
 mod pivots;
 mod place;
 mod settling;
@@ -39,6 +40,7 @@ ghost use Rattle.relay_loops.specs.Loops.{IsClosedPart, AreLoopsOf};
 ghost use Rattle.relay_loops.specs.Parts.{HasPlaces, IsChangedAt};
 
 use counts::Counts;
+pub use laws::whole_graphs;
 use pivots::pivot_order;
 use place::Place;
 use relay_rounds::Gate;

@@ -13,9 +13,6 @@ use relay_tables::Graph;
 use std::alloc::{AllocError, Global};
 use std::thread::Threads;
 
-// As many nodes as numbers of 32 bits can name.
-const NODES_MAX: usize = 1 << 32;
-
 // The places as each of the nodes is left.
 pub(crate) fn first_places(
     alloc: Global,
@@ -26,7 +23,7 @@ pub(crate) fn first_places(
     ensures sized { IfOk result (λ places. HasPlaces graph.now places.items) }
     ensures whole { IfOk result (λ places. IsChangedAt (λ _. Whole) reached.now [] places.items) }
 {
-    let count = graph.nodes().min(NODES_MAX);
+    let count = graph.nodes();
     let mut places = vec![in alloc; Place::Clear; count]?;
     for node in reached {
         places[*node as usize] = Place::Whole;

@@ -1,13 +1,13 @@
 //! Loops by example. The origin is `example.org`, names are not split, and joe has a mailbox. Aliases have the first numbers, and
 //! then include files.
-ghost use Rattle.std.specs.Prelude.{◌≡◌, ◌≢◌, ◌≤◌, ◌<◌, ◌^◌, length, All, AllPairs, IsTrue, IfOk, OnOk};
-ghost use Rattle.std.specs.List.{list_all, range_with_len};
+ghost use Rattle.std.specs.Prelude.{◌≡◌, ◌≢◌, ◌≤◌, ◌<◌, All, AllPairs, IsTrue, IfOk, OnOk};
+ghost use Rattle.std.specs.List.{list_all};
 ghost use Rattle.relay_text.specs.Bytes.{folded};
 ghost use Rattle.relay_text.specs.Addresses.{is_origin};
 ghost use Rattle.relay_tables.specs.Parts.{is_good_include};
 ghost use Rattle.relay_loops.specs.Loops.{IsClosedPart};
 
-use crate::on_loops;
+use crate::{on_loops, whole_graphs};
 use relay_aliasfile::{parse_aliases, parse_include, parse_mailboxes};
 use relay_rounds::NoGate;
 use relay_tables::{Graph, IncludeEntry, Local, Tables, parsed_files};
@@ -62,11 +62,11 @@ fn one_include(alloc: Global, text: &[u8]) -> Result<Vec<IncludeEntry>, AllocErr
     Ok(includes)
 }
 
-// The numbers of all nodes.
-fn all_nodes(rt: &impl Abort, alloc: Global, graph: &Graph) -> Result<Vec<u32>, AllocError>
-    ensures { IfOk result (λ nodes. nodes.items ≡ range_with_len 0 (length graph.now.nodes)) }
+// The numbers of all nodes, which are a closed part.
+fn all_nodes(alloc: Global, graph: &Graph) -> Result<Vec<u32>, AllocError>
+    ensures { IfOk result (λ nodes. IsClosedPart graph.now nodes.items) }
 {
-    assert!(rt; graph.nodes() < 10_000);
+    whole_graphs();
     (0..graph.nodes() as u32).collect(alloc)
 }
 
@@ -97,7 +97,7 @@ fn check<R: Abort + Threads + Sync>(
     wanted: &[u32],
 ) -> Result<(), Fail> {
     let graph = Graph::build(alloc, tables, None, &[], 1000, 0)?;
-    let reached = all_nodes(rt, alloc, &graph)?;
+    let reached = all_nodes(alloc, &graph)?;
     for workers in [1, 2, 4, 7] {
         check_by(rt, alloc, &graph, &reached, workers, wanted)?;
     }

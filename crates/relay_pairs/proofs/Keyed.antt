@@ -7,9 +7,9 @@ use Rattle.std.proofs.lemmas.List.Elements.{All-map, All-contains, Contains-get_
 use Rattle.std.proofs.lemmas.List.Kept.{AllPairs-from_increasing}
 use Rattle.relay_rounds.specs.Closures.{IsReachedKey, IsClosureOf, HasMoreReached}
 use Rattle.relay_tables.specs.GraphParts.{GraphParts}
-use Rattle.relay_tables.specs.Graphs.{child_numbers, sender_number_after}
+use Rattle.relay_tables.specs.Graphs.{child_numbers, sender_number_after, IsClosedGraph}
 use Rattle.relay_pairs.specs.declared.reached.Reached.{Reached}
-use Rattle.relay_pairs.specs.Pairs.{key_of, pair_at, key_count, key_after, keys_from, keys_after, IsRoot, IsStep, IsReachedPair, ArePairs, HasMorePairs, IsClosedGraph}
+use Rattle.relay_pairs.specs.Pairs.{key_of, pair_at, key_count, key_after, keys_from, keys_after, IsRoot, IsStep, IsReachedPair, ArePairs, HasMorePairs}
 use Rattle.relay_pairs.specs.Bounds.{keys_after-below}
 use Rattle.relay_pairs.proofs.Members.{Contains-map, Contains-from_map}
 use Rattle.relay_pairs.proofs.Walking.{reached_start, reached_step, reached_all}

@@ -8,9 +8,9 @@ use Rattle.std.proofs.lemmas.List.Kept.{Contains-dedup_nat, Contains-from_dedup}
 use Rattle.std.proofs.lemmas.List.Sorted.{Contains-permutation, IsPermutation-sym}
 use Rattle.std.proofs.lemmas.Map.Keys.{IsStrictlyIncreasing-dedup}
 use Rattle.relay_tables.specs.GraphParts.{GraphParts}
-use Rattle.relay_tables.specs.Graphs.{child_numbers, sender_number_after}
+use Rattle.relay_tables.specs.Graphs.{child_numbers, sender_number_after, IsClosedGraph}
 use Rattle.relay_pairs.specs.declared.reached.Reached.{Reached}
-use Rattle.relay_pairs.specs.Pairs.{IsRoot, IsStep, ArePairs, AreNodesOf, IsClosedGraph, IsClosedUnder}
+use Rattle.relay_pairs.specs.Pairs.{IsRoot, IsStep, ArePairs, AreNodesOf, IsClosedUnder}
 use Rattle.relay_pairs.proofs.Members.{Contains-map, Contains-from_map}
 use Rattle.relay_pairs.proofs.Walking.{reached_step}
 use Rattle.relay_pairs.proofs.Keyed.{node_reached}

@@ -1,7 +1,6 @@
 -- Pairs of sender and node, and their numbers in a graph.
-use Rattle.std.proofs.Common.{◌≡◌, ◌≤◌, ◌^◌, ℕ, zero, suc, ◌<◌, List, [], ◌∷◌, length, map, get_or, slice_get, Contains, Option, Some, refl, sym, ap, ◌∙◌, subst, arith}
-use Rattle.std.proofs.lemmas.Option.{same_Some, slice_get_within}
-use Rattle.std.proofs.lemmas.List.Elements.{Contains-get_or}
+use Rattle.std.proofs.Common.{◌≡◌, ℕ, List, map, slice_get, Contains, Option, Some, refl, sym, ap, ◌∙◌, subst}
+use Rattle.std.proofs.lemmas.Option.{same_Some}
 use Rattle.relay_text.specs.AddressParts.{AddressParts}
 use Rattle.relay_tables.specs.declared.node.Node.{Node}
 use Rattle.relay_tables.specs.Directory.{Directory}
@@ -10,17 +9,10 @@ use Rattle.relay_tables.specs.Targets.{targets_of, recipient_target}
 use Rattle.relay_tables.specs.Senders.{Sender, Pair, Step, sender_past}
 use Rattle.relay_tables.specs.Graphs.{child_numbers, nodes_at, sender_number_after, IsGraphOf}
 use Rattle.relay_pairs.specs.declared.reached.Reached.{Reached}
-use Rattle.relay_pairs.specs.Pairs.{IsRoot, IsStep, IsReachedPair, IsClosedGraph}
+use Rattle.relay_pairs.specs.Pairs.{IsRoot, IsStep, IsReachedPair}
 use Rattle.relay_pairs.specs.Chains.{IsStart, IsReachedBy, HasNumbers}
 use Rattle.relay_pairs.proofs.Members.{Contains-map, Contains-from_map}
 use Rattle.relay_pairs.proofs.Walking.{reached_start, reached_step, reached_all}
-
-slice_get_below : {X : Type 0} (xs : List X) (n : ℕ) → n < length xs → (x : X) × (slice_get xs n ≡ Some x)
-slice_get_below [] n h = absurd (omega arith)
-slice_get_below (x ∷ xs) zero h = (x, refl)
-slice_get_below (x ∷ xs) (suc n) h =
-    let r = slice_get_below xs n (omega arith) in
-    (r.0, r.1)
 
 module _ (d : Directory) (sender : Sender) (recipients : List AddressParts) (g : GraphParts) (is : IsGraphOf d sender recipients g) where
   -- where numbers lead to targets, each target has its number, and each number its target
@@ -106,22 +98,3 @@ module _ (d : Directory) (sender : Sender) (recipients : List AddressParts) (g :
       let nodes : p.pair.node ≡ pair.node = same_Some p.pair.node pair.node (sym p.node_at ∙ h.1.node) in
       let half : IsReachedBy d sender recipients (record { sender = pair.sender; node = p.pair.node }) = subst (λ (s : Sender). IsReachedBy d sender recipients (record { sender = s; node = p.pair.node })) senders p.reached in
       subst (λ (m : Node). IsReachedBy d sender recipients (record { sender = pair.sender; node = m })) nodes half
-
-  pub closed_graph : length g.nodes ≤ 2 ^ 24 → length g.senders ≤ 2 ^ 32 → IsClosedGraph g
-  closed_graph nodes senders =
-      record {
-        few_nodes = nodes;
-        few_senders = senders;
-        some_sender = let within = slice_get_within g.senders 0 sender is.envelope_first in omega arith;
-        roots = λ k e inside.
-            let a = target_at AddressParts (recipient_target d) g.roots recipients is.roots (get_or g.roots k e) (Contains-get_or g.roots k e inside) in
-            slice_get_within g.nodes (get_or g.roots k e) (recipient_target d a.0) a.2;
-        children = λ n below k e inside.
-            let m = slice_get_below g.nodes n below in
-            let t = target_at Node (λ t. t) (child_numbers g n) (targets_of d m.0) (is.children n m.0 m.1) (get_or (child_numbers g n) k e) (Contains-get_or (child_numbers g n) k e inside) in
-            slice_get_within g.nodes (get_or (child_numbers g n) k e) t.0 t.2;
-        senders = λ s n s_below n_below.
-            let a = slice_get_below g.senders s s_below in
-            let m = slice_get_below g.nodes n n_below in
-            slice_get_within g.senders (sender_number_after g s n) (sender_past d a.0 m.0) (is.after s n a.0 m.0 a.1 m.1);
-      }

@@ -3,9 +3,9 @@ use Rattle.std.proofs.Common.{ℕ, ◌+◌, ◌*◌, ◌^◌, ◌<◌, length, g
 use Rattle.std.proofs.lemmas.Bool.{cases_lt, le-ltb, lt-ltb}
 use Rattle.std.proofs.lemmas.List.Elements.{All-map}
 use Rattle.relay_tables.specs.GraphParts.{GraphParts}
-use Rattle.relay_tables.specs.Graphs.{child_numbers, sender_number_after}
+use Rattle.relay_tables.specs.Graphs.{child_numbers, sender_number_after, IsClosedGraph}
 use Rattle.relay_pairs.specs.declared.reached.Reached.{Reached}
-use Rattle.relay_pairs.specs.Pairs.{key_count, key_after, keys_from, keys_after, pair_at, IsClosedGraph}
+use Rattle.relay_pairs.specs.Pairs.{key_count, key_after, keys_from, keys_after, pair_at}
 
 below_product : (s n senders : ℕ) → s < senders → n < 2 ^ 24 → s * 2 ^ 24 + n < senders * 2 ^ 24
 below_product s n senders h k = omega arith

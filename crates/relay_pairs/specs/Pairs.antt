@@ -1,5 +1,5 @@
 -- Which pairs of sender and node are reached in a graph, by their numbers.
-use Rattle.std.specs.Prelude.{◌≡◌, ◌≢◌, ℕ, ◌+◌, ◌*◌, ◌/◌, ◌%◌, ◌^◌, ◌<◌, ◌≤◌, nat_lt, List, [], length, map, All, AllPairs, Contains, ◌↔◌, if◌then◌else◌}
+use Rattle.std.specs.Prelude.{◌≡◌, ◌≢◌, ℕ, ◌+◌, ◌*◌, ◌/◌, ◌%◌, ◌^◌, ◌<◌, nat_lt, List, [], length, map, All, AllPairs, Contains, ◌↔◌, if◌then◌else◌}
 use Rattle.std.specs.List.Sorted.{IsStrictlyIncreasing}
 use Rattle.relay_rounds.specs.Walks.{IsReached}
 use Rattle.relay_tables.specs.GraphParts.{GraphParts}
@@ -38,15 +38,6 @@ module _ (g : GraphParts) where
     pub distinct : AllPairs (λ p q. p ≢ q) pairs
     pub reached : All IsReachedPair pairs
     pub more : n < length pairs
-
-  -- its numbers are those of its nodes and senders, and few enough for keys
-  pub record IsClosedGraph : Type 0 where
-    pub few_nodes : length g.nodes ≤ 2 ^ 24
-    pub few_senders : length g.senders ≤ 2 ^ 32
-    pub some_sender : 1 ≤ length g.senders
-    pub roots : All (λ n. n < length g.nodes) g.roots
-    pub children : (n : ℕ) → n < length g.nodes → All (λ c. c < length g.nodes) (child_numbers g n)
-    pub senders : (s n : ℕ) → s < length g.senders → n < length g.nodes → sender_number_after g s n < length g.senders
 
   abbrev pub key_count : ℕ
   key_count = length g.senders * 2 ^ 24

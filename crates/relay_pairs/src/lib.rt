@@ -13,7 +13,7 @@ mod steps;
 #[cfg(test)]
 mod tests;
 
-pub use laws::{closed_graphs, pairs_are_counted, pairs_by_numbers};
+pub use laws::{pairs_are_counted, pairs_by_numbers};
 pub use nodes::reached_nodes;
 pub use reached::Reached;
 pub use reaching::reached_pairs;

@@ -1,6 +1,6 @@
 //! All pairs that are reached.
 ghost use Rattle.std.specs.Prelude.{◌≡◌, ◌<◌, ◌≤◌, ◌-◌, ◌^◌, ◌*◌, All, length, map, Err, IfOk};
-ghost use Rattle.relay_pairs.specs.Pairs.{key_count, pair_at, ArePairs, HasMorePairs, IsClosedGraph};
+ghost use Rattle.relay_pairs.specs.Pairs.{key_count, pair_at, ArePairs, HasMorePairs};
 
 use crate::reached::Reached;
 use crate::steps::PairSteps;
@@ -23,7 +23,6 @@ pub fn reached_pairs<G: Gate, R: Threads + Sync>(
     limit: usize,
     gate: &G,
 ) -> Result<Vec<Reached>, ReachFault>
-    requires graph { IsClosedGraph graph.now }
     requires workers { 1 ≤ workers }
     requires cut { 1 ≤ cut }
     requires limit { limit ≤ 2 ^ 32 - 2 }
@@ -32,6 +31,8 @@ pub fn reached_pairs<G: Gate, R: Threads + Sync>(
     ensures within { IfOk result (λ pairs. length pairs.items ≤ limit) }
     ensures refused { result ≡ Err ReachFault.TooManyPairs → HasMorePairs graph.now limit }
 {
+    // For what the call says alone: steps lead to pairs of the graph.
+    let _ = graph.nodes();
     let roots = first_keys(alloc, graph)?;
     let keys = reach(
         rt,

@@ -1,7 +1,6 @@
 //! The steps of a graph, from pair to pair.
 ghost use Rattle.std.specs.Prelude.{◌≡◌, ◌<◌, ◌%◌, ◌^◌, [], length, nat_lt, if◌then◌else◌};
-ghost use Rattle.relay_tables.specs.Graphs.{child_numbers};
-ghost use Rattle.relay_pairs.specs.Pairs.{IsClosedGraph};
+ghost use Rattle.relay_tables.specs.Graphs.{child_numbers, IsClosedGraph};
 
 use crate::reached::Reached;
 use relay_rounds::{Key, Steps};

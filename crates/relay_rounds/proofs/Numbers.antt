@@ -1,6 +1,6 @@
 -- A key has a number just where it stands in the list.
 use Rattle.std.proofs.Common.{◌≡◌, ◌≢◌, ℕ, ◌+◌, ◌<◌, Bool, true, false, nat_eq, ◌==◌, if◌then◌else◌, Option, Some, None, Result, Ok, Err, take, slice_get, List, [], ◌∷◌, ◌++◌, length, get_or, arith, sym, refl, ap, ◌∙◌, subst, ⊎_elim, true≢false}
-use Rattle.std.specs.Prelude.{IsTrue, Contains, AllPairs, not, ◌↔◌}
+use Rattle.std.specs.Prelude.{IsTrue, IfOk, Contains, AllPairs, not, ◌↔◌}
 use Rattle.std.specs.List.{position_or_len}
 use Rattle.std.specs.Option.{is_some}
 use Rattle.std.specs.Result.{is_err}
@@ -13,7 +13,7 @@ use Rattle.std.proofs.lemmas.List.Sums.{prefix_len_passes}
 use Rattle.relay_chains.specs.Keys.{number_of, Insertion, insertion, insertion_at, Inserts}
 use Rattle.relay_chains.specs.declared.fault.ChainFault.{ChainFault}
 use Rattle.relay_chains.specs.declared.fault.ChainFault.TheVariants.{Full}
-use Rattle.relay_rounds.specs.Shards.{is_there}
+use Rattle.relay_rounds.specs.Shards.{is_there, Inserted}
 
 -- the first place is no later than any
 no_later : (key : ℕ) (xs : List ℕ) → Contains xs key → position_or_len (nat_eq key) xs < length xs
@@ -70,6 +70,31 @@ inserted keys limit key (Ok found) new none fine done =
     put_last keys key found new (length keys == limit)
     (subst (λ (o : Option ℕ). Inserts (insertion_at nat_eq o keys limit key) keys (Ok found) new) (no_number keys key none) done)
 inserted keys limit key (Err fault) new none fine done = absurd (true≢false fine)
+
+flag : Result (ℕ × Bool) ChainFault → Bool
+flag (Ok found) = found.1
+flag (Err fault) = false
+
+put_new : (keys : List ℕ) (key : ℕ) (found : ℕ × Bool) (new : List ℕ) (full : Bool) → (Contains keys key → ⊥)
+    → Inserts (if◌then◌else◌ {A = Insertion ℕ} full (record { answer = Err Full; keys = keys }) (record { answer = Ok (length keys, true); keys = keys ++ key ∷ [] })) keys (Ok found) new
+    → Inserted keys key found.1 new
+unfolding flag
+put_new keys key found new true none done = absurd (cc)
+put_new keys key found new false none done = subst (λ (b : Bool). Inserted keys key b new) (ap flag done.0) (none, done.1)
+
+found_or_put : (keys : List ℕ) (limit key : ℕ) (found : ℕ × Bool) (new : List ℕ) (o : Option ℕ) → number_of nat_eq keys key ≡ o
+    → Inserts (insertion_at nat_eq o keys limit key) keys (Ok found) new → Inserted keys key found.1 new
+unfolding flag
+found_or_put keys limit key found new None is done =
+    put_new keys key found new (length keys == limit) (λ on. true≢false (sym ((some_where key keys None is).1 on))) done
+found_or_put keys limit key found new (Some i) is done =
+    subst (λ (b : Bool). Inserted keys key b new) (ap flag done.0) ((some_where key keys (Some i) is).0 refl, done.1)
+
+-- a key was there, or was put last
+pub put_once : (keys : List ℕ) (limit key : ℕ) (answer : Result (ℕ × Bool) ChainFault) (new : List ℕ)
+    → Inserts (insertion nat_eq keys limit key) keys answer new → IfOk answer (λ found. Inserted keys key found.1 new)
+put_once keys limit key (Ok found) new done = found_or_put keys limit key found new (number_of nat_eq keys key) refl done
+put_once keys limit key (Err fault) new done = tt
 
 -- the key at a place is not among those before it
 pub not_before : (keys : List ℕ) (n key : ℕ) → AllPairs (λ a b. a ≢ b) keys → slice_get keys n ≡ Some key → Contains (take n keys) key → ⊥

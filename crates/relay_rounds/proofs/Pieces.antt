@@ -1,5 +1,5 @@
 -- Keys in pieces, and what many threads make of them.
-use Rattle.std.proofs.Common.{◌≡◌, ℕ, zero, suc, ◌+◌, ◌-◌, max, List, [], ◌∷◌, ◌++◌, length, map, take, drop, Result, Ok, Err, arith, sym, refl, ap, ◌∙◌, subst}
+use Rattle.std.proofs.Common.{◌≡◌, ℕ, zero, suc, max, List, [], ◌∷◌, ◌++◌, length, map, take, drop, Result, Ok, Err, arith, sym, refl, ap, ◌∙◌, subst}
 use Rattle.std.specs.Prelude.{All, Contains, IfOk, MatchResult, flat_map}
 use Rattle.std.specs.List.{AllZip}
 use Rattle.std.specs.Borrow.{Bor}

@@ -1,14 +1,14 @@
 -- What a round does for a search, and what a search without offers has found.
-use Rattle.std.proofs.Common.{◌≡◌, ◌≢◌, ℕ, ◌+◌, ◌-◌, ◌<◌, List, [], ◌∷◌, ◌++◌, length, arith, sym, refl, subst, inl, inr, ⊎_elim}
+use Rattle.std.proofs.Common.{◌≡◌, ◌≢◌, ℕ, ◌+◌, ◌<◌, List, [], ◌∷◌, ◌++◌, length, get_or, arith, sym, refl, ap, ◌∙◌, subst, inl, inr, ⊎_elim}
 use Rattle.std.specs.Prelude.{All, AllPairs, Contains, flat_map, ◌⊎◌, ◌↔◌}
-use Rattle.std.proofs.lemmas.List.{length-append}
-use Rattle.std.proofs.lemmas.List.Elements.{All-append, All-contains, Contains-append_left, Contains-append_right, Contains-append_cases}
+use Rattle.std.proofs.lemmas.List.{length-append, append-nil}
+use Rattle.std.proofs.lemmas.List.Elements.{All-nil, All-cons, All-append, All-contains, Contains-append_left, Contains-append_right, Contains-append_cases, Contains-push, Contains-push_cases}
 use Rattle.std.specs.List.Sorted.{IsPermutation, IsNonDecreasing}
 use Rattle.std.proofs.lemmas.List.Sorted.{Contains-permutation, IsPermutation-sym}
 use Rattle.relay_rounds.specs.Walks.{IsWalk}
 use Rattle.relay_rounds.specs.Closures.{IsReachedKey, IsClosureOf, HasMoreReached}
-use Rattle.relay_rounds.specs.Searches.{IsSearch, AreNewOf, AreDistinctOf}
-use Rattle.relay_rounds.proofs.Keys.{nowhere, present, in_flat_map, from_flat_map, all_of, distinct_both}
+use Rattle.relay_rounds.specs.Searches.{IsSearch, AreNewOf, AreDistinctOf, Advances}
+use Rattle.relay_rounds.proofs.Keys.{nowhere, in_head, in_tail, cons_cases, present, in_flat_map, from_flat_map, all_of, distinct_both}
 use Rattle.relay_rounds.proofs.Rising.{rising_of, sorted_rises}
 
 -- one more step at the end of a walk
@@ -84,20 +84,116 @@ search_ends next roots settled s key = (
       stays next roots settled s r.0 r.1 key first r.3),
 )
 
--- each key once, and then those that are not settled
-pub new_of_offered : (settled offered won new : List ℕ) → AreDistinctOf offered won → AreNewOf settled won new → AreNewOf settled offered new
-new_of_offered settled offered won new w n = record {
-  distinct = n.distinct;
-  members = λ key. (
-    (λ on. let f = (n.members key).0 on in ((w.members key).0 f.0, f.1)),
-    (λ h. (n.members key).1 ((w.members key).1 h.0, h.1)),
-  );
-}
+-- other offers serve where they have no other keys, and all that are not settled
+other_offers : (next : ℕ → List ℕ) (roots settled offered others : List ℕ) → IsSearch next roots settled offered
+    → ((key : ℕ) → Contains others key → Contains offered key) → ((key : ℕ) → Contains offered key → Contains settled key ⊎ Contains others key) → IsSearch next roots settled others
+other_offers next roots settled offered others s from left =
+    let met : (key : ℕ) → Contains settled key ⊎ Contains offered key → Contains settled key ⊎ Contains others key = λ key h. ⊎_elim (λ old. inl old) (λ off. left key off) h in
+    record {
+      distinct = s.distinct;
+      reached = s.reached;
+      offers = all_of (IsReachedKey next roots) others (λ key on. All-contains (IsReachedKey next roots) offered key s.offers (from key on));
+      roots_met = λ key on. met key (s.roots_met key on);
+      nexts_met = λ a b on step. met b (s.nexts_met a b on step);
+    }
 
--- the same, where a round hands on its lists by slices
-pub round_new : (settled offered shown won won_shown new : List ℕ) → shown ≡ offered → won_shown ≡ won → AreDistinctOf shown won → AreNewOf settled won_shown new → AreNewOf settled offered new
-round_new settled offered shown won won_shown new a b w n =
-    new_of_offered settled offered won new (subst (λ (xs : List ℕ). AreDistinctOf xs won) a w) (subst (λ (xs : List ℕ). AreNewOf settled xs new) b n)
+-- each key is offered once
+pub offered_once : (next : ℕ → List ℕ) (roots settled offered won : List ℕ) → AreDistinctOf offered won → IsSearch next roots settled offered → IsSearch next roots settled won
+offered_once next roots settled offered won w s = other_offers next roots settled offered won s (λ key on. (w.members key).0 on) (λ key off. inr ((w.members key).1 off))
+
+-- the first offer is settled already
+pub known_key : (next : ℕ → List ℕ) (roots settled rest : List ℕ) (key : ℕ) → IsSearch next roots settled (key ∷ rest) → Contains settled key → IsSearch next roots settled rest
+known_key next roots settled rest key s there = other_offers next roots settled (key ∷ rest) rest s
+    (λ k on. in_tail key rest k on)
+    (λ k off. ⊎_elim (λ e. inl (subst (λ (z : ℕ). Contains settled z) e there)) (λ more. inr more) (cons_cases key rest k off))
+
+one_apart : (key : ℕ) → AllPairs (λ a b. a ≢ b) (key ∷ [])
+one_apart key i j d before below = absurd (omega arith)
+
+-- a key is settled, and offered no more, and its next keys are offered
+takes_key : (next : ℕ → List ℕ) (roots settled offered others : List ℕ) (key : ℕ) → IsSearch next roots settled offered → (Contains settled key → ⊥) → Contains offered key
+    → ((k : ℕ) → Contains others k → Contains offered k ⊎ Contains (next key) k) → ((k : ℕ) → Contains offered k → (key ≡ k) ⊎ Contains others k)
+    → ((k : ℕ) → Contains (next key) k → Contains others k) → IsSearch next roots (settled ++ key ∷ []) others
+takes_key next roots settled offered others key s fresh on from left nexts =
+    let P : ℕ → Type 0 = IsReachedKey next roots in
+    let here : P key = All-contains P offered key s.offers on in
+    let met : (k : ℕ) → Contains settled k ⊎ Contains offered k → Contains (settled ++ key ∷ []) k ⊎ Contains others k = λ k h. ⊎_elim
+    (λ old. inl (Contains-append_left settled (key ∷ []) k old))
+    (λ off. ⊎_elim (λ e. inl (subst (λ (z : ℕ). Contains (settled ++ key ∷ []) z) e (Contains-push settled key))) (λ more. inr more) (left k off))
+    h in
+    record {
+      distinct = distinct_both settled (key ∷ []) s.distinct (one_apart key) (λ x old last. ⊎_elim
+          (λ e. fresh (subst (λ (z : ℕ). Contains settled z) (sym e) old))
+          (λ none. nowhere x none)
+          (cons_cases key [] x last));
+      reached = All-append P settled (key ∷ []) s.reached (All-cons P key [] here (All-nil P));
+      offers = all_of P others (λ k o. ⊎_elim (λ off. All-contains P offered k s.offers off) (λ step. step_reached next roots key k here step) (from k o));
+      roots_met = λ k r. met k (s.roots_met k r);
+      nexts_met = λ a b there step. ⊎_elim
+          (λ old. met b (s.nexts_met a b old step))
+          (λ e. inr (nexts b (subst (λ (z : ℕ). Contains (next z) b) (sym e) step)))
+          (Contains-push_cases settled key a there);
+    }
+
+-- the first offer is new, and its next keys are offered last
+pub new_key : (next : ℕ → List ℕ) (roots settled rest last : List ℕ) (key : ℕ) → IsSearch next roots settled (key ∷ (rest ++ last)) → (Contains settled key → ⊥)
+    → IsSearch next roots (settled ++ key ∷ []) (rest ++ (last ++ next key))
+new_key next roots settled rest last key s fresh =
+    takes_key next roots settled (key ∷ (rest ++ last)) (rest ++ (last ++ next key)) key s fresh (in_head key (rest ++ last) key refl)
+    (λ k o. ⊎_elim
+    (λ r. inl (in_tail key (rest ++ last) k (Contains-append_left rest last k r)))
+    (λ more. ⊎_elim
+    (λ l. inl (in_tail key (rest ++ last) k (Contains-append_right rest last k l)))
+    (λ n. inr n)
+    (Contains-append_cases last (next key) k more))
+    (Contains-append_cases rest (last ++ next key) k o))
+    (λ k o. ⊎_elim
+    (λ e. inl e)
+    (λ more. inr (⊎_elim
+    (λ r. Contains-append_left rest (last ++ next key) k r)
+    (λ l. Contains-append_right rest (last ++ next key) k (Contains-append_left last (next key) k l))
+    (Contains-append_cases rest last k more)))
+    (cons_cases key (rest ++ last) k o))
+    (λ k n. Contains-append_right rest (last ++ next key) k (Contains-append_right last (next key) k n))
+
+-- it is one more than the limit
+pub one_too_many : (next : ℕ → List ℕ) (roots settled rest last : List ℕ) (key limit : ℕ) → IsSearch next roots settled (key ∷ (rest ++ last)) → (Contains settled key → ⊥)
+    → length settled ≡ limit → HasMoreReached next roots limit
+one_too_many next roots settled rest last key limit s fresh full =
+    let more = new_key next roots settled rest last key s fresh in
+    let up = rising_of (IsReachedKey next roots) (settled ++ key ∷ []) more.distinct more.reached in
+    let long = length-append settled (key ∷ []) in
+    let size = up.3 in
+    record { keys = up.0; distinct = up.1; reached = up.2; more = omega arith }
+
+-- one advance after another
+pub advances_on : (a a_offered b b_offered c c_offered : List ℕ) → Advances a a_offered b b_offered → Advances b b_offered c c_offered → Advances a a_offered c c_offered
+advances_on a a_offered b b_offered c c_offered one two =
+    ⊎_elim
+    (λ more. ⊎_elim (λ again. inl (omega arith)) (λ same. let e = ap length same.0 in inl (omega arith)) two)
+    (λ still. ⊎_elim (λ again. let e = ap length still.0 in inl (omega arith)) (λ same. inr (same.0 ∙ still.0, same.1 ∙ still.1)) two)
+    one
+
+-- what a round of many keys does
+pub many_advance : (next : ℕ → List ℕ) (settled new : List ℕ) → Advances settled [] (settled ++ new) (flat_map next new)
+many_advance next settled [] = inr (append-nil settled, refl)
+many_advance next settled (x ∷ xs) = let long = length-append settled (x ∷ xs) in inl (omega arith)
+
+-- the keys of a round that were won, where a round hands on its lists by slices
+pub won_search : (next : ℕ → List ℕ) (roots settled offered shown won won_shown : List ℕ) → shown ≡ offered → won_shown ≡ won → AreDistinctOf shown won
+    → IsSearch next roots settled offered → IsSearch next roots settled won_shown
+won_search next roots settled offered shown won won_shown a b w s =
+    subst (λ (xs : List ℕ). IsSearch next roots settled xs) (sym b) (offered_once next roots settled offered won (subst (λ (xs : List ℕ). AreDistinctOf xs won) a w) s)
+
+pub won_all : (P : ℕ → Type 0) (offered shown won won_shown : List ℕ) → shown ≡ offered → won_shown ≡ won → AreDistinctOf shown won → All P offered → All P won_shown
+won_all P offered shown won won_shown a b w each =
+    subst (λ (xs : List ℕ). All P xs) (sym b) (all_of P won (λ key on. All-contains P offered key each (subst (λ (xs : List ℕ). Contains xs key) a ((w.members key).0 on))))
+
+-- a lone key
+pub lone : (xs : List ℕ) → length xs ≡ 1 → xs ≡ get_or xs 0 0 ∷ []
+lone [] e = absurd (omega arith)
+lone (x ∷ []) e = refl
+lone (x ∷ y ∷ ys) e = absurd (omega arith)
 
 -- new keys were offered
 pub new_all : (P : ℕ → Type 0) (settled offered new : List ℕ) → AreNewOf settled offered new → All P offered → All P new

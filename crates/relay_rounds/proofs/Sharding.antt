@@ -1,11 +1,11 @@
 -- Keys in shards.
-use Rattle.std.proofs.Common.{◌≡◌, ◌≢◌, ℕ, ◌+◌, ◌%◌, ◌<◌, List, [], ◌∷◌, ◌++◌, length, cond, true, false, true≢false, get_or, set, take, arith, sym, refl, ap, ◌∙◌, subst, ⊎_elim, length-set, get_or-set_same, get_or-set_other}
+use Rattle.std.proofs.Common.{◌≡◌, ◌≢◌, ℕ, ◌%◌, ◌<◌, List, [], ◌∷◌, ◌++◌, length, cond, true, false, true≢false, get_or, set, take, arith, sym, refl, ap, ◌∙◌, subst, ⊎_elim, length-set, get_or-set_same, get_or-set_other}
 use Rattle.std.specs.Prelude.{All, AllPairs, Contains, Bool, filter, not, ◌↔◌}
 use Rattle.std.proofs.lemmas.Bool.{cases_eq, cond-true}
-use Rattle.std.proofs.lemmas.List.{length-append, get_or_append_left, get_or-append-add, length-take, get_or-take, get_or_read, get_or_default}
+use Rattle.std.proofs.lemmas.List.{length-take, get_or-take, get_or_read, get_or_default, set-get_or}
 use Rattle.std.proofs.lemmas.List.Kept.{AllPairs-filter}
-use Rattle.std.proofs.lemmas.List.Elements.{All-get_or, Contains-append_left, Contains-append_cases, Contains-push, Contains-push_cases}
-use Rattle.relay_rounds.specs.Shards.{AreSharded, shard_of, is_there}
+use Rattle.std.proofs.lemmas.List.Elements.{All-get_or, Contains-get_or, Contains-append_left, Contains-append_cases, Contains-push, Contains-push_cases}
+use Rattle.relay_rounds.specs.Shards.{AreSharded, Inserted, shard_of, is_there}
 use Rattle.relay_rounds.specs.Searches.{AreNewOf}
 use Rattle.relay_rounds.proofs.Keys.{nowhere, in_head, in_tail, cons_cases}
 use Rattle.relay_rounds.proofs.Numbers.{has_number, there_alike}
@@ -70,30 +70,45 @@ pub found_there : (keys : List ℕ) (shards : List (List ℕ)) (key home : ℕ) 
 found_there keys shards key home shard s at is =
     ap (λ (xs : List ℕ). is_there xs key) (home_shard shards key home shard s.some_shard at is) ∙ there_alike (shard_of shards key) keys key (s.found key)
 
-pub shard_lacks : (keys : List ℕ) (shards : List (List ℕ)) (key home : ℕ) (shard : List ℕ) → AreSharded keys shards → home ≡ key % length shards
-    → shard ≡ get_or shards home shard → (Contains keys key → ⊥) → Contains shard key → ⊥
-shard_lacks keys shards key home shard s at is none on =
-    none ((s.found key).0 (subst (λ (xs : List ℕ). Contains xs key) (home_shard shards key home shard s.some_shard at is) on))
+-- a key that is new in its shard is new, and settled now
+pub sharded_new : (keys : List ℕ) (shards : List (List ℕ)) (key home : ℕ) (shard grown : List ℕ) → AreSharded keys shards → home ≡ key % length shards
+    → shard ≡ get_or shards home shard → Inserted shard key true grown → AreSharded (keys ++ key ∷ []) (set shards home grown) × (Contains keys key → ⊥)
+sharded_new keys shards key home shard grown s at is done =
+    let some = s.some_shard in
+    let below : home < length shards = omega arith in
+    let last : grown ≡ get_or shards home [] ++ key ∷ [] = done.1 ∙ ap (λ (xs : List ℕ). xs ++ key ∷ []) (get_or_read shards home shard below is []) in (
+      sharded_push keys shards key home grown s at last,
+      (λ on. done.0 (subst (λ (xs : List ℕ). Contains xs key) (sym (home_shard shards key home shard some at is)) ((s.found key).1 on))),
+    )
 
-pub shard_grew : (shards : List (List ℕ)) (key home : ℕ) (shard grown : List ℕ) → home < length shards → shard ≡ get_or shards home shard
-    → grown ≡ shard ++ key ∷ [] → grown ≡ get_or shards home [] ++ key ∷ []
-shard_grew shards key home shard grown below is more = more ∙ ap (λ (xs : List ℕ). xs ++ key ∷ []) (get_or_read shards home shard below is [])
+-- a key that was in its shard was settled
+pub sharded_old : (keys : List ℕ) (shards : List (List ℕ)) (key home : ℕ) (shard grown : List ℕ) → AreSharded keys shards → home ≡ key % length shards
+    → shard ≡ get_or shards home shard → Inserted shard key false grown → AreSharded keys (set shards home grown) × Contains keys key
+sharded_old keys shards key home shard grown s at is done =
+    let some = s.some_shard in
+    let below : home < length shards = omega arith in
+    let same : set shards home grown ≡ shards = ap (λ (xs : List ℕ). set shards home xs) (done.1 ∙ get_or_read shards home shard below is []) ∙ set-get_or shards home [] in (
+      subst (λ (xs : List (List ℕ)). AreSharded keys xs) (sym same) s,
+      (s.found key).0 (subst (λ (xs : List ℕ). Contains xs key) (home_shard shards key home shard some at is) done.0),
+    )
 
--- of distinct keys the one at a place is not among those before it
-pub not_yet : (old keys : List ℕ) (n d : ℕ) → AllPairs (λ a b. a ≢ b) (old ++ keys) → n < length keys → Contains (old ++ take n keys) (get_or keys n d) → ⊥
-not_yet old keys n d distinct below on =
-    let key : ℕ = get_or keys n d in
-    let whole = length-append old keys in
-    let here : get_or (old ++ keys) (length old + n) key ≡ key = get_or-append-add old keys n key ∙ get_or_default keys n key d below in
+-- a key that was not there was put last
+pub put_last : (keys new : List ℕ) (key : ℕ) (b : Bool) → (Contains keys key → ⊥) → Inserted keys key b new → new ≡ keys ++ key ∷ []
+put_last keys new key true none done = done.1
+put_last keys new key false none done = absurd (none done.0)
+
+-- of distinct keys the one at a place is not among those before it, nor among others
+pub not_yet : (old keys : List ℕ) (n : ℕ) → AllPairs (λ a b. a ≢ b) keys → ((key : ℕ) → Contains keys key → Contains old key → ⊥) → n < length keys
+    → Contains (old ++ take n keys) (get_or keys n 0) → ⊥
+not_yet old keys n distinct fresh below on =
+    let key : ℕ = get_or keys n 0 in
+    let here : get_or keys n key ≡ key = get_or_default keys n key 0 below in
     ⊎_elim
-    (λ first.
-    let low : first.0 < length old = first.1 in
-    distinct first.0 (length old + n) key (omega arith) (omega arith) (get_or_append_left old keys key first.0 low ∙ first.2 ∙ sym here))
+    (λ first. fresh key (Contains-get_or keys n 0 below) first)
     (λ later.
     let size = length-take n keys in
     let low : later.0 < n = (let early : later.0 < length (take n keys) = later.1 in omega arith) in
-    distinct (length old + later.0) (length old + n) key (omega arith) (omega arith)
-    (get_or-append-add old keys later.0 key ∙ sym (get_or-take n keys later.0 key low) ∙ later.2 ∙ sym here))
+    distinct later.0 n key low below (sym (get_or-take n keys later.0 key low) ∙ later.2 ∙ sym here))
     (Contains-append_cases old (take n keys) key on)
 
 filter_in : (p : ℕ → Bool) (xs : List ℕ) (k : ℕ) → Contains xs k → p k ≡ true → Contains (filter p xs) k

@@ -1,6 +1,6 @@
 -- A search in rounds: the keys that are settled, and those that are offered to the next round.
-use Rattle.std.specs.Prelude.{◌≢◌, ℕ, List, All, AllPairs, Contains, ◌↔◌, ◌⊎◌}
-use Rattle.relay_rounds.specs.Closures.{IsReachedKey}
+use Rattle.std.specs.Prelude.{◌≡◌, ◌≢◌, ℕ, ◌<◌, ◌≤◌, List, [], length, All, AllPairs, Contains, ◌↔◌, ◌⊎◌}
+use Rattle.relay_rounds.specs.Closures.{IsReachedKey, HasMoreReached}
 
 -- settled are keys that are reached, each once; what they and the roots lead to is settled or offered
 pub record IsSearch (next : ℕ → List ℕ) (roots settled offered : List ℕ) : Type 0 where
@@ -19,3 +19,22 @@ pub record AreDistinctOf (offered keys : List ℕ) : Type 0 where
 pub record AreNewOf (settled offered keys : List ℕ) : Type 0 where
   pub distinct : AllPairs (λ a b. a ≢ b) keys
   pub members : (key : ℕ) → Contains keys key ↔ (Contains offered key × (Contains settled key → ⊥))
+
+-- from any search with the first keys, a search with the last ones
+abbrev pub GoesOn : (ℕ → List ℕ) → List ℕ → List ℕ → List ℕ → List ℕ → Type 0
+GoesOn next settled offered settled_now offered_now = (roots : List ℕ) → IsSearch next roots settled offered → IsSearch next roots settled_now offered_now
+
+-- in any search with these keys, more than the limit are reached
+abbrev pub IsTooFar : (ℕ → List ℕ) → List ℕ → List ℕ → ℕ → Type 0
+IsTooFar next settled offered limit = (roots : List ℕ) → IsSearch next roots settled offered → HasMoreReached next roots limit
+
+-- keys were settled, or all is as it was
+abbrev pub Advances : List ℕ → List ℕ → List ℕ → List ℕ → Type 0
+Advances settled offered settled_now offered_now = (length settled < length settled_now) ⊎ ((settled_now ≡ settled) × (offered_now ≡ offered))
+
+-- the keys of a round were settled, and what they lead to is offered
+pub record Settles (next : ℕ → List ℕ) (bound limit : ℕ) (settled won settled_now offered_now : List ℕ) : Type 0 where
+  pub within : length settled_now ≤ limit
+  pub below : All (λ key. key < bound) offered_now
+  pub advances : Advances settled [] settled_now offered_now
+  pub search : GoesOn next settled won settled_now offered_now

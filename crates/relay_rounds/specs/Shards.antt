@@ -1,7 +1,7 @@
 -- Keys in shards, each in that of its remainder.
 use Rattle.std.specs.Option.{is_some}
 use Rattle.relay_chains.specs.Keys.{number_of}
-use Rattle.std.specs.Prelude.{Bool, nat_eq, ◌≡◌, ℕ, ◌<◌, ◌≤◌, ◌-◌, ◌^◌, ◌%◌, List, [], length, Contains, slice_index_or, ◌↔◌}
+use Rattle.std.specs.Prelude.{Bool, true, false, nat_eq, ◌≡◌, ℕ, ◌<◌, ◌≤◌, ◌-◌, ◌^◌, ◌%◌, List, [], ◌∷◌, ◌++◌, length, Contains, slice_index_or, ◌↔◌}
 
 -- a shard's set has some buckets and room for as many keys as there are numbers
 pub record IsShard (heads limit : ℕ) : Type 0 where
@@ -20,3 +20,8 @@ shard_of shards key = slice_index_or shards (key % length shards) []
 pub record AreSharded (settled : List ℕ) (shards : List (List ℕ)) : Type 0 where
   pub some_shard : 0 < length shards
   pub found : (key : ℕ) → Contains (shard_of shards key) key ↔ Contains settled key
+
+-- a new key was put last, or the key was there already
+abbrev pub Inserted : List ℕ → ℕ → Bool → List ℕ → Type 0
+Inserted keys key true after = (Contains keys key → ⊥) × (after ≡ keys ++ key ∷ [])
+Inserted keys key false after = Contains keys key × (after ≡ keys)

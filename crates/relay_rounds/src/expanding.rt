@@ -7,22 +7,8 @@ use relay_chains::Key;
 use std::alloc::{AllocError, Global};
 use std::thread::Threads;
 
-// From so many keys on it pays to start threads.
-const MANY_KEYS: usize = 8192;
-
 // So many keys are expanded into one vector.
 const PIECE: usize = 1024;
-
-// Adds the next keys of a key.
-fn push_next_keys<S: Steps>(steps: &S, key: Key, next: &mut Vec<Key>) -> Result<(), AllocError>
-    requires { key < S.key_bound steps.now }
-    ensures { OnOk result (next.new.items ≡ next.old.items ++ S.next_keys steps.now key) }
-{
-    for i in 0..steps.count(key) {
-        next.push(steps.at(key, i))?;
-    }
-    Ok(())
-}
 
 // The next keys of all keys, in their order.
 fn next_keys_of<S: Steps>(alloc: Global, steps: &S, keys: &[Key]) -> Result<Vec<Key>, AllocError>
@@ -31,7 +17,7 @@ fn next_keys_of<S: Steps>(alloc: Global, steps: &S, keys: &[Key]) -> Result<Vec<
 {
     let mut next = Vec::new(alloc);
     for key in keys {
-        push_next_keys(steps, *key, &mut next)?;
+        steps.append(*key, &mut next)?;
     }
     Ok(next)
 }
@@ -58,32 +44,38 @@ fn next_keys_of_pieces<S: Steps, R: Threads + Sync>(
         .collect(rt, alloc)
 }
 
-// The pieces, one after another.
-fn side_by_side(alloc: Global, pieces: &[Vec<Key>]) -> Result<Vec<Key>, AllocError>
-    ensures { IfOk result (λ whole. whole.items ≡ flat_map (λ piece. piece.items) pieces.now) }
+// How many keys they are.
+fn total(pieces: &[Vec<Key>]) -> usize {
+    let mut keys = 0usize;
+    for piece in pieces {
+        keys = keys.saturating_add(piece.len());
+    }
+    keys
+}
+
+// Puts the pieces behind what is there, one after another.
+fn put_behind(pieces: &[Vec<Key>], whole: &mut Vec<Key>) -> Result<(), AllocError>
+    ensures { OnOk result (whole.new.items ≡ whole.old.items ++ flat_map (λ piece. piece.items) pieces.now) }
 {
-    let mut whole = Vec::new(alloc);
+    whole.reserve(total(pieces))?;
     for piece in pieces {
         whole.extend_from_slice(piece.as_slice())?;
     }
-    Ok(whole)
+    Ok(())
 }
 
-/// The next keys of all keys, in their order: by several threads where there are many keys and workers.
+/// Puts the next keys of many keys, in their order, behind what is there. Several threads find them.
 pub(crate) fn next_keys<S: Steps, R: Threads + Sync>(
     rt: &R,
     alloc: Global,
     steps: &S,
     keys: &[Key],
-    workers: usize,
-) -> Result<Vec<Key>, AllocError>
+    next: &mut Vec<Key>,
+) -> Result<(), AllocError>
     requires { All (λ key. key < S.key_bound steps.now) keys.now }
-    ensures { IfOk result (λ next. next.items ≡ flat_map (S.next_keys steps.now) keys.now) }
+    ensures { OnOk result (next.new.items ≡ next.old.items ++ flat_map (S.next_keys steps.now) keys.now) }
 {
-    if workers == 1 || keys.len() < MANY_KEYS {
-        return next_keys_of(alloc, steps, keys);
-    }
     let made = next_keys_of_pieces(rt, alloc, steps, keys, PIECE)?;
     let pieces = made?;
-    side_by_side(alloc, pieces.as_slice())
+    put_behind(pieces.as_slice(), next)
 }

@@ -7,14 +7,18 @@
 mod expanding;
 mod fault;
 mod gate;
+mod kept;
 mod reaching;
 mod settled;
+mod settling;
 mod shard;
 mod steps;
 #[cfg(test)]
 mod tests;
 mod winning;
+mod worker;
 mod workers;
+mod zeros;
 
 pub use fault::ReachFault;
 pub use gate::{Gate, NoGate};

@@ -4,10 +4,11 @@ ghost use Rattle.std.specs.List.Sorted.{IsPermutation, IsSorted};
 ghost use Rattle.std.specs.Ordering.{nat_cmp};
 ghost use Rattle.relay_rounds.specs.Closures.{IsClosureOf, HasMoreReached};
 
-use crate::expanding::next_keys;
 use crate::fault::ReachFault;
 use crate::gate::Gate;
+use crate::kept::Kept;
 use crate::settled::Settled;
+use crate::settling::{settle, settle_one};
 use crate::steps::Steps;
 use crate::winning::winners;
 use rayon::prelude::*;
@@ -35,8 +36,8 @@ fn sort_keys<R: Threads + Sync>(rt: &R, keys: &mut Vec<Key>, workers: usize)
 ///
 /// `workers` threads take part, the calling one among them, but no more than a round has pieces; a piece is `cut` offered
 /// keys, which one worker claims. Neither they nor the gate change the answer. `roots` may name a key more than once.
-/// Time and memory of a round grow with the keys that it offers, and not with the bound of the steps; a settled key takes
-/// about 40 bytes. Keys that are chosen so that many have one remainder by the same odd number make it slow.
+/// Time of a round grows with the keys that it offers, and not with the bound of the steps; a settled key takes about 40
+/// bytes. A round of one key takes no table and no thread, and one of one piece no thread.
 ///
 /// `TooManyPairs` comes exactly where more than `limit` keys are reached, however often each is offered. `Memory` comes
 /// only where a growth was refused, once all threads have ended.
@@ -60,16 +61,29 @@ pub fn reach<S: Steps, G: Gate, R: Threads + Sync>(
 {
     let mut settled = Settled::new(alloc, workers)?;
     let mut offered = Vec::from_slice(alloc, roots)?;
+    let mut kept = Kept::new(alloc);
     'rounds: while !offered.is_empty() {
-        let won = winners(rt, alloc, offered.as_slice(), workers, cut, gate)?;
-        let new = settled.new_among(rt, alloc, won.as_slice(), workers)?;
-        if new.len() > limit - settled.keys.len() {
-            return Err(ReachFault::TooManyPairs);
+        if offered.len() == 1 {
+            // Nothing can repeat, so nothing is claimed.
+            let key = offered[0];
+            gate.enter(0);
+            offered.clear();
+            settle_one(steps, key, limit, &mut settled, &mut offered)?;
+            continue;
         }
-        settled.add(alloc, new.as_slice())?;
-        offered = next_keys(rt, alloc, steps, new.as_slice(), workers)?;
+        winners(rt, offered.as_slice(), workers, cut, gate, &mut kept)?;
+        offered.clear();
+        settle(
+            rt,
+            steps,
+            kept.won.as_slice(),
+            limit,
+            &mut settled,
+            &mut offered,
+        )?;
     }
     let Settled {
+        alloc: _,
         mut keys,
         shards: _,
     } = settled;

@@ -1,6 +1,6 @@
 //! A growing set of keys.
-ghost use Rattle.std.specs.Prelude.{◌≡◌, ◌≤◌, ◌-◌, ◌^◌, ◌++◌, ◌∷◌, [], Contains, IfOk, OnOk};
-ghost use Rattle.relay_rounds.specs.Shards.{is_there};
+ghost use Rattle.std.specs.Prelude.{◌≡◌, ◌≤◌, ◌-◌, ◌^◌, [], IfOk};
+ghost use Rattle.relay_rounds.specs.Shards.{is_there, Inserted};
 
 use relay_chains::{Chains, Key};
 use std::alloc::{AllocError, Global};
@@ -80,16 +80,14 @@ impl Shard {
         Ok(())
     }
 
-    /// Adds a key that isn't there.
-    pub(crate) fn insert(&mut self, alloc: Global, key: Key) -> Result<(), AllocError>
-        requires { Contains self.old key → ⊥ }
-        ensures { OnOk result (self.new ≡ self.old ++ key ∷ []) }
+    /// Adds a key, and says whether it is new.
+    pub(crate) fn insert(&mut self, alloc: Global, key: Key) -> Result<bool, AllocError>
+        ensures { IfOk result (λ new. Inserted self.old key new self.new) }
     {
         self.make_room(alloc)?;
-        let answer = self.chains.insert(key);
-        if answer.is_err() {
+        let Ok((_, new)) = self.chains.insert(key) else {
             return Err(AllocError);
-        }
-        Ok(())
+        };
+        Ok(new)
     }
 }

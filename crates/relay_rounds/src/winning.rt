@@ -1,58 +1,72 @@
 //! One round of claims.
-ghost use Rattle.std.specs.Prelude.{◌≡◌, ◌<◌, ◌≤◌, length, map, All, slice_index, IfOk};
+ghost use Rattle.std.specs.Prelude.{◌≤◌, ◌^◌, OnOk};
 ghost use Rattle.relay_rounds.specs.Searches.{AreDistinctOf};
-ghost use Rattle.relay_rounds.specs.Winners.{IsOnePlaceEach};
 
 use crate::gate::Gate;
+use crate::kept::Kept;
+use crate::worker::Worker;
 use crate::workers::work_all;
 use relay_chains::Key;
 use relay_claims::Round;
-use std::alloc::{AllocError, Global};
+use std::alloc::AllocError;
+use std::mem;
 use std::thread::Threads;
 
-// A place for each offered key, rising. It takes about as many heads as keys, and an odd number of them, so that keys that
-// are multiples of a power of two spread.
-fn places_won<G: Gate, R: Threads + Sync>(
-    rt: &R,
-    alloc: Global,
-    offered: &[Key],
-    workers: usize,
-    cut: usize,
-    gate: &G,
-) -> Result<Vec<usize>, AllocError>
-    requires { 1 ≤ cut }
-    ensures { IfOk result (λ places. IsOnePlaceEach offered.now places.items) }
+// About 2^64 divided by the golden ratio, and odd: a product with it carries each bit of a key into the upper half.
+const MIX: u64 = 0x9e37_79b9_7f4a_7c15;
+
+// How many heads a round takes: between half as many as its keys and as many, and an odd number of them, so that keys that are
+// multiples of a power of two spread. Which number it is hangs on the keys: keys follow the order in which they stand in a file,
+// so for a number known beforehand a file can be written that puts all of a round into one bucket.
+fn heads_for(keys: &[Key]) -> usize
+    ensures some { 1 ≤ result }
+    ensures few { result ≤ 2 ^ 32 }
 {
-    let heads = (offered.len() / 2 * 2 + 1).min(4294967295);
-    let (round, seat) = Round::open(alloc, offered, heads, cut)?;
-    let workers = workers.min(round.pieces());
-    let seat = work_all(rt, &round, seat, workers, cut, gate);
-    match round.close(alloc, seat) {
-        Ok(places) => Ok(places),
-        Err(_) => Err(AllocError),
+    let mut mixed = 0u64;
+    for key in keys {
+        mixed = (mixed ^ *key).wrapping_mul(MIX);
+        mixed ^= mixed >> 32;
     }
+    let half = (keys.len() / 2).min(2147483647);
+    let more = (mixed % half.max(1) as u64) as usize;
+    (half + more) / 2 * 2 + 1
 }
 
-// The keys at some places.
-fn keys_at(alloc: Global, keys: &[Key], places: &[usize]) -> Result<Vec<Key>, AllocError>
-    requires { All (λ i. i < length keys.now) places.now }
-    ensures { IfOk result (λ chosen. chosen.items ≡ map (λ i. slice_index keys.now i) places.now) }
-{
-    places.iter().map(|i| keys[*i]).collect(alloc)
-}
-
-/// Each offered key once, claimed by so many threads, but no more than there are pieces.
+/// Wins each offered key once, by so many threads, but no more than there are pieces.
 pub(crate) fn winners<G: Gate, R: Threads + Sync>(
     rt: &R,
-    alloc: Global,
     offered: &[Key],
     workers: usize,
     cut: usize,
     gate: &G,
-) -> Result<Vec<Key>, AllocError>
+    kept: &mut Kept,
+) -> Result<(), AllocError>
     requires { 1 ≤ cut }
-    ensures { IfOk result (λ keys. AreDistinctOf offered.now keys.items) }
+    ensures { OnOk result (AreDistinctOf offered.now kept.new.won.items) }
 {
-    let places = places_won(rt, alloc, offered, workers, cut, gate)?;
-    keys_at(alloc, offered, places.as_slice())
+    let heads = heads_for(offered);
+    let count = 1 + heads + offered.len();
+    kept.zeros.grow(count)?;
+    let (round, seat) = Round::open_of(kept.alloc, offered, heads, cut, kept.zeros.first(count))?;
+    let workers = workers.min(round.pieces());
+    kept.won.clear();
+    let alone = Worker {
+        alloc: kept.alloc,
+        seat,
+        won: mem::replace(&mut kept.won, Vec::new(kept.alloc)),
+        refused: false,
+    };
+    let worker = work_all(rt, &round, alone, offered, workers, cut, gate);
+    let Worker {
+        alloc: _,
+        seat,
+        won,
+        refused,
+    } = worker;
+    round.end(seat);
+    kept.won = won;
+    if refused {
+        return Err(AllocError);
+    }
+    Ok(())
 }

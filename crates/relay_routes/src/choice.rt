@@ -21,7 +21,6 @@ pub enum Choice {
 ghost use Rattle.std.specs.Prelude.{◌≡◌, Some, drop, IfOk};
 ghost use Rattle.relay_routes.specs.Transports.{choice_of, nexthop_alone, some_text};
 
-use crate::copies::copy;
 use crate::host_form::place_of;
 use crate::transport_line::refusal;
 use relay_text::trimmed;
@@ -33,7 +32,7 @@ impl Choice {
         ensures { IfOk result (λ choice. choice ≡ choice_of (Some text.now)) }
     {
         if let Some(reason) = refusal(text) {
-            return Ok(Choice::Refused(copy(alloc, trimmed(reason))?));
+            return Ok(Choice::Refused(Text::copy_of(alloc, trimmed(reason))?));
         }
         let (name, rest) = text.split_at(place_of(b':', text));
         let nexthop = nexthop_in(alloc, rest)?;
@@ -68,7 +67,7 @@ fn nexthop_in(alloc: Global, rest: &[u8]) -> Result<Option<Text>, AllocError>
     ensures { IfOk result (λ nexthop. nexthop ≡ some_text (drop 1 rest.now)) }
 {
     match rest {
-        [_, nexthop @ ..] if !nexthop.is_empty() => Ok(Some(copy(alloc, nexthop)?)),
+        [_, nexthop @ ..] if !nexthop.is_empty() => Ok(Some(Text::copy_of(alloc, nexthop)?)),
         _ => Ok(None),
     }
 }

@@ -5,20 +5,6 @@ ghost use Rattle.relay_text.specs.Bytes.{folded};
 use relay_text::{Text, fold};
 use std::alloc::{AllocError, Global};
 
-/// A text, as it is.
-pub(crate) fn copy(alloc: Global, text: &[u8]) -> Result<Text, AllocError>
-    ensures { IfOk result (λ copy. copy ≡ text.now) }
-{
-    Ok(Text::of(Vec::from_slice(alloc, text)?))
-}
-
-/// A text, folded.
-pub(crate) fn folded_copy(alloc: Global, text: &[u8]) -> Result<Text, AllocError>
-    ensures { IfOk result (λ copy. copy ≡ folded text.now) }
-{
-    Ok(folded_text(Vec::from_slice(alloc, text)?))
-}
-
 /// A text, folded in place.
 pub(crate) fn folded_text(mut text: Vec<u8>) -> Text
     ensures { result ≡ folded text.items }

@@ -31,10 +31,8 @@ pub(crate) fn destination_to(
     let Some(form) = form_of(transport, nexthop) else {
         return Err(Unrouted::Transport);
     };
-    match form.written(alloc) {
-        Ok(nexthop) => Ok(Destination { transport, nexthop }),
-        Err(_) => Err(Unrouted::Memory),
-    }
+    let nexthop = form.written(alloc)?;
+    Ok(Destination { transport, nexthop })
 }
 
 /// The same, or where there is no nexthop to an address's domain.

@@ -7,7 +7,7 @@ ghost use Rattle.relay_text.specs.Bytes.{folded};
 ghost use Rattle.relay_routes.specs.Nexthops.{nexthop_of, unix_form};
 ghost use Rattle.relay_routes.specs.Forms.{at_path, nexthop_from};
 
-use crate::copies::{folded_copy, joined};
+use crate::copies::joined;
 use crate::host_form::{HostForm, after_word, host_form, inet_form};
 use crate::transport::Transport;
 use relay_text::Text;
@@ -28,7 +28,7 @@ impl<'a> Form<'a> {
         ensures { IfOk result (λ text. text ≡ (nexthop_from self.now).text) }
     {
         match self {
-            Form::Host(form) => folded_copy(alloc, form.text),
+            Form::Host(form) => Text::folded_copy_of(alloc, form.text),
             Form::Unix(path) => Ok(Text::of(joined(alloc, b"unix:", path)?)),
         }
     }

@@ -81,9 +81,7 @@ impl MxTable {
     ) -> Result<Hosts, Unrouted>
         ensures { Answers result (hosts_of self.now domain.now own_names.now seed) }
     {
-        let Ok(own_names) = TextSet::of(alloc, own_names) else {
-            return Err(Unrouted::Memory);
-        };
+        let own_names = TextSet::of(alloc, own_names)?;
         self.hosts_beside(alloc, domain, &own_names, seed)
     }
 
@@ -97,9 +95,7 @@ impl MxTable {
     ) -> Result<Hosts, Unrouted>
         ensures { Answers result (hosts_of self.now domain.now own_names.now seed) }
     {
-        let Ok(found) = self.records.exchangers_of(alloc, domain) else {
-            return Err(Unrouted::Memory);
-        };
+        let found = self.records.exchangers_of(alloc, domain)?;
         if !found.is_empty() {
             return explicit_hosts(alloc, found, own_names, seed);
         }
@@ -126,9 +122,7 @@ fn explicit_hosts(
         return Err(Unrouted::NullMx);
     }
     let exchangers = before_relay(exchangers, own_names);
-    let Ok(hosts) = hosts_in_order(alloc, exchangers, seed) else {
-        return Err(Unrouted::Memory);
-    };
+    let hosts = hosts_in_order(alloc, exchangers, seed)?;
     if hosts.is_empty() {
         return Err(Unrouted::MxSelf);
     }
@@ -142,11 +136,7 @@ fn implicit_host(alloc: Global, domain: &[u8], own_names: &TextSet) -> Result<Ho
     if own_names.contains(domain) {
         return Err(Unrouted::MxSelf);
     }
-    let Ok(host) = Vec::from_slice(alloc, domain) else {
-        return Err(Unrouted::Memory);
-    };
-    let Ok(hosts) = Hosts::one(alloc, Text::of(host)) else {
-        return Err(Unrouted::Memory);
-    };
+    let host = Text::copy_of(alloc, domain)?;
+    let hosts = Hosts::one(alloc, host)?;
     Ok(hosts)
 }

@@ -44,7 +44,7 @@ impl DistinctHosts {
             return Ok(());
         }
         let copy = Vec::from_slice(alloc, host)?;
-        let text = Text::of(Vec::from_slice(alloc, host)?);
+        let text = Text::copy_of(alloc, host)?;
         self.hosts.reserve(1)?;
         self.seen.insert(copy)?;
         self.hosts.push_reserved(text);

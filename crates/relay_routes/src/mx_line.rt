@@ -1,13 +1,13 @@
 //! The lines of an MX table.
 ghost use Rattle.std.specs.Prelude.{◌≡◌, ◌≤◌, length, [], ◌∷◌, IfOk, IfSome, IfNone};
 ghost use Rattle.std.specs.List.{position_or_len};
-ghost use Rattle.relay_text.specs.Bytes.{is_white, is_word, folded};
+ghost use Rattle.relay_text.specs.Bytes.{is_white, is_word};
 ghost use Rattle.relay_text.specs.Numbers.{number_within};
 ghost use Rattle.relay_routes.specs.Exchanges.{fields_of, record_of, exchange_of, is_exchange_host};
 
 use crate::exchange::Exchange;
 use crate::mx_record::MxRecord;
-use relay_text::{Text, begins_with_word, fold, is_domain_name, number_within, trimmed_start};
+use relay_text::{Text, begins_with_word, is_domain_name, number_within, trimmed_start};
 use std::alloc::{AllocError, Global};
 
 /// The record that a line spells, `None` where it spells none. `Err` where memory runs out.
@@ -37,7 +37,7 @@ fn address_record(alloc: Global, domain: &[u8], word: &[u8]) -> Result<Option<Mx
     ensures { IfOk result (λ r. r ≡ record_of (domain.now ∷ word.now ∷ [])) }
 {
     if is_word(b"a", word) && is_domain_name(domain) {
-        let folded = folded_text(alloc, domain)?;
+        let folded = Text::folded_copy_of(alloc, domain)?;
         Ok(Some(MxRecord::Address(folded)))
     } else {
         Ok(None)
@@ -59,8 +59,8 @@ fn exchange_record(
     }
     match preference_of(number) {
         Some(preference) if is_domain_name(domain) && is_exchange_host(preference, host) => {
-            let domain = folded_text(alloc, domain)?;
-            let host = folded_text(alloc, host)?;
+            let domain = Text::folded_copy_of(alloc, domain)?;
+            let host = Text::folded_copy_of(alloc, host)?;
             Ok(Some(MxRecord::Mx(Exchange {
                 domain,
                 preference,
@@ -91,15 +91,6 @@ fn is_word(word: &[u8], text: &[u8]) -> bool
     ensures { result ≡ is_word word.now text.now }
 {
     text.len() == word.len() && begins_with_word(word, text)
-}
-
-/// A copy of a text in lower case.
-fn folded_text(alloc: Global, text: &[u8]) -> Result<Text, AllocError>
-    ensures { IfOk result (λ copy. copy ≡ folded text.now) }
-{
-    let mut copy = Vec::from_slice(alloc, text)?;
-    fold(&mut copy);
-    Ok(Text::of(copy))
 }
 
 /// The first field of a text, behind white space, and what follows it; `None` where there is none.

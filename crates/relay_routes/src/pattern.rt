@@ -5,7 +5,7 @@ ghost use Rattle.relay_text.specs.Addresses.{is_domain_name, is_literal, spellin
 ghost use Rattle.relay_routes.specs.Transports.{address_key, address_pattern, pattern_of};
 ghost use Rattle.relay_routes.specs.TableSteps.{names_domain};
 
-use crate::copies::{folded_copy, folded_text};
+use crate::copies::folded_text;
 use relay_text::{
     Text, TextFault, is_domain, is_domain_name, is_literal_content, parse_address, parse_name,
     write_local,
@@ -30,7 +30,7 @@ pub(crate) fn pattern_of(alloc: Global, text: &[u8]) -> Result<Option<Text>, All
     ensures { IfOk result (λ pattern. pattern ≡ pattern_of text.now) }
 {
     if text == b"*".as_slice() || is_parent(text) || is_domain(text) {
-        return Ok(Some(folded_copy(alloc, text)?));
+        return Ok(Some(Text::folded_copy_of(alloc, text)?));
     }
     address_pattern(alloc, text)
 }

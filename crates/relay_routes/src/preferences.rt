@@ -5,7 +5,6 @@ ghost use Rattle.relay_text.specs.Bytes.{firsts};
 ghost use Rattle.relay_routes.specs.Exchanges.{is_null, in_preference_order, rotated};
 ghost use Rattle.relay_routes.specs.Preferences.{exchanges_of, is_within, with_own, least_own, IsRising, IsFirstRun};
 
-use crate::copies::copy;
 use crate::exchange::Exchange;
 use crate::hosts::Hosts;
 use crate::mx_hosts::DistinctHosts;
@@ -113,7 +112,7 @@ fn put_run(alloc: Global, run: &[&Exchange], seed: u64, hosts: &mut Hosts) -> Re
     ensures { OnOk result (hosts.new ≡ hosts.old ++ rotated seed (firsts bytes_eq (map (λ e. e.host) (exchanges_of run.now)))) }
 {
     if let [only] = run {
-        return hosts.push(copy(alloc, only.host.as_bytes())?);
+        return hosts.push(Text::copy_of(alloc, only.host.as_bytes())?);
     }
     hosts.append(rotated_hosts(alloc, run, seed)?)
 }

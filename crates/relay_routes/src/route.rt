@@ -8,7 +8,7 @@ ghost use Rattle.relay_routes.specs.Routing.{Routing};
 ghost use Rattle.relay_routes.specs.Routes.{route_to, route_with, route_of, route_via_of};
 ghost use Rattle.relay_routes.specs.Destinations.{destination_of, destination_via_of, Determines};
 
-use crate::copies::{folded_copy, folded_joined, joined};
+use crate::copies::{folded_joined, joined};
 use crate::host_form::HostForm;
 use crate::hosts::Hosts;
 use crate::transport::Transport;
@@ -56,7 +56,7 @@ pub(crate) fn route_to_host(
 ) -> Result<Route, AllocError>
     ensures { IfOk result (λ r. r ≡ record { transport = transport; nexthop = (hosted form.now).text; hosts = ((hosted form.now).host ++ (hosted form.now).port) ∷ [] }) }
 {
-    let nexthop = folded_copy(alloc, form.text)?;
+    let nexthop = Text::folded_copy_of(alloc, form.text)?;
     let host = folded_joined(alloc, form.host, form.port)?;
     let hosts = Hosts::one(alloc, host)?;
     Ok(Route {
@@ -75,11 +75,11 @@ pub(crate) fn route_to_exchangers(
 ) -> Result<Route, AllocError>
     ensures { IfOk result (λ r. r ≡ route_with transport (hosted form.now) exchangers) }
 {
-    let port = folded_copy(alloc, form.port)?;
+    let port = Text::folded_copy_of(alloc, form.port)?;
     let hosts = exchangers.each_with(alloc, port.as_bytes())?;
     Ok(Route {
         transport,
-        nexthop: folded_copy(alloc, form.text)?,
+        nexthop: Text::folded_copy_of(alloc, form.text)?,
         hosts,
     })
 }

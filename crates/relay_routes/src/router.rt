@@ -1,6 +1,5 @@
 //! The routes of addresses.
 use crate::choice::Choice;
-use crate::copies::folded_copy;
 use crate::destination::{Destination, destination_or_domain, destination_to};
 use crate::form::{Form, form_of};
 use crate::host_form::HostForm;
@@ -11,7 +10,7 @@ use crate::transport::Transport;
 use crate::transport_table::TransportTable;
 use crate::unrouted::Unrouted;
 use crate::via::Via;
-use relay_text::{Address, TextSet};
+use relay_text::{Address, Text, TextSet};
 use std::alloc::{AllocError, Global};
 use std::marker::Model;
 
@@ -71,12 +70,9 @@ impl Router {
     pub fn destination(&self, alloc: Global, address: &Address) -> Result<Destination, Unrouted>
         ensures { Answers result (destination_of self.now address.now) }
     {
-        let Ok(choice) = self
+        let choice = self
             .transports
-            .find(alloc, address, self.settings.delimiter)
-        else {
-            return Err(Unrouted::Memory);
-        };
+            .find(alloc, address, self.settings.delimiter)?;
         match choice {
             Choice::Absent => {
                 destination_to(alloc, self.settings.default_transport, address.domain())
@@ -141,9 +137,7 @@ impl Router {
         match form_of(transport, nexthop) {
             Some(Form::Host(form)) => self.route_to_host(alloc, transport, &form),
             Some(Form::Unix(path)) => {
-                let Ok(route) = route_to_path(alloc, transport, path) else {
-                    return Err(Unrouted::Memory);
-                };
+                let route = route_to_path(alloc, transport, path)?;
                 Ok(route)
             }
             None => Err(Unrouted::Transport),
@@ -160,15 +154,11 @@ impl Router {
         ensures { Answers result (route_by self.now transport (Some (hosted form.now))) }
     {
         if !form.looks_up {
-            let Ok(route) = route_to_host(alloc, transport, form) else {
-                return Err(Unrouted::Memory);
-            };
+            let route = route_to_host(alloc, transport, form)?;
             return Ok(route);
         }
         let exchangers = self.exchangers(alloc, form)?;
-        let Ok(route) = route_to_exchangers(alloc, transport, form, exchangers) else {
-            return Err(Unrouted::Memory);
-        };
+        let route = route_to_exchangers(alloc, transport, form, exchangers)?;
         Ok(route)
     }
 
@@ -176,9 +166,7 @@ impl Router {
     fn exchangers(&self, alloc: Global, form: &HostForm) -> Result<Hosts, Unrouted>
         ensures { Answers result (hosts_of self.now.exchanges (folded form.now.host.now) self.now.settings.own_names self.now.settings.seed) }
     {
-        let Ok(domain) = folded_copy(alloc, form.host) else {
-            return Err(Unrouted::Memory);
-        };
+        let domain = Text::folded_copy_of(alloc, form.host)?;
         self.exchanges.hosts_beside(
             alloc,
             domain.as_bytes(),

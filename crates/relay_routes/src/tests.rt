@@ -18,7 +18,7 @@ fn router_over(
     exchanges: &[u8],
 ) -> Result<Router, Fail> {
     let mut own_names = Vec::new(alloc);
-    own_names.push(Text::of(Vec::from_slice(alloc, b"relay.example.org")?))?;
+    own_names.push(Text::copy_of(alloc, b"relay.example.org")?)?;
     let settings = RouteSettings {
         own_names: Seq::of(own_names),
         delimiter: Some(b'+'),
@@ -187,7 +187,7 @@ fn tells_why_a_setting_gives_no_route(rt: HostRuntime) -> Result<(), Fail> {
     let router = router(alloc, Transport::Smtp)?;
     let socket = Via {
         transport: Transport::Smtp,
-        nexthop: Some(Text::of(Vec::from_slice(alloc, b"unix:/mbox")?)),
+        nexthop: Some(Text::copy_of(alloc, b"unix:/mbox")?),
     };
     fails_by_setting(&rt, &router, alloc, &socket, "transport")?;
     let looked_up = Via::parse(alloc, b"relay:gw.example.com")?.ok_or("a setting")?;

@@ -12,20 +12,15 @@ fn own_names(alloc: Global) -> Result<Vec<Text>, AllocError> {
         b"example.org",
         b"localhost",
     ] {
-        names.push(Text::of(Vec::from_slice(alloc, name)?))?;
+        names.push(Text::copy_of(alloc, name)?)?;
     }
     Ok(names)
 }
 
 /// What a table answers for `example.net`.
 fn hosts_by(alloc: Global, table: &[u8], seed: u64) -> Result<Hosts, Unrouted> {
-    let Ok(names) = own_names(alloc) else {
-        return Err(Unrouted::Memory);
-    };
-    let Ok(table) = MxTable::parse(alloc, table) else {
-        return Err(Unrouted::Memory);
-    };
-    table.hosts(alloc, b"example.net", &names, seed)
+    let table = MxTable::parse(alloc, table)?;
+    table.hosts(alloc, b"example.net", &own_names(alloc)?, seed)
 }
 
 /// The hosts that a table answers for `example.net`, each with a space behind it.

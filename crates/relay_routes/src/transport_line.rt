@@ -13,7 +13,6 @@ ghost use Rattle.std.specs.List.{list_all, list_any, prefix_len};
 ghost use Rattle.relay_text.specs.Bytes.{is_white, begins_with};
 ghost use Rattle.relay_routes.specs.Transports.{line_of, is_result, is_result_byte};
 
-use crate::copies::copy;
 use crate::pattern::pattern_of;
 use relay_text::trimmed;
 use std::alloc::{AllocError, Global};
@@ -30,7 +29,7 @@ pub(crate) fn line_of(alloc: Global, line: &[u8]) -> Result<Option<TransportLine
     let Some(pattern) = pattern_of(alloc, pattern)? else {
         return Ok(None);
     };
-    let result = copy(alloc, result)?;
+    let result = Text::copy_of(alloc, result)?;
     Ok(Some(TransportLine { pattern, result }))
 }
 

@@ -1,5 +1,9 @@
 //! Why an address has no route.
+ghost use Rattle.std.specs.Prelude.{◌≡◌};
+ghost use Rattle.relay_routes.specs.declared.unrouted.Unrouted.TheVariants.{Memory};
+
 use relay_text::Text;
+use std::alloc::AllocError;
 
 /// Why an address has no route.
 #[derive(Drop)]
@@ -16,4 +20,12 @@ pub enum Unrouted {
     NullMx,
     /// Memory ran out.
     Memory,
+}
+
+impl From<AllocError> for Unrouted {
+    ghost from_gives = { λ _ reason. reason ≡ Memory };
+
+    fn from(_error: AllocError) -> Unrouted {
+        Unrouted::Memory
+    }
 }

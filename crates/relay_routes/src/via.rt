@@ -34,7 +34,7 @@ impl Via {
         if form_of(transport, nexthop).is_none() {
             return Ok(None);
         }
-        let nexthop = Text::of(Vec::from_slice(alloc, nexthop)?);
+        let nexthop = Text::copy_of(alloc, nexthop)?;
         Ok(Some(Via {
             transport,
             nexthop: Some(nexthop),

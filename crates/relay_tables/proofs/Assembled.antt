@@ -6,7 +6,7 @@ use Rattle.std.proofs.lemmas.Bool.{cases_lt, cond-true, cond-false, lt-ltb, le-l
 use Rattle.std.proofs.lemmas.List.{append-nil, append_assoc, map-append, length-map, length-append, get_or-map, get_or_append_left}
 use Rattle.std.proofs.lemmas.List.Concat.{flat_map-append}
 use Rattle.std.proofs.lemmas.List.Elements.{All-nil, All-cons, All-append, filter-append}
-use Rattle.std.proofs.lemmas.List.FromFn.{length-range_with_len, get_or-map-range_with_len}
+use Rattle.std.proofs.lemmas.List.FromFn.{get_or-map-range_with_len}
 use Rattle.std.proofs.lemmas.Option.{same_Some, slice_get_past, slice_get_within, slice_get-get_or, get_or_from_slice_get, unwrap_or-slice_get}
 use Rattle.relay_text.specs.AddressParts.{AddressParts}
 use Rattle.relay_aliasfile.specs.declared.entry.Entry.{Entry}
@@ -58,13 +58,13 @@ parents_at count children parents n p below =
     ∙ ap (λ (m : ℕ). filter q (range_with_len 0 m)) size
 
 -- each number of a row that leads somewhere is that of a node
-row_below : (nodes : List Node) (row : List ℕ) (ts : List Node) → nodes_in nodes row ≡ some_of ts → All (λ n. n < length nodes) row
-row_below nodes [] ts e = All-nil (λ n. n < length nodes)
-row_below nodes (k ∷ ks) [] e = cc
-row_below nodes (k ∷ ks) (t ∷ ts) e =
-    let first : slice_get nodes k ≡ Some t = cc in
-    let rest : nodes_in nodes ks ≡ some_of ts = cc in
-    All-cons (λ n. n < length nodes) k ks (slice_get_within nodes k t first) (row_below nodes ks ts rest)
+pub row_below : {X : Type 0} (target : X → Node) (nodes : List Node) (row : List ℕ) (xs : List X) → nodes_in nodes row ≡ map (λ x. Some (target x)) xs → All (λ n. n < length nodes) row
+row_below target nodes [] xs e = All-nil (λ n. n < length nodes)
+row_below target nodes (k ∷ ks) [] e = cc
+row_below {X} target nodes (k ∷ ks) (x ∷ xs) e =
+    let first : slice_get nodes k ≡ Some (target x) = cc in
+    let rest : nodes_in nodes ks ≡ map (λ (y : X). Some (target y)) xs = cc in
+    All-cons (λ n. n < length nodes) k ks (slice_get_within nodes k (target x) first) (row_below target nodes ks xs rest)
 
 pub rows_below : (nodes : List Node) (rows : List (List ℕ)) (tss : List (List Node)) → LeadTo nodes rows tss → All (λ n. n < length nodes) (concat rows)
 rows_below nodes [] tss e = All-nil (λ n. n < length nodes)
@@ -72,7 +72,7 @@ rows_below nodes (k ∷ ks) [] e = cc
 rows_below nodes (k ∷ ks) (t ∷ ts) e =
     let first : nodes_in nodes k ≡ some_of t = cc in
     let rest : map (nodes_in nodes) ks ≡ map some_of ts = cc in
-    All-append (λ n. n < length nodes) k (concat ks) (row_below nodes k t first) (rows_below nodes ks ts rest)
+    All-append (λ n. n < length nodes) k (concat ks) (row_below (λ (n : Node). n) nodes k t first) (rows_below nodes ks ts rest)
 
 module _ (d : Directory) where
   alias_past : (j : ℕ) → length d.aliases ≤ j → targets_of d (Alias j) ≡ []
@@ -135,16 +135,6 @@ module _ (d : Directory) where
         let b = behind in
         let long : length nodes ≡ length (entry_nodes d ++ b.0) = ap length b.1 in
         omega (arith, length-append (entry_nodes d) b.0)
-
-    pub aliases_within : length d.aliases ≤ length nodes
-    aliases_within =
-        omega (
-          arith,
-          entries_within,
-          length-append (map Alias (range_with_len 0 (length d.aliases))) (map Include (range_with_len 0 (length d.includes))),
-          length-map (range_with_len 0 (length d.aliases)) Alias,
-          length-range_with_len 0 (length d.aliases),
-        )
 
     entry_at : (k : ℕ) (n : Node) → k < length (entry_nodes d) → get_or (entry_nodes d) k n ≡ n → slice_get nodes k ≡ Some n
     entry_at k n below is =

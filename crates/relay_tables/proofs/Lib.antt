@@ -14,4 +14,5 @@ pub mod Resolved
 pub mod RowSteps
 pub mod SenderSteps
 pub mod Assembled
+pub mod ClosedGraphs
 pub mod ParsedFiles

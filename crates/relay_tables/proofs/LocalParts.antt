@@ -1,24 +1,34 @@
 -- Local parts that an address at the origin can have.
-use Rattle.std.proofs.Common.{◌≡◌, ℕ, ◌+◌, ◌≤◌, Bool, true, false, not, cond, ◌&&◌, ◌||◌, ◌==◌, ltb, List, [], ◌∷◌, ◌++◌, length, map, Some, refl, sym, ap, ◌∙◌, arith}
+use Rattle.std.proofs.Common.{◌≡◌, ℕ, ◌+◌, ◌≤◌, Bool, true, false, not, cond, ◌&&◌, ◌||◌, ◌==◌, ltb, leb, List, [], ◌∷◌, ◌++◌, length, map, Some, refl, sym, ap, ◌∙◌, arith}
 use Rattle.std.specs.Bool.{IsTrue}
 use Rattle.std.specs.Prelude.{flat_map}
 use Rattle.std.specs.List.{list_all, slice_split}
 use Rattle.std.specs.Char.{to_ascii_lowercase}
 use Rattle.std.specs.Str.{bytes_eq}
-use Rattle.std.proofs.lemmas.Bool.{and_parts, and_from, not-true, ltb-false, le-ltb, or_from}
+use Rattle.std.proofs.lemmas.Bool.{and_parts, and_from, not-true, ltb-false, le-ltb, leb-true, or_from, or_parts}
 use Rattle.std.proofs.lemmas.Bool.Decides.{nat_tests}
 use Rattle.std.proofs.lemmas.List.{length-append, length-map}
-use Rattle.std.proofs.lemmas.Slice.Eq.{bytes_eq-Decides}
 use Rattle.relay_text.specs.Bytes.{folded}
 use Rattle.relay_text.specs.AddressParts.{AddressParts}
 use Rattle.relay_text.specs.Addresses.{is_address, is_origin, is_domain, is_empty, is_quotable, is_atext, is_dot, is_run_of, is_dot_string, is_local_too_long, is_domain_too_long, quoted_byte, local_text_of, path_text_of}
 use Rattle.relay_text.proofs.Folds.{IsFoldable, same_folded, list_all-folded, is_run_of-folded, slice_split-folded}
-use Rattle.relay_text.proofs.Limits.{origin_parts}
-use Rattle.relay_text.proofs.Writing.{path_text_length}
 use Rattle.relay_tables.specs.Parts.{is_local_part}
 
 negated : (b : Bool) → b ≡ false → not b ≡ true
 negated b e = ap not e
+
+-- the domain of an address has at most 255 octets
+pub domain_within : (a : AddressParts) → IsTrue (is_address a) → length a.domain ≤ 255
+unfolding is_address
+domain_within a h =
+    let long : Bool = ltb 256 (length (path_text_of (Some a))) in
+    let fits = and_parts _ (not (is_domain_too_long a.local (Some a.domain))) h in
+    ltb-false 255 (length a.domain) (or_parts (ltb 255 (length a.domain)) long (not-true _ fits.1)).0
+
+path_text_length : (local domain : List ℕ) → length (path_text_of (Some (record { local = local; domain = domain }))) ≡ length (local_text_of local) + length domain + 3
+path_text_length local domain =
+    let text = local_text_of local in
+    omega (arith, length-append text (64 ∷ []), length-append (text ++ 64 ∷ []) domain, length-append (text ++ 64 ∷ [] ++ domain) (62 ∷ []))
 
 -- what is too long stays too long, and what fits an origin of at most 189 octets fits
 domain_fits : (local origin : List ℕ) → is_local_too_long local ≡ false → length origin ≤ 189 → is_domain_too_long local (Some origin) ≡ false
@@ -26,18 +36,19 @@ domain_fits local origin short within =
     let written : length (local_text_of local) ≤ 64 = ltb-false 64 _ short in
     or_from (ltb 255 (length origin)) (ltb 256 (length (path_text_of (Some (record { local = local; domain = origin })))))
     (le-ltb 255 (length origin) (omega arith))
-    (le-ltb 256 _ (omega (arith, path_text_length (record { local = local; domain = origin }))))
+    (le-ltb 256 _ (omega (arith, path_text_length local origin)))
 
 -- a local part and an origin are an address
 pub address-at_origin : (local origin : List ℕ) → IsTrue (is_local_part local) → IsTrue (is_origin origin) → IsTrue (is_address (record { local = local; domain = origin }))
-unfolding is_address is_local_part
+unfolding is_address is_local_part is_origin
 address-at_origin local origin part from =
-    let o = origin_parts origin from in
+    let o = and_parts (is_domain origin && bytes_eq (folded origin) origin) (leb (length origin) 189) from in
+    let domain = and_parts (is_domain origin) (bytes_eq (folded origin) origin) o.0 in
     let p = and_parts (not (is_empty local) && list_all is_quotable local) (not (is_local_too_long local)) part in
     let short = not-true _ p.1 in
     and_from _ _
-    (and_from _ _ (and_from _ _ (and_from _ _ p.0 o.0) ((bytes_eq-Decides _ _).1 o.1)) p.1)
-    (negated _ (domain_fits local origin short o.2))
+    (and_from _ _ (and_from _ _ (and_from _ _ p.0 domain.0) domain.1) p.1)
+    (negated _ (domain_fits local origin short (leb-true _ _ o.1)))
 
 -- the local part of an address is one
 pub is_local_part-address : (a : AddressParts) → IsTrue (is_address a) → IsTrue (is_local_part a.local)

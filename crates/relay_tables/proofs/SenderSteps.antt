@@ -1,9 +1,9 @@
 -- Lemmas on senders by their numbers.
 use Rattle.std.proofs.Common.{◌≡◌, ◌≢◌, ℕ, zero, suc, ◌+◌, ◌<◌, ◌≤◌, Bool, true, false, Option, Some, None, List, [], ◌∷◌, ◌++◌, length, map, get_or, slice_get, refl, sym, ap, ◌∙◌, subst, arith, inl, inr}
-use Rattle.std.specs.Prelude.{option_map, option_and_then, is_some}
-use Rattle.std.specs.List.{list_any}
+use Rattle.std.specs.Prelude.{count_by, option_map, option_and_then, is_some}
+use Rattle.std.specs.List.{list_any, range_with_len}
 use Rattle.std.specs.Str.{bytes_eq}
-use Rattle.std.proofs.lemmas.Bool.{cases_lt, cases_eq, or_left, or_right, both_ways, true≢false}
+use Rattle.std.proofs.lemmas.Bool.{cases_Bool, cases_lt, cases_eq, or_left, or_right, both_ways, true≢false}
 use Rattle.std.proofs.lemmas.List.{length-map, length_push, get_or-map, get_or_append_left, get_or_push, map_push}
 use Rattle.std.proofs.lemmas.List.Quantifiers.{position-Some, all_pairs_push}
 use Rattle.std.proofs.lemmas.Option.{none-some, same_Some, slice_get_within, slice_get-get_or, get_or_from_slice_get}
@@ -17,6 +17,7 @@ use Rattle.relay_tables.specs.Graphs.{IsOwnerSender}
 use Rattle.relay_tables.specs.Sending.{sender_key, AreSenders, IsOwnedBy, AreOf, AreOwned, MayAdd, MayAddOwner}
 use Rattle.relay_tables.proofs.NodeKeys.{address_from, address_back, bytes_same, none_by_place}
 use Rattle.relay_tables.proofs.Firsts.{get-append}
+use Rattle.relay_tables.proofs.Runs.{counted_yes, counted_no}
 
 sender_from : List ℕ → Sender
 sender_from [] = None
@@ -94,9 +95,21 @@ module _ (d : Directory) where
       let o = owner_of (owner_entry d alias) a is in
       inr (o.0, o.1, added ∙ ap (λ (x : AddressParts). old ++ Some x ∷ []) o.2)
 
-  pub one_more : (alias : ℕ) (old new : List Sender) → MayAddOwner d alias old new → length new ≤ length old + 1
-  one_more alias old new (inl same) = let long : length new ≡ length old = ap length same in omega arith
-  one_more alias old new (inr added) = let long = ap length added.2 in omega (arith, length_push old (Some (sender_by d added.0)))
+  has_owner : (owner : Option ℕ) (e : Entry) → option_and_then (λ n. slice_get d.aliases n) owner ≡ Some e → is_some owner ≡ true
+  has_owner None e is = absurd (none-some e is)
+  has_owner (Some n) e is = refl
+
+  -- with an alias comes one sender at most, and none where it has no owner
+  pub few_more : (alias : ℕ) (old new : List Sender) → MayAddOwner d alias old new
+      → length old ≤ count_by (λ a. is_some (owner_number d a)) (range_with_len 0 alias) + 1 → length new ≤ count_by (λ a. is_some (owner_number d a)) (range_with_len 0 (alias + 1)) + 1
+  few_more alias old new (inr added) few =
+      let one = counted_yes (λ a. is_some (owner_number d a)) alias _ refl (has_owner (owner_number d alias) added.0 added.1) in
+      omega (arith, one, few, ap length added.2, length_push old (Some (sender_by d added.0)))
+  few_more alias old new (inl same) few =
+      elim (cases_Bool (is_some (owner_number d alias))) [
+        | inl owned ↦ omega (arith, counted_yes (λ a. is_some (owner_number d a)) alias _ refl owned, few, ap length same)
+        | inr free ↦ omega (arith, counted_no (λ a. is_some (owner_number d a)) alias _ refl free, few, ap length same)
+      ]
 
   get_stays : (alias : ℕ) (old new : List Sender) (k : ℕ) (s : Sender) → MayAddOwner d alias old new → slice_get old k ≡ Some s → slice_get new k ≡ Some s
   get_stays alias old new k s (inl same) at = ap (λ (ss : List Sender). slice_get ss k) same ∙ at

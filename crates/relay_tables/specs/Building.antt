@@ -4,8 +4,9 @@ use Rattle.std.specs.List.{range_with_len}
 use Rattle.relay_text.specs.AddressParts.{AddressParts}
 use Rattle.relay_tables.specs.declared.node.Node.{Node}
 use Rattle.relay_tables.specs.Directory.{Directory}
+use Rattle.relay_tables.specs.GraphParts.{GraphParts}
 use Rattle.relay_tables.specs.Targets.{targets_of, recipient_target}
-use Rattle.relay_tables.specs.Graphs.{entry_nodes, nodes_of}
+use Rattle.relay_tables.specs.Graphs.{entry_nodes, nodes_of, IsClosedGraph}
 use Rattle.relay_tables.specs.Rowing.{nodes_in, some_of, LeadTo}
 use Rattle.relay_tables.specs.Transpose.{rows_with}
 
@@ -13,6 +14,11 @@ use Rattle.relay_tables.specs.Transpose.{rows_with}
 pub record AreParents (count : ℕ) (children parents : List (List ℕ)) : Type 0 where
   pub few : length children ≤ count
   pub parents_are : parents ≡ map (rows_with children) (range_with_len 0 count)
+
+-- What is true of every graph, and of the parents that are kept beside it.
+pub record IsGraphWith (g : GraphParts) (parents : List (List ℕ)) : Type 0 where
+  pub closed : IsClosedGraph g
+  pub turned : AreParents (length g.nodes) g.children parents
 
 -- the nodes of a directory and recipients, a row for each entry, and the recipients' targets
 pub record AreRows (d : Directory) (recipients : List AddressParts) (nodes : List Node) (rows : List (List ℕ)) (roots : List ℕ) : Type 0 where

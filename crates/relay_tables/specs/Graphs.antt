@@ -1,5 +1,5 @@
 -- The graph of a directory and an envelope: which nodes there are, and that numbers lead where targets do.
-use Rattle.std.specs.Prelude.{◌≡◌, ◌≢◌, ℕ, ◌<◌, Bool, false, ◌&&◌, ◌==◌, nat_lt, List, [], ◌++◌, length, map, filter, flat_map, count_by, slice_get, AllPairs, Contains, Option, Some, None, is_some, unwrap_or, ◌↔◌, Result, Ok, Err, ⊤, if◌then◌else◌}
+use Rattle.std.specs.Prelude.{◌≡◌, ◌≢◌, ℕ, ◌^◌, ◌<◌, ◌≤◌, Bool, false, ◌&&◌, ◌==◌, nat_lt, List, [], ◌++◌, length, map, filter, flat_map, count_by, slice_get, All, AllPairs, Contains, Option, Some, None, is_some, unwrap_or, ◌↔◌, Result, Ok, Err, ⊤, if◌then◌else◌}
 use Rattle.std.specs.List.{list_any, range_with_len}
 use Rattle.std.specs.Str.{bytes_eq}
 use Rattle.relay_text.specs.Bytes.{firsts}
@@ -67,6 +67,15 @@ module _ (g : GraphParts) where
   -- the nodes of these numbers
   abbrev pub nodes_at : List ℕ → List (Option Node)
   nodes_at numbers = map (slice_get g.nodes) numbers
+
+  -- The numbers of roots and children are those of nodes, and the sender after a node is one of the senders; of both there are few.
+  pub record IsClosedGraph : Type 0 where
+    pub few_nodes : length g.nodes ≤ 2 ^ 24
+    pub few_senders : length g.senders ≤ 2 ^ 32
+    pub some_sender : 1 ≤ length g.senders
+    pub roots : All (λ n. n < length g.nodes) g.roots
+    pub children : (n : ℕ) → n < length g.nodes → All (λ c. c < length g.nodes) (child_numbers n)
+    pub senders : (s n : ℕ) → s < length g.senders → n < length g.nodes → sender_number_after s n < length g.senders
 
 -- the sender of some alias with an owner
 abbrev pub IsOwnerSender : Directory → Sender → Type 0

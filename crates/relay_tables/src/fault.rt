@@ -3,31 +3,21 @@ ghost use Rattle.std.specs.Prelude.{◌≡◌};
 ghost use Rattle.relay_tables.specs.declared.fault.TableFault.TheVariants.{Memory};
 
 use std::alloc::{AllocError, AllocFailed};
-use std::error::Error;
-use std::fmt;
+use thiserror::Error;
 
 /// Why there is no graph, in the order of the checks.
-#[derive(Clone, Copy, Debug, PartialEq, Eq)]
+#[derive(Clone, Copy, Debug, PartialEq, Eq, Error)]
 pub enum TableFault {
     /// There are more nodes than were allowed.
+    #[error("too many names")]
     TooManyNames,
     /// More aliases have an owner than were allowed.
+    #[error("too many lists with an owner")]
     TooManyOwners,
     /// Memory ran out.
+    #[error("out of memory")]
     Memory,
 }
-
-impl fmt::Display for TableFault {
-    fn fmt<W: fmt::Write>(&self, f: &mut fmt::Formatter<W>) -> fmt::Result {
-        match self {
-            TableFault::TooManyNames => write!(f, "too many names"),
-            TableFault::TooManyOwners => write!(f, "too many lists with an owner"),
-            TableFault::Memory => write!(f, "out of memory"),
-        }
-    }
-}
-
-impl Error for TableFault {}
 
 impl From<AllocError> for TableFault {
     ghost from_gives = { λ _ fault. fault ≡ Memory };

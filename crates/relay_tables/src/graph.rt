@@ -1,6 +1,6 @@
 //! The numbered graph of what leads to what.
 ghost use Rattle.std.specs.Prelude.{◌≡◌, ◌<◌, ◌≤◌, ◌^◌, ◌+◌, ◌++◌, length, slice_get, Some, Err, IfOk, OnOk, option_map, option_copied};
-ghost use Rattle.relay_tables.specs.Graphs.{IsGraphOf, refusal_of, Refuses, child_numbers, parent_numbers, sender_number_after};
+ghost use Rattle.relay_tables.specs.Graphs.{IsClosedGraph, IsGraphOf, owner_count, refusal_of, Refuses, child_numbers, parent_numbers, sender_number_after};
 
 use crate::adjacency::Adjacency;
 use crate::building::{Rows, number_all};
@@ -29,15 +29,14 @@ pub struct Graph {
 }
 
 impl Model for Graph {
-    ghost use Rattle.std.specs.Prelude.{length};
     ghost use Rattle.relay_tables.specs.GraphParts.{GraphParts};
-    ghost use Rattle.relay_tables.specs.Building.{AreParents};
+    ghost use Rattle.relay_tables.specs.Building.{IsGraphWith};
 
     ghost Value = { GraphParts };
 
     ghost view = { λ a. record { nodes = a.nodes.items; children = a.children; roots = a.roots.items; senders = a.senders.items; owners = a.owners.items } };
 
-    ghost invariant = { λ a. AreParents (length a.nodes.items) a.children a.parents };
+    ghost invariant = { λ a. IsGraphWith (record { nodes = a.nodes.items; children = a.children; roots = a.roots.items; senders = a.senders.items; owners = a.owners.items }) a.parents };
 }
 
 impl Graph {
@@ -57,7 +56,7 @@ impl Graph {
         requires owners { owners ≤ 2 ^ 24 }
         ensures graph { IfOk result (IsGraphOf tables.now (option_map (λ a. a.now) sender.entry) recipients.now) }
         ensures nodes { IfOk result (λ graph. length graph.nodes ≤ names) }
-        ensures senders { IfOk result (λ graph. length graph.senders ≤ names + 1) }
+        ensures senders { IfOk result (λ graph. length graph.senders ≤ owner_count tables.now + 1) }
         ensures refusal { Refuses result (refusal_of tables.now recipients.now names owners) }
     {
         let rows = number_all(alloc, tables, recipients, names)?;
@@ -86,7 +85,8 @@ impl Graph {
 
     /// How many nodes there are.
     pub fn nodes(&self) -> usize
-        ensures { result ≡ length self.now.nodes }
+        ensures value { result ≡ length self.now.nodes }
+        ensures closed { IsClosedGraph self.now }
     {
         self.nodes.len()
     }

@@ -58,13 +58,6 @@ pub(crate) fn put_key(lead: Lead<'_>, key: &mut Vec<u8>) -> Result<(), AllocErro
     }
 }
 
-// A text in memory of its own.
-fn copy_of(alloc: Global, text: &[u8]) -> Result<Text, AllocError>
-    ensures { IfOk result (λ copy. copy ≡ text.now) }
-{
-    Ok(Text::of(Vec::from_slice(alloc, text)?))
-}
-
 /// The node that a lead leads to, in memory of its own.
 pub(crate) fn make_node(alloc: Global, lead: Lead<'_>) -> Result<Node, AllocError>
     requires { HasGoodAddress (node_of lead) }
@@ -75,9 +68,9 @@ pub(crate) fn make_node(alloc: Global, lead: Lead<'_>) -> Result<Node, AllocErro
         Lead::Include(number) => Node::Include(number),
         Lead::Mailbox(local, domain) => Node::Mailbox(Address::new(alloc, local, domain)?),
         Lead::Remote(local, domain) => Node::Remote(Address::new(alloc, local, domain)?),
-        Lead::Missing(name) => Node::Missing(copy_of(alloc, name)?),
-        Lead::NoInclude(path) => Node::NoInclude(copy_of(alloc, path)?),
-        Lead::Command(text) => Node::Command(copy_of(alloc, text)?),
-        Lead::File(path) => Node::File(copy_of(alloc, path)?),
+        Lead::Missing(name) => Node::Missing(Text::copy_of(alloc, name)?),
+        Lead::NoInclude(path) => Node::NoInclude(Text::copy_of(alloc, path)?),
+        Lead::Command(text) => Node::Command(Text::copy_of(alloc, text)?),
+        Lead::File(path) => Node::File(Text::copy_of(alloc, path)?),
     })
 }

@@ -141,7 +141,7 @@ pub(crate) fn number_owners(
     senders: &mut SenderList,
 ) -> Result<Vec<Option<u32>>, AllocError>
     requires { length senders.old ≡ 1 }
-    ensures few { OnOk result (length senders.new ≤ length tables.now.aliases + 1) }
+    ensures few { OnOk result (length senders.new ≤ owner_count tables.now + 1) }
     ensures owned { IfOk result (λ owners. (sender : Sender) → senders.old ≡ sender ∷ [] → AreOwned tables.now sender (length tables.now.aliases) senders.new owners.items) }
 {
     let mut owners = Vec::new(alloc);

@@ -43,17 +43,6 @@ impl Address {
         })
     }
 
-    /// The same of a local part whose memory the address takes over. It takes no other where there is room for the domain.
-    pub fn with_domain(local: Vec<u8>, domain: &[u8]) -> Result<Address, AllocError>
-        requires { IsTrue (is_address (record { local = local.items; domain = domain.now })) }
-        ensures { IfOk result (λ a. a ≡ record { local = local.items; domain = domain.now }) }
-    {
-        let local_len = local.len();
-        let mut text = local;
-        text.extend_from_slice(domain)?;
-        Ok(Address { text, local_len })
-    }
-
     /// The address whose local part is the first `local_len` bytes of a text, and whose domain is the rest.
     pub(crate) fn from_parts(text: Vec<u8>, local_len: usize) -> Address
         requires within { local_len ≤ length text.items }

@@ -1,4 +1,5 @@
 //! A text in a field of a public type, which contracts see as its bytes.
+use crate::scan::fold;
 use std::alloc::{AllocError, Global};
 use std::default::MadeWith;
 use std::marker::Model;
@@ -29,13 +30,32 @@ impl MadeWith<Global> for Text {
 }
 
 impl Text {
-    ghost use Rattle.std.specs.Prelude.{◌≡◌, ◌==◌, ◌++◌, length, OnOk, OnErr};
+    ghost use Rattle.std.specs.Prelude.{◌≡◌, ◌==◌, ◌++◌, length, IfOk, OnOk, OnErr};
+    ghost use Rattle.relay_text.specs.Bytes.{folded};
 
     /// The text, without taking memory.
     pub fn of(bytes: Vec<u8>) -> Self
         ensures { result ≡ bytes.items }
     {
         Text { bytes }
+    }
+
+    /// A text of the same bytes. `Err` where memory runs out.
+    pub fn copy_of(alloc: Global, bytes: &[u8]) -> Result<Self, AllocError>
+        ensures { IfOk result (λ text. text ≡ bytes.now) }
+    {
+        Ok(Text {
+            bytes: Vec::from_slice(alloc, bytes)?,
+        })
+    }
+
+    /// A text of the same bytes, ASCII capitals in lower case. `Err` where memory runs out.
+    pub fn folded_copy_of(alloc: Global, bytes: &[u8]) -> Result<Self, AllocError>
+        ensures { IfOk result (λ text. text ≡ folded bytes.now) }
+    {
+        let mut bytes = Vec::from_slice(alloc, bytes)?;
+        fold(&mut bytes);
+        Ok(Text { bytes })
     }
 
     /// Puts bytes at the end. `Err` where memory runs out; the text is then as it was.

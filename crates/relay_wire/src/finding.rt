@@ -57,9 +57,9 @@ pub enum Finding {
     File(Text, Place),
     /// A command that an item names, from its `|` on (aliases(5) of Postfix, `|command`).
     Command(Text, Place),
-    /// The name of an entry that reaches no recipient.
+    /// The name of an entry that is reached, and of whose items none is good.
     EmptyAlias(Text),
-    /// The path of an include file that reaches no recipient.
+    /// The path of an include file that is reached, and of whose items none is good.
     EmptyInclude(Text),
     /// The name of an entry that is on a loop.
     LoopAlias(Text),

@@ -1,5 +1,5 @@
 //! Making, splitting and joining seats.
-ghost use Rattle.std.specs.Prelude.{◌≡◌, ◌+◌, ◌<◌, ◌≤◌, ◌^◌, Bool, List, [], length, IfOk};
+ghost use Rattle.std.specs.Prelude.{◌≡◌, ◌+◌, ◌<◌, ◌≤◌, ◌^◌, Bool, List, [], length, replicate, IfOk};
 ghost use Rattle.relay_claims.specs.Seat.{IsSeatOf, AreHalves, newcomer, first_half, second_half, joined};
 
 use super::Round;
@@ -26,9 +26,27 @@ impl<'k> Round<'k> {
         ensures round { IfOk result (λ r. (r.0.keys ≡ keys.now) × (r.0.heads ≡ heads) × (r.0.cut ≡ cut)) }
         ensures seat { IfOk result (λ r. r.1 ≡ newcomer r.0 [] 0) }
     {
-        let words = vec![in alloc; 0; 1 + heads + keys.len()]?;
+        let zeros = vec![in alloc; 0; 1 + heads + keys.len()]?;
+        Round::open_of(alloc, keys, heads, cut, zeros.as_slice())
+    }
+
+    /// The same, where the caller has zeros at hand: one, and one for each head and each key. A caller who opens round after round
+    /// keeps them.
+    pub fn open_of(
+        alloc: Global,
+        keys: &'k [Key],
+        heads: usize,
+        cut: usize,
+        zeros: &[u64],
+    ) -> Result<(Round<'k>, Seat), AllocError>
+        requires heads { (1 ≤ heads) × (heads ≤ 2 ^ 32) }
+        requires cut { 1 ≤ cut }
+        requires zeros { zeros.now ≡ replicate (1 + heads + length keys.now) 0 }
+        ensures round { IfOk result (λ r. (r.0.keys ≡ keys.now) × (r.0.heads ≡ heads) × (r.0.cut ≡ cut)) }
+        ensures seat { IfOk result (λ r. r.1 ≡ newcomer r.0 [] 0) }
+    {
         let about = Offer { keys, heads, cut };
-        let (table, token) = Table::of_words(alloc, words.as_slice(), &about)?;
+        let (table, token) = Table::of_words(alloc, zeros, &about)?;
         Ok((
             Round {
                 keys,

@@ -5,9 +5,9 @@ use Rattle.aliasplan.proofs.answering.answer_job.Goals as goal
 pub returns-in_err-job-clause-refused : goal.returns-in_err-job-clause-refused
 returns-in_err-job-clause-refused g c =
     let p = err_from_is_err_and c.from_residual.result c.from_residual.ensures.1 in
-    rw (p.1, p.2) (refuses_text c.args.limits c.args.input.now c.in_err-job.field-0.0 c.in_err-job.ensures)
+    rw (p.1, p.2) (refuses_text c.args.limits c.args.input.now c.requires.input c.in_err-job.field-0.0 c.in_err-job.ensures)
 
 pub returns-in_err-plan-clause-refused : goal.returns-in_err-plan-clause-refused
 returns-in_err-plan-clause-refused g c =
     let p = err_from_is_err_and c.from_residual-in_err-plan.result c.from_residual-in_err-plan.ensures.1 in
-    rw (p.1, p.2) (refuses_job c.args.limits c.args.input.now c.in_ok-job.job c.in_ok-job.ensures c.in_err-plan.field-0.0 c.in_err-plan.ensures.refused)
+    rw (p.1, p.2) (refuses_job c.args.limits c.args.input.now c.requires.input c.in_ok-job.job c.in_ok-job.ensures c.in_err-plan.field-0.0 c.in_err-plan.ensures.refused)

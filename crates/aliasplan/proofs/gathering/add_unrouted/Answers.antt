@@ -1,15 +1,16 @@
-use Rattle.std.proofs.Common.{◌≡◌, ℕ, List, ◌||◌, sym, ◌∙◌}
+use Rattle.std.proofs.Common.{sym, ◌∙◌}
 use Rattle.std.specs.Str.{bytes_eq}
 use Rattle.std.proofs.lemmas.Result.{on_ok_weaker}
 use Rattle.relay_text.specs.Bytes.{has_text}
 use Rattle.relay_wire.specs.declared.finding.Finding.TheVariants.{Unrouted}
 use Rattle.relay_wire.specs.Findings.{finding_text_of}
+use Rattle.aliasplan.specs.Findings.{ReportsWhere}
 use Rattle.aliasplan.proofs.RouteLines.{unrouted_added}
 use Rattle.aliasplan.proofs.gathering.add_unrouted.Goals as goal
 
 pub returns-clause-lines : goal.returns-clause-lines
 returns-clause-lines c =
-    on_ok_weaker {P = (q : List ℕ) → has_text c.report.new.lines q ≡ (bytes_eq q (finding_text_of (Unrouted c.in_ok-address.address c.in_ok-reason.reason)) || has_text c.args.lines.now q)} c.report.result
+    on_ok_weaker {P = ReportsWhere c.args.lines.now c.report.new.lines (λ q. bytes_eq q (finding_text_of (Unrouted c.in_ok-address.address c.in_ok-reason.reason)))} c.report.result
     (λ h q. unrouted_added c.args.unrouted c.in_ok-reason.reason c.in_ok-address.address c.args.address.now q (has_text c.args.lines.now q) (has_text c.report.new.lines q)
     c.in_ok-address.ensures.same (sym c.in_ok-reason.ensures.ok_part ∙ c.reason_for.ensures) (h q))
     c.report.ensures

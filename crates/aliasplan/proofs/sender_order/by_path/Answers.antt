@@ -28,7 +28,7 @@ put : (c : In_ok-insert) → AreByPath c.args.graph.now c.insert.new.self.entrie
 put c =
     let turn = numbered (goal.at.In_ok-insert c).In-Some in
     let is : sender_at c.args.graph.now c.in-Some.under.sender ≡ option_copied c.sender.result = ap (λ (o : Option Sender). unwrap_or o None) c.sender.ensures in
-    put_more c.args.graph.now c.requires.distinct c.loop-under.senders.entries c.insert.new.self.entries c.loop-under.yielded c.in_ok-path.path c.in-Some.under c.loop-under.invariant
+    put_more c.args.graph.now c.one_spelling.ensures.one_address c.requires.distinct c.loop-under.senders.entries c.insert.new.self.entries c.loop-under.yielded c.in_ok-path.path c.in-Some.under c.loop-under.invariant
     turn.1 (omega (arith, turn.0, turn.1, c.requires.few)) (c.in_ok-path.ensures.path ∙ ap path_text_of (sym is)) (subst IsSender (sym is) c.in_ok-path.ensures.valid) c.in_ok-insert.ensures.entries
 
 pub loop-under-preserved-in_ok-insert : goal.loop-under-preserved-in_ok-insert

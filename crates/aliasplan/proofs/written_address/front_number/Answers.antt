@@ -1,4 +1,4 @@
-use Rattle.std.proofs.Common.{◌≡◌, ◌∙◌, ◌<◌, ◌+◌, ◌*◌, ◌^◌, get_or, arith, rules}
+use Rattle.std.proofs.Common.{◌≡◌, ◌∙◌, get_or, arith, rules}
 use Rattle.aliasplan.proofs.PathFronts.{front_room, front_small, front_whole}
 use Rattle.aliasplan.proofs.written_address.front_number.Goals as goal
 

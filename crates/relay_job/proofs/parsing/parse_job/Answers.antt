@@ -1,4 +1,4 @@
-use Rattle.std.proofs.Common.{◌≡◌, List, ℕ, drop, Option, None, map, sym, ap, ◌∙◌}
+use Rattle.std.proofs.Common.{◌≡◌, List, ℕ, drop, None, map, sym, ap, ◌∙◌}
 use Rattle.std.specs.List.{flat_map}
 use Rattle.std.proofs.lemmas.Result.{err_from_is_err_and}
 use Rattle.relay_text.specs.declared.lines.Line.{Line}
@@ -7,11 +7,10 @@ use Rattle.relay_job.specs.declared.section.Section.TheVariants.{Aliases, Mailbo
 use Rattle.relay_job.specs.Settings.{settings_of}
 use Rattle.relay_job.specs.Places.{content_at}
 use Rattle.relay_job.specs.SectionPlaces.{include_at}
-use Rattle.relay_job.specs.SettingValues.{setting_in, value_in}
+use Rattle.relay_job.specs.SettingValues.{settings_with}
 use Rattle.relay_job.specs.JobText.{JobLine, content_of, job_of, settings_part, envelope_part, envelope_lines, heading_number}
-use Rattle.relay_job.specs.JobParts.{lines_of, commands_of, commands_at, settings_by, first_bad_command, sender_of, recipients_of}
-use Rattle.relay_job.proofs.SettingFacts.{settings_of-by}
-use Rattle.relay_job.proofs.JobFacts.{settings_by-origin}
+use Rattle.relay_job.specs.JobParts.{lines_of, commands_of, commands_at, first_bad_command, sender_of, recipients_of}
+use Rattle.relay_job.proofs.JobFacts.{settings_of-origin}
 use Rattle.relay_job.proofs.ParseFacts.{Fails-from_stop, settings_lines, envelope_commands, envelope_heading, bytes_of, job-broken, job-bad_setting, job-bad_envelope, job-read}
 use Rattle.relay_job.proofs.parsing.parse_job.Goals as goal
 
@@ -31,9 +30,10 @@ returns-in_err-values c =
 
 pub read-requires-2 : goal.read-requires-2
 read-requires-2 c =
-    let at : List ℕ → Option (List ℕ) = value_in (map setting_in c.in_ok-values.values.settings.items) in
-    let origin : c.as_bytes.result.now ≡ (settings_by at).origin = c.as_bytes.ensures ∙ ap (λ (s : Settings). s.origin) c.in_ok-settings.ensures in
-    rw origin (settings_by-origin at)
+    let lines : List Line = lines_of (content_at c.section.result) in
+    let settings : c.in_ok-settings.settings ≡ settings_of lines = c.in_ok-settings.ensures ∙ ap settings_with c.in_ok-values.ensures.ok.values in
+    let origin : c.as_bytes.result.now ≡ (settings_of lines).origin = c.as_bytes.ensures ∙ ap (λ (s : Settings). s.origin) settings in
+    rw origin (settings_of-origin lines)
 
 pub returns-in_err-envelope : goal.returns-in_err-envelope
 returns-in_err-envelope c =
@@ -42,7 +42,7 @@ returns-in_err-envelope c =
     let set = c.in_ok-values.ensures.ok in
     let lines : List Line = lines_of (content_at c.section.result) in
     let part : settings_part text ≡ lines = settings_lines text c.in_ok-parts.parts found ∙ ap lines_of (sym c.section.ensures.lines) in
-    let settings : c.in_ok-settings.settings ≡ settings_of lines = c.in_ok-settings.ensures ∙ settings_of-by lines (value_in (map setting_in c.in_ok-values.values.settings.items)) set.values in
+    let settings : c.in_ok-settings.settings ≡ settings_of lines = c.in_ok-settings.ensures ∙ ap settings_with set.values in
     let origin : c.as_bytes.result.now ≡ (settings_of lines).origin = c.as_bytes.ensures ∙ ap (λ (s : Settings). s.origin) settings in
     let heading : heading_number (envelope_part text) ≡ c.section-2.result.line = envelope_heading text c.in_ok-parts.parts found ∙ sym c.section-2.ensures.heading in
     let commands : envelope_lines (envelope_part text) ≡ commands_at c.section-2.result = envelope_commands text c.in_ok-parts.parts found ∙ ap (λ (l : List JobLine). commands_of (lines_of l)) (sym c.section-2.ensures.lines) in
@@ -56,7 +56,7 @@ returns c =
     let set = c.in_ok-values.ensures.ok in
     let lines : List Line = lines_of (content_at c.section.result) in
     let part : settings_part text ≡ lines = settings_lines text c.in_ok-parts.parts found ∙ ap lines_of (sym c.section.ensures.lines) in
-    let settings : c.in_ok-settings.settings ≡ settings_of lines = c.in_ok-settings.ensures ∙ settings_of-by lines (value_in (map setting_in c.in_ok-values.values.settings.items)) set.values in
+    let settings : c.in_ok-settings.settings ≡ settings_of lines = c.in_ok-settings.ensures ∙ ap settings_with set.values in
     let heading : heading_number (envelope_part text) ≡ c.section-2.result.line = envelope_heading text c.in_ok-parts.parts found ∙ sym c.section-2.ensures.heading in
     let commands : envelope_lines (envelope_part text) ≡ commands_at c.section-2.result = envelope_commands text c.in_ok-parts.parts found ∙ ap (λ (l : List JobLine). commands_of (lines_of l)) (sym c.section-2.ensures.lines) in
     let unbroken : first_bad_command c.in_ok-settings.settings.origin c.section-2.result.line (commands_at c.section-2.result) ≡ None = ap (λ (o : List ℕ). first_bad_command o c.section-2.result.line (commands_at c.section-2.result)) (sym c.as_bytes.ensures) ∙ c.in_ok-envelope.ensures.unbroken in

@@ -18,4 +18,4 @@ returns-clause-closed c =
     let sorted = c.sort_unstable.new.self.items in
     let e = dedup_is eqb sorted c.dedup.new.self.items c.dedup.ensures.filtered in
     let same = subst (λ (ns : List ℕ). IsPermutation ns sorted) c.in_ok-nodes.ensures c.sort_unstable.ensures.permutation in
-    subst (IsClosedUnder c.args.graph.now) (sym e) (nodes_closed c.args.graph.now pairs _ c.requires.graph c.requires.pairs (nodes_are pairs sorted same c.sort_unstable.ensures.sorted))
+    subst (IsClosedUnder c.args.graph.now) (sym e) (nodes_closed c.args.graph.now pairs _ c.nodes.ensures.closed c.requires.pairs (nodes_are pairs sorted same c.sort_unstable.ensures.sorted))

@@ -14,14 +14,14 @@ returns-in_err-keys-clause-refused g c = λ e.
     let fault : c.in_err-keys.field-0.0 ≡ ReachFault.TooManyPairs = sym p.2 ∙ cc in
     let more = c.in_err-keys.ensures.refused (ap (λ (x : ReachFault). Err x) fault) in
     let roots = c.deref.ensures.value ∙ c.in_ok-roots.ensures in
-    more_pairs graph c.requires.graph c.args.limit (subst (λ (rs : List ℕ). HasMoreReached (keys_after graph) rs c.args.limit) roots more)
+    more_pairs graph c.nodes.ensures.closed c.args.limit (subst (λ (rs : List ℕ). HasMoreReached (keys_after graph) rs c.args.limit) roots more)
 
 pub pairs_of-requires : goal.pairs_of-requires
 pairs_of-requires g c =
     let graph = c.args.graph.now in
     let roots = c.deref.ensures.value ∙ c.in_ok-roots.ensures in
     let all = subst (λ (rs : List ℕ). IsClosureOf (keys_after graph) rs c.in_ok-keys.keys.items) roots c.in_ok-keys.ensures.closure in
-    subst (λ (ks : List ℕ). All (λ key. key < 2 ^ 56) ks) (sym c.deref-2.ensures.value) (keys_below graph c.requires.graph c.in_ok-keys.keys.items all)
+    subst (λ (ks : List ℕ). All (λ key. key < 2 ^ 56) ks) (sym c.deref-2.ensures.value) (keys_below graph c.nodes.ensures.closed c.in_ok-keys.keys.items all)
 
 pub returns-clause-pairs : goal.returns-clause-pairs
 returns-clause-pairs g c =
@@ -29,7 +29,7 @@ returns-clause-pairs g c =
     let roots = c.deref.ensures.value ∙ c.in_ok-roots.ensures in
     let all = subst (λ (rs : List ℕ). IsClosureOf (keys_after graph) rs c.in_ok-keys.keys.items) roots c.in_ok-keys.ensures.closure in
     let e = c.in_ok-pairs.ensures ∙ ap (map pair_at) c.deref-2.ensures.value in
-    subst (ArePairs graph) (sym e) (pairs_are graph c.requires.graph c.in_ok-keys.keys.items all)
+    subst (ArePairs graph) (sym e) (pairs_are graph c.nodes.ensures.closed c.in_ok-keys.keys.items all)
 
 pub returns-clause-in_graph : goal.returns-clause-in_graph
 returns-clause-in_graph g c =
@@ -37,4 +37,4 @@ returns-clause-in_graph g c =
     let roots = c.deref.ensures.value ∙ c.in_ok-roots.ensures in
     let all = subst (λ (rs : List ℕ). IsClosureOf (keys_after graph) rs c.in_ok-keys.keys.items) roots c.in_ok-keys.ensures.closure in
     let e = c.in_ok-pairs.ensures ∙ ap (map pair_at) c.deref-2.ensures.value in
-    subst (All (λ p. (p.sender < length graph.senders) × (p.node < length graph.nodes))) (sym e) (pairs_in_graph graph c.requires.graph c.in_ok-keys.keys.items all)
+    subst (All (λ p. (p.sender < length graph.senders) × (p.node < length graph.nodes))) (sym e) (pairs_in_graph graph c.nodes.ensures.closed c.in_ok-keys.keys.items all)

@@ -1,9 +1,10 @@
-use Rattle.std.proofs.Common.{rules, ◌≡◌, ℕ, ◌<◌, ◌-◌, ◌+◌, ◌++◌, length, arith, sym, refl, ap, ◌∙◌, subst, List, [], ◌∷◌}
-use Rattle.std.specs.Prelude.{All, AllPairs, ◌≢◌, flat_map}
-use Rattle.std.proofs.lemmas.List.{length-append}
+use Rattle.std.proofs.Common.{rules, ◌≡◌, ℕ, ◌<◌, length, get_or, arith, sym, refl, ap, ◌∙◌, subst, List, [], ◌∷◌, Result, Ok, Err}
 use Rattle.std.proofs.lemmas.List.Sorted.{IsNonDecreasingBy-from_sort}
-use Rattle.relay_rounds.specs.Searches.{IsSearch, AreNewOf}
-use Rattle.relay_rounds.proofs.Search.{search_begins, search_goes_on, both_distinct, round_new, new_all, nexts_all, too_many, closes}
+use Rattle.std.proofs.lemmas.List.{get_or_default}
+use Rattle.std.proofs.lemmas.Result.{err_from_is_err_and}
+use Rattle.relay_rounds.specs.declared.fault.ReachFault.{ReachFault}
+use Rattle.relay_rounds.specs.Searches.{IsSearch}
+use Rattle.relay_rounds.proofs.Search.{search_begins, won_search, won_all, lone, closes}
 use Rattle.relay_rounds.proofs.reaching.reach.Goals as goal
 
 pub rounds-init : goal.rounds-init
@@ -18,59 +19,67 @@ rounds-init g c =
       within = rw keys (omega arith);
     }
 
-pub returns-then-len-limit-clause-refused : goal.returns-then-len-limit-clause-refused
-returns-then-len-limit-clause-refused g c _ =
-    let next = g.S.Steps.next_keys c.args.steps.now in
-    let settled = c.rounds.settled.keys.items in
-    let new = c.in_ok-new.new.items in
-    let n : AreNewOf settled c.rounds.offered.items new =
-    round_new _ _ _ _ _ _ c.as_slice.ensures.value c.as_slice-in-rounds.ensures.value c.in_ok-won.ensures c.in_ok-new.ensures in
-    too_many next c.args.roots.now settled c.rounds.offered.items new c.args.limit c.rounds.invariant.search n
-    (let total : c.len-in-rounds.result ≡ length settled = search rules in let size : c.len.result ≡ length new = search rules in let more = c.if-len-limit.true in omega arith)
+-- the lone offer, with none behind it
+one_offer : (offered cleared : List ℕ) (key : ℕ) → length offered ≡ 1 → key ≡ get_or offered 0 key → cleared ≡ [] → offered ≡ key ∷ cleared
+one_offer offered cleared key one is none =
+    lone offered one ∙ ap (λ (k : ℕ). k ∷ []) (get_or_default offered 0 0 key (omega arith) ∙ sym is) ∙ ap (λ (xs : List ℕ). key ∷ xs) (sym none)
 
-pub add-requires-clause-distinct : goal.add-requires-clause-distinct
-add-requires-clause-distinct g c =
-    let next = g.S.Steps.next_keys c.args.steps.now in
-    let settled = c.rounds.settled.keys.items in
-    let new = c.in_ok-new.new.items in
-    let n : AreNewOf settled c.rounds.offered.items new =
-    round_new _ _ _ _ _ _ c.as_slice.ensures.value c.as_slice-in-rounds.ensures.value c.in_ok-won.ensures c.in_ok-new.ensures in
-    subst (λ (xs : List ℕ). AllPairs (λ a b. a ≢ b) (settled ++ xs)) (sym c.as_slice-in-rounds-2.ensures.value)
-    (both_distinct next c.args.roots.now settled c.rounds.offered.items new c.rounds.invariant.search n)
+-- the fault of an answer of another type
+abbrev fault_or : {A : Type 0} → ReachFault → Result A ReachFault → ReachFault
+fault_or fault (Ok answer) = fault
+fault_or fault (Err other) = other
 
-pub next_keys-requires-after_bounds : goal.next_keys-requires-after_bounds
-next_keys-requires-after_bounds g c κs within =
-    let P : ℕ → Type 0 = λ key. key < g.S.Steps.key_bound c.args.steps.now in
-    let settled = c.rounds.settled.keys.items in
-    let new = c.in_ok-new.new.items in
-    let n : AreNewOf settled c.rounds.offered.items new =
-    round_new _ _ _ _ _ _ c.as_slice.ensures.value c.as_slice-in-rounds.ensures.value c.in_ok-won.ensures c.in_ok-new.ensures in
-    subst (λ (xs : List ℕ). All P xs) (sym c.as_slice-in-rounds-3.ensures.value)
-    (new_all P settled c.rounds.offered.items new n c.rounds.invariant.below)
+same_fault : {A B : Type 0} (x y : ReachFault) → ◌≡◌ {A = Result A ReachFault} (Err x) (Err y) → ◌≡◌ {A = Result B ReachFault} (Err x) (Err y)
+same_fault x y e = ap Err (ap (fault_or x) e)
+
+pub returns-in_err-settle_one-clause-refused : goal.returns-in_err-settle_one-clause-refused
+returns-in_err-settle_one-clause-refused g c =
+    let offered = c.rounds.offered.items in
+    let one : length offered ≡ 1 = (let size : c.len.result ≡ length offered = search rules in let test = c.if-len-eq1.true in omega arith) in
+    let p = err_from_is_err_and c.from_residual-in_err-settle_one.result c.from_residual-in_err-settle_one.ensures.1 in
+    rw (p.1, p.2)
+    (λ e. c.in_err-settle_one.ensures.refused (same_fault _ _ e) [] c.args.roots.now
+    (subst (λ (xs : List ℕ). IsSearch (g.S.Steps.next_keys c.args.steps.now) c.args.roots.now c.rounds.settled.keys.items xs)
+    (one_offer offered c.clear.new.self.items c.index-key.result.now one c.index-key.ensures c.clear.ensures.items) c.rounds.invariant.search))
+
+pub rounds-preserved-then-len-eq1 : goal.rounds-preserved-then-len-eq1
+rounds-preserved-then-len-eq1 g c =
+    let offered = c.rounds.offered.items in
+    let one : length offered ≡ 1 = (let size : c.len.result ≡ length offered = search rules in let test = c.if-len-eq1.true in omega arith) in
+    let e = c.in_ok-settle_one.ensures in
+    record {
+      search = e.search [] c.args.roots.now
+          (subst (λ (xs : List ℕ). IsSearch (g.S.Steps.next_keys c.args.steps.now) c.args.roots.now c.rounds.settled.keys.items xs)
+          (one_offer offered c.clear.new.self.items c.index-key.result.now one c.index-key.ensures c.clear.ensures.items) c.rounds.invariant.search);
+      shards = e.shards;
+      below = e.below;
+      within = e.within;
+    }
+
+pub settle-requires-clause-won : goal.settle-requires-clause-won
+settle-requires-clause-won g c κs within =
+    won_all (λ key. key < g.S.Steps.key_bound c.args.steps.now) c.rounds.offered.items c.as_slice.result.now c.winners.new.kept.won.items c.as_slice-in-rounds.result.now
+    c.as_slice.ensures.value c.as_slice-in-rounds.ensures.value c.in_ok-winners.ensures c.rounds.invariant.below
 
 pub rounds-preserved : goal.rounds-preserved
 rounds-preserved g c =
-    let here = g.met.S.Steps g.world.𝓛 g.world.𝓜 g.world.𝓡 ((λ s x. x), (λ x. x), (λ x. x), λ x. x) in
-    let next = g.S.Steps.next_keys c.args.steps.now in
-    let P : ℕ → Type 0 = λ key. key < g.S.Steps.key_bound c.args.steps.now in
-    let settled = c.rounds.settled.keys.items in
-    let new = c.in_ok-new.new.items in
-    let n : AreNewOf settled c.rounds.offered.items new =
-    round_new _ _ _ _ _ _ c.as_slice.ensures.value c.as_slice-in-rounds.ensures.value c.in_ok-won.ensures c.in_ok-new.ensures in
-    let keys : c.add.new.self.keys.items ≡ settled ++ new = c.in_ok-add.ensures.keys ∙ ap (λ (xs : List ℕ). settled ++ xs) c.as_slice-in-rounds-2.ensures.value in
-    let offered : c.in_ok-offered-2.offered.items ≡ flat_map next new = c.in_ok-offered-2.ensures ∙ ap (λ (xs : List ℕ). flat_map next xs) c.as_slice-in-rounds-3.ensures.value in
-    let total : c.len-in-rounds.result ≡ length settled = search rules in
-    let size : c.len.result ≡ length new = search rules in
-    let room = c.if-len-limit.false in
-    let within = c.rounds.invariant.within in
-    let long = length-append settled new in
+    let e = c.in_ok-settle.ensures in
     record {
-      search = rw (keys, offered) (search_goes_on next c.args.roots.now settled c.rounds.offered.items new c.rounds.invariant.search n);
-      shards = c.in_ok-add.ensures.shards;
-      below = subst (λ (xs : List ℕ). All P xs) (sym offered)
-          (nexts_all P next new (new_all P settled c.rounds.offered.items new n c.rounds.invariant.below) (here.stays_below c.args.steps.now));
-      within = rw keys (omega arith);
+      search = e.settles.search c.args.roots.now
+          (won_search (g.S.Steps.next_keys c.args.steps.now) c.args.roots.now c.rounds.settled.keys.items c.rounds.offered.items c.as_slice.result.now c.winners.new.kept.won.items c.as_slice-in-rounds.result.now
+          c.as_slice.ensures.value c.as_slice-in-rounds.ensures.value c.in_ok-winners.ensures c.rounds.invariant.search);
+      shards = e.shards;
+      below = e.settles.below;
+      within = e.settles.within;
     }
+
+pub returns-in_err-settle-clause-refused : goal.returns-in_err-settle-clause-refused
+returns-in_err-settle-clause-refused g c =
+    let p = err_from_is_err_and c.from_residual-in_err-settle.result c.from_residual-in_err-settle.ensures.1 in
+    rw (p.1, p.2)
+    (λ e. c.in_err-settle.ensures.refused (same_fault _ _ e) c.args.roots.now
+    (won_search (g.S.Steps.next_keys c.args.steps.now) c.args.roots.now c.rounds.settled.keys.items c.rounds.offered.items c.as_slice.result.now c.winners.new.kept.won.items c.as_slice-in-rounds.result.now
+    c.as_slice.ensures.value c.as_slice-in-rounds.ensures.value c.in_ok-winners.ensures c.rounds.invariant.search))
 
 none_left : (xs : List ℕ) → length xs ≡ 0 → xs ≡ []
 none_left [] e = refl

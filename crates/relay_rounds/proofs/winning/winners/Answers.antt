@@ -1,14 +1,12 @@
-use Rattle.std.proofs.Common.{◌≡◌, List, ℕ, map, subst, sym}
-use Rattle.std.specs.Prelude.{slice_index}
-use Rattle.rayon.proofs.ListFacts.{IfOk-then}
+use Rattle.std.proofs.Common.{List, ℕ, ap, sym, ◌∙◌, subst}
 use Rattle.relay_rounds.specs.Searches.{AreDistinctOf}
-use Rattle.relay_rounds.proofs.Winners.{winners_keys}
+use Rattle.relay_rounds.proofs.Winners.{won_once}
 use Rattle.relay_rounds.proofs.winning.winners.Goals as goal
 
 pub returns : goal.returns
 returns g c =
-    let keys = c.args.offered.now in
-    let places = c.in_ok-places.places.items in
-    IfOk-then c.keys_at.result _ _ c.keys_at.ensures
-    (λ v h. subst (λ (xs : List ℕ). AreDistinctOf keys xs)
-    (sym (subst (λ (ps : List ℕ). v.items ≡ map (λ i. slice_index keys i) ps) c.as_slice.ensures.value h)) (winners_keys keys places c.in_ok-places.ensures))
+    let opened = c.in_ok-round.ensures in
+    let offered = c.args.offered.now in
+    let worker = c.work_all-worker.result in
+    subst (λ (xs : List ℕ). AreDistinctOf offered xs) (sym (c.work_all-worker.ensures.kept c.if-refused.false))
+    (won_once c.in_ok-round.seat worker.seat offered (ap (λ s. s.round.keys) opened.seat ∙ opened.round.0) (ap (λ s. s.position) opened.seat) c.work_all-worker.ensures.rest c.end.ensures)

@@ -26,10 +26,10 @@ returns-then-is_empty-2 c =
     let some : 0 < length left.items = grind (arith, nat_tests, left.ok.0) in
     let any : 0 < length (filter is_live es) = omega (arith, ap length live, length-map left.items (λ r. r.now)) in
     let kept = ap exchanges_of c.before_relay-exchangers.ensures ∙ kept_before_relay c.args.own_names.now left.items ∙ ap (λ (xs : List Exchange). filter (is_before_relay c.args.own_names.now xs) xs) live in
-    let none : length c.in-Ok.hosts ≡ 0 = grind (arith, nat_tests) in
+    let none : length c.in_ok-hosts.hosts ≡ 0 = grind (arith, nat_tests) in
     λ domain has_address.
-    hosts_of_some es (exchanges_of c.before_relay-exchangers.result.items) c.in-Ok.hosts c.args.own_names.now c.args.seed any kept c.in-Ok.ensures domain has_address
-    ∙ no_hosts c.in-Ok.hosts none
+    hosts_of_some es (exchanges_of c.before_relay-exchangers.result.items) c.in_ok-hosts.hosts c.args.own_names.now c.args.seed any kept c.in_ok-hosts.ensures domain has_address
+    ∙ no_hosts c.in_ok-hosts.hosts none
 
 pub returns : goal.returns
 returns c =
@@ -39,7 +39,7 @@ returns c =
     let some : 0 < length left.items = grind (arith, nat_tests, left.ok.0) in
     let any : 0 < length (filter is_live es) = omega (arith, ap length live, length-map left.items (λ r. r.now)) in
     let kept = ap exchanges_of c.before_relay-exchangers.ensures ∙ kept_before_relay c.args.own_names.now left.items ∙ ap (λ (xs : List Exchange). filter (is_before_relay c.args.own_names.now xs) xs) live in
-    let some_host : 0 < length c.in-Ok.hosts = grind (arith, nat_tests) in
+    let some_host : 0 < length c.in_ok-hosts.hosts = grind (arith, nat_tests) in
     λ domain has_address.
-    hosts_of_some es (exchanges_of c.before_relay-exchangers.result.items) c.in-Ok.hosts c.args.own_names.now c.args.seed any kept c.in-Ok.ensures domain has_address
-    ∙ hosts_left c.in-Ok.hosts some_host
+    hosts_of_some es (exchanges_of c.before_relay-exchangers.result.items) c.in_ok-hosts.hosts c.args.own_names.now c.args.seed any kept c.in_ok-hosts.ensures domain has_address
+    ∙ hosts_left c.in_ok-hosts.hosts some_host

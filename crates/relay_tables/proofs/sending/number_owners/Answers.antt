@@ -1,13 +1,22 @@
 use Rattle.std.proofs.Common.{arith, ◌≡◌, ℕ, length, ap, subst}
+use Rattle.std.specs.Prelude.{is_some}
+use Rattle.relay_tables.specs.Senders.{owner_number}
 use Rattle.relay_tables.specs.Sending.{AreOwned}
-use Rattle.relay_tables.proofs.SenderSteps.{owned_none, owned_more, one_more}
+use Rattle.relay_tables.proofs.Runs.{counted_within}
+use Rattle.relay_tables.proofs.SenderSteps.{owned_none, owned_more, few_more}
 use Rattle.relay_tables.proofs.sending.number_owners.Goals as goal
 
 pub loop-alias-init : goal.loop-alias-init
 loop-alias-init c = record {
-  room = omega arith;
+  few = omega arith;
   owned = λ sender is. rw c.new-owners.ensures.items (owned_none c.args.tables.now sender c.args.senders.now is);
 }
+
+pub number_owner-requires-clause-room : goal.number_owner-requires-clause-room
+number_owner-requires-clause-room c =
+    let l = c.loop-alias in
+    let e = c.aliases-alias-end.ensures in
+    omega (arith, l.invariant.few, counted_within (λ alias. is_some (owner_number c.args.tables.now alias)) l.alias, e.lawful.few_entries, ap length e.entries)
 
 pub loop-alias-preserved : goal.loop-alias-preserved
 loop-alias-preserved c =
@@ -16,7 +25,7 @@ loop-alias-preserved c =
     let new = c.number_owner.new.senders in
     let added = c.in_ok-owner.ensures.added in
     record {
-      room = omega (arith, one_more d l.alias l.senders new added, l.invariant.room);
+      few = few_more d l.alias l.senders new added l.invariant.few;
       owned = λ sender is. rw c.in_ok-push.ensures.items (owned_more d sender l.alias l.senders new l.owners.items c.in_ok-owner.owner (l.invariant.owned sender is) added c.in_ok-owner.ensures.owned);
     }
 

@@ -19,7 +19,7 @@ returns-clause-all c =
     let all : c.loop-written.yielded ≡ kept = sym (map-id c.loop-written.yielded) ∙ ended.0 in
     c.loop-written.invariant
     ∙ ap addresses_of all
-    ∙ sorted_once c.self.inside.gathered.items c.sort_unstable.new.self.items kept c.sort_unstable.ensures.permutation c.sort_unstable.ensures.sorted (dedup_is _ _ _ c.dedup.ensures.filtered)
+    ∙ sorted_once c.one_spelling.ensures.one_address c.self.inside.gathered.items c.sort_unstable.new.self.items kept c.sort_unstable.ensures.permutation c.sort_unstable.ensures.sorted (dedup_is _ _ _ c.dedup.ensures.filtered)
     ∙ c.self.view_is
 
 pub returns-clause-ascending : goal.returns-clause-ascending
@@ -30,4 +30,4 @@ returns-clause-ascending c =
 pub returns-clause-some : goal.returns-clause-some
 returns-clause-some c =
     let P : List AddressParts → Type 0 = λ xs. 0 < length xs in
-    subst P c.self.view_is (in_order-some c.self.inside.gathered.items c.self.invariant)
+    subst P c.self.view_is (in_order-some c.one_spelling.ensures.one_address c.self.inside.gathered.items c.self.invariant)

@@ -1,4 +1,4 @@
-use Rattle.std.proofs.Common.{◌≡◌, ◌≢◌, ◌∙◌, List, AllPairs, IsTrue, map, ap, sym, subst}
+use Rattle.std.proofs.Common.{◌≢◌, ◌∙◌, List, AllPairs, IsTrue, map, ap, sym, subst}
 use Rattle.std.specs.List.{list_all}
 use Rattle.relay_tables.specs.declared.include_entry.IncludeEntry.{IncludeEntry}
 use Rattle.relay_tables.specs.Parts.{is_good_include}

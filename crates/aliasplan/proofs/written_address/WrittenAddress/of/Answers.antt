@@ -1,4 +1,4 @@
-use Rattle.std.proofs.Common.{rules, ℕ, ◌<◌, List, slice_index, subst, ap, sym, ◌∙◌, drop}
+use Rattle.std.proofs.Common.{rules, ℕ, ◌<◌, List, slice_index, subst, ap, ◌∙◌, drop}
 use Rattle.aliasplan.specs.WrittenAddresses.{front_number}
 use Rattle.aliasplan.proofs.written_address.WrittenAddress.of.Goals as goal
 

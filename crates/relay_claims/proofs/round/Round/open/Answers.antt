@@ -1,6 +1,5 @@
-use Rattle.std.proofs.Common.{arith, ◌∙◌}
-use Rattle.relay_claims.proofs.Halves.{opens}
+use Rattle.std.proofs.Common.{◌∙◌}
 use Rattle.relay_claims.proofs.round.Round.open.Goals as goal
 
-pub of_words-requires : goal.of_words-requires
-of_words-requires c = opens c.args.keys.now c.args.heads c.args.cut (omega arith) (omega arith) c.as_slice.result.now (c.as_slice.ensures.value ∙ c.in_ok-words.ensures.items_if_clones_equal (λ y e. e))
+pub open_of-requires-clause-zeros : goal.open_of-requires-clause-zeros
+open_of-requires-clause-zeros c = c.as_slice.ensures.value ∙ c.in_ok-zeros.ensures.items_if_clones_equal (λ y e. e)

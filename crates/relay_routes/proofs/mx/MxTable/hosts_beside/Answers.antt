@@ -13,18 +13,18 @@ pub returns-then-not-is_empty : goal.returns-then-not-is_empty
 returns-then-not-is_empty c =
     let table = c.args.self.now in
     let domain = c.args.domain.now in
-    let found : exchanges_of c.in-Ok.found.items ≡ filter (λ e. bytes_eq e.domain domain) table.exchanges =
-    c.in-Ok.ensures ∙ ap (λ (t : MxLines). filter (λ (e : Exchange). bytes_eq e.domain domain) t.exchanges) c.self.view_is in
-    rw (hosts_from table domain c.args.own_names.now c.args.seed (exchanges_of c.in-Ok.found.items) (has_text table.addresses domain) found refl)
+    let found : exchanges_of c.in_ok-found.found.items ≡ filter (λ e. bytes_eq e.domain domain) table.exchanges =
+    c.in_ok-found.ensures ∙ ap (λ (t : MxLines). filter (λ (e : Exchange). bytes_eq e.domain domain) t.exchanges) c.self.view_is in
+    rw (hosts_from table domain c.args.own_names.now c.args.seed (exchanges_of c.in_ok-found.found.items) (has_text table.addresses domain) found refl)
     (c.explicit_hosts.ensures domain (has_text table.addresses domain))
 
 pub returns-then-has_address : goal.returns-then-has_address
 returns-then-has_address c =
     let table = c.args.self.now in
     let domain = c.args.domain.now in
-    let none : c.in-Ok.found.items ≡ [] = nil_from_length c.in-Ok.found.items (grind (arith, nat_tests, c.in-Ok.found.ok.0)) in
+    let none : c.in_ok-found.found.items ≡ [] = nil_from_length c.in_ok-found.found.items (grind (arith, nat_tests, c.in_ok-found.found.ok.0)) in
     let found : exchanges_of [] ≡ filter (λ e. bytes_eq e.domain domain) table.exchanges =
-    ap exchanges_of (sym none) ∙ c.in-Ok.ensures ∙ ap (λ (t : MxLines). filter (λ (e : Exchange). bytes_eq e.domain domain) t.exchanges) c.self.view_is in
+    ap exchanges_of (sym none) ∙ c.in_ok-found.ensures ∙ ap (λ (t : MxLines). filter (λ (e : Exchange). bytes_eq e.domain domain) t.exchanges) c.self.view_is in
     let has : has_text table.addresses domain ≡ true = sym (ap (λ (t : MxLines). has_text t.addresses domain) c.self.view_is) ∙ sym c.if-has_address.ensures in
     rw (hosts_from table domain c.args.own_names.now c.args.seed [] true found has) (c.implicit_host.ensures c.args.seed)
 
@@ -32,8 +32,8 @@ pub returns : goal.returns
 returns c =
     let table = c.args.self.now in
     let domain = c.args.domain.now in
-    let none : c.in-Ok.found.items ≡ [] = nil_from_length c.in-Ok.found.items (grind (arith, nat_tests, c.in-Ok.found.ok.0)) in
+    let none : c.in_ok-found.found.items ≡ [] = nil_from_length c.in_ok-found.found.items (grind (arith, nat_tests, c.in_ok-found.found.ok.0)) in
     let found : exchanges_of [] ≡ filter (λ e. bytes_eq e.domain domain) table.exchanges =
-    ap exchanges_of (sym none) ∙ c.in-Ok.ensures ∙ ap (λ (t : MxLines). filter (λ (e : Exchange). bytes_eq e.domain domain) t.exchanges) c.self.view_is in
+    ap exchanges_of (sym none) ∙ c.in_ok-found.ensures ∙ ap (λ (t : MxLines). filter (λ (e : Exchange). bytes_eq e.domain domain) t.exchanges) c.self.view_is in
     let has : has_text table.addresses domain ≡ false = sym (ap (λ (t : MxLines). has_text t.addresses domain) c.self.view_is) ∙ sym c.if-has_address.ensures in
     hosts_from table domain c.args.own_names.now c.args.seed [] false found has

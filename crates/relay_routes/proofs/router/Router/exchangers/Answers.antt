@@ -10,6 +10,6 @@ pub returns : goal.returns
 returns c =
     let inside = c.self.inside in
     let same = hosts_of-same inside.exchanges c.as_bytes.result.now inside.own_names inside.settings.own_names inside.settings.seed c.self.invariant in
-    let domain = ap (λ d. hosts_of inside.exchanges d inside.settings.own_names inside.settings.seed) (c.as_bytes.ensures ∙ c.in-Ok.ensures) in
+    let domain = ap (λ d. hosts_of inside.exchanges d inside.settings.own_names inside.settings.seed) (c.as_bytes.ensures ∙ c.in_ok-domain.ensures) in
     let routing = ap (λ (r : Routing). hosts_of r.exchanges (folded c.args.form.now.host.now) r.settings.own_names r.settings.seed) c.self.view_is in
     subst (λ given. Answers c.hosts_beside.result given) (same ∙ domain ∙ routing) c.hosts_beside.ensures

@@ -1,12 +1,14 @@
-use Rattle.std.proofs.Common.{arith, ◌≡◌, ◌<◌, Err, length, map, ap}
+use Rattle.std.proofs.Common.{arith, ◌≡◌, ◌^◌, ◌<◌, ◌≤◌, List, Err, length, map, ap}
 use Rattle.std.specs.List.{concat}
 use Rattle.std.proofs.lemmas.List.Elements.{All-weaker}
 use Rattle.std.proofs.lemmas.Result.{err_from_is_err_and}
 use Rattle.relay_tables.specs.declared.fault.TableFault.{TableFault}
 use Rattle.relay_tables.specs.GraphParts.{GraphParts}
 use Rattle.relay_tables.specs.Targets.{targets_of}
+use Rattle.relay_tables.specs.Senders.{Sender}
 use Rattle.relay_tables.specs.Graphs.{entry_nodes}
-use Rattle.relay_tables.proofs.Assembled.{rows_below, rows_count, aliases_within, entries_within, graph_is, too_many_owners, not_refused, refused_by}
+use Rattle.relay_tables.proofs.Assembled.{rows_below, rows_count, entries_within, graph_is, too_many_owners, not_refused, refused_by}
+use Rattle.relay_tables.proofs.ClosedGraphs.{closed_graph}
 use Rattle.relay_tables.proofs.graph.Graph.build.Goals as goal
 
 pub transposed-requires-clause-numbers : goal.transposed-requires-clause-numbers
@@ -44,7 +46,15 @@ invariant_of-result c =
     let count = rows_count d rs r.nodes.items r.children r.roots.items c.in_ok-rows.ensures.rows in
     let within = entries_within d rs r.nodes.items r.children r.roots.items c.in_ok-rows.ensures.rows in
     let size : c.len-count.result ≡ length r.nodes.items = omega (arith, c.len-count.ensures, r.nodes.ok.0) in
-    record { few = omega arith; parents_are = rw size at c.in_ok-parents.ensures }
+    let senders : List Sender = c.number_owners.new.senders in
+    let graph = graph_is d rs r.nodes.items r.children r.roots.items c.in_ok-rows.ensures.rows _ senders c.in_ok-numbers.numbers.items
+    (c.in_ok-numbers.ensures.owned _ c.in_ok-senders.ensures) c.into_vec.ensures.distinct in
+    let few_nodes : length r.nodes.items ≤ 2 ^ 24 = omega (arith, c.in_ok-rows.ensures.few, c.requires.names) in
+    let few_senders : length senders ≤ 2 ^ 32 = omega (arith, c.in_ok-numbers.ensures.few, c.count_owners-owned.ensures, c.if-owned-owners.false, c.requires.owners) in
+    record {
+      closed = rw c.into_vec.ensures.senders (closed_graph d _ rs _ graph few_nodes few_senders);
+      turned = record { few = omega arith; parents_are = rw size at c.in_ok-parents.ensures };
+    }
 
 pub returns-clause-graph : goal.returns-clause-graph
 returns-clause-graph c =
@@ -60,8 +70,4 @@ returns-clause-refusal c =
     not_refused c.args.tables.now c.args.recipients.now c.args.names c.args.owners c.in_ok-rows.ensures.within (omega (arith, c.count_owners-owned.ensures, c.if-owned-owners.false))
 
 pub returns-clause-senders : goal.returns-clause-senders
-returns-clause-senders c =
-    let r = c.in_ok-rows.rows in
-    let d = c.args.tables.now in
-    let within = aliases_within d c.args.recipients.now r.nodes.items r.children r.roots.items c.in_ok-rows.ensures.rows in
-    omega (arith, within, c.in_ok-rows.ensures.few, c.in_ok-numbers.ensures.few, ap length c.into_vec.ensures.senders)
+returns-clause-senders c = omega (arith, c.in_ok-numbers.ensures.few, ap length c.into_vec.ensures.senders)

@@ -1,0 +1,138 @@
+//! The steps from an alias file to its loops.
+ghost use Rattle.std.specs.Prelude.{◌≡◌, ◌≤◌, All, IsTrue, IfOk, length};
+ghost use Rattle.std.specs.List.{range_with_len};
+ghost use Rattle.relay_text.specs.Bytes.{folded};
+ghost use Rattle.relay_text.specs.Addresses.{is_origin};
+ghost use Rattle.relay_loops.specs.Loops.{IsClosedPart};
+
+use crate::shape::Shape;
+use anyhow::{Result, ensure};
+use bench_watch::{Counted, Watch};
+use relay_aliasfile::{AliasFile, parse_aliases, parse_mailboxes};
+use relay_loops::{on_loops, whole_graphs};
+use relay_rounds::NoGate;
+use relay_tables::{Graph, Local, Tables, parsed_files};
+use relay_text::{Seq, Text};
+use std::alloc::{AllocError, Global};
+use std::rt::Clock;
+use std::thread::Threads;
+
+// As many nodes as a graph may have.
+const NODES: usize = 16777216;
+
+const CUT: usize = 1024;
+
+#[tactic(auto, unfolding(relay_text::specs::Addresses::is_origin, relay_text::specs::Addresses::is_domain))]
+fn local(alloc: Global) -> Result<Local, AllocError>
+    ensures origin { IfOk result (λ local. IsTrue (is_origin local.origin)) }
+    ensures domains { IfOk result (λ local. All (λ domain. folded domain ≡ domain) local.domains) }
+{
+    Ok(Local {
+        origin: Text::of(Vec::from_slice(alloc, b"example.org")?),
+        domains: Seq::of(Vec::new(alloc)),
+        delimiter: None,
+        expand: false,
+    })
+}
+
+// The tables of an alias file alone.
+fn tables<R: Clock + Print + AllocGlobal>(watch: &Watch<R>, text: &[u8]) -> Result<Tables> {
+    let alloc = watch.rt.alloc();
+    parsed_files();
+    let start = watch.start()?;
+    let file = parse_aliases(alloc, text)?;
+    let entries = file.entries.len();
+    watch.report(
+        "  parse_aliases",
+        entries,
+        Counted::Things("entries"),
+        start,
+    )?;
+    ensure!(entries <= NODES, "too many entries");
+    let mailboxes = parse_mailboxes(alloc, b"")?;
+    ensure!(mailboxes.names.is_empty(), "a mailbox of nothing");
+    let start = watch.start()?;
+    let tables = Tables::build(alloc, local(alloc)?, file, Vec::new(alloc), mailboxes)?;
+    watch.report(
+        "  Tables::build",
+        entries,
+        Counted::Things("aliases"),
+        start,
+    )?;
+    Ok(tables)
+}
+
+// The numbers of all nodes, which are a closed part.
+fn all_nodes(alloc: Global, graph: &Graph) -> Result<Vec<u32>>
+    ensures all { IfOk result (λ nodes. nodes.items ≡ range_with_len 0 (length graph.now.nodes)) }
+    ensures closed { IfOk result (λ nodes. IsClosedPart graph.now nodes.items) }
+{
+    whole_graphs();
+    ensure!(graph.nodes() <= NODES, "too many nodes");
+    let nodes = (0..graph.nodes() as u32).collect(alloc)?;
+    Ok(nodes)
+}
+
+// How many children the nodes have.
+fn edges(graph: &Graph) -> usize {
+    let mut edges = 0usize;
+    for node in 0..graph.nodes().min(NODES) {
+        edges = edges.saturating_add(graph.children(node as u32).len());
+    }
+    edges
+}
+
+// The loops by 1 and by 4 workers.
+fn find_loops<R: Clock + Print + AllocGlobal + Threads + Sync>(
+    watch: &Watch<R>,
+    graph: &Graph,
+    nodes: &[u32],
+) -> Result<()>
+    requires { IsClosedPart graph.now nodes.now }
+{
+    for workers in [1, 4] {
+        let start = watch.start()?;
+        let alloc = watch.rt.alloc();
+        let loops = on_loops(watch.rt, alloc, graph, nodes, workers, CUT, &NoGate)?;
+        let step = if workers == 1 {
+            "  on_loops, 1 worker"
+        } else {
+            "  on_loops, 4 workers"
+        };
+        watch.report(step, loops.len(), Counted::Things("nodes on loops"), start)?;
+    }
+    Ok(())
+}
+
+// The graph of the tables, and its loops.
+fn search<R: Clock + Print + AllocGlobal + Threads + Sync>(
+    watch: &Watch<R>,
+    tables: &Tables,
+) -> Result<()> {
+    let alloc = watch.rt.alloc();
+    let start = watch.start()?;
+    let graph = Graph::build(alloc, tables, None, &[], NODES, 0)?;
+    watch.report(
+        "  Graph::build",
+        edges(&graph),
+        Counted::Things("edges"),
+        start,
+    )?;
+    let nodes = all_nodes(alloc, &graph)?;
+    find_loops(watch, &graph, &nodes)
+}
+
+/// Prints what each step took and gave, for an alias file of this shape.
+pub fn measure<R: Clock + Print + AllocGlobal + Threads + Sync>(
+    watch: &Watch<R>,
+    shape: Shape,
+    aliases: u32,
+) -> Result<()>
+    requires { aliases ≤ 10000000 }
+{
+    let name = shape.name();
+    println!(watch.rt; "{name}")?;
+    let text = shape.text(watch.rt.alloc(), aliases)?;
+    let tables = tables(watch, text.as_str().as_bytes())?;
+    search(watch, &tables)
+}

@@ -1,0 +1,72 @@
+//! Tables and addresses in scattered order.
+ghost use Rattle.std.specs.Prelude.{◌≡◌, ◌<◌, max, IfOk, vec_len};
+
+use anyhow::{Context, Result};
+use relay_text::{Address, TextFault, parse_address};
+use std::alloc::{AllocError, Global};
+
+// Another order of the numbers below `count`.
+fn shuffled(number: u32, count: u32) -> u32
+    ensures { result < max count 1 }
+{
+    (u64::from(number).wrapping_mul(2_654_435_761) % u64::from(count.max(1))) as u32
+}
+
+// The domain whose mail exchangers a pattern names: one for each two patterns.
+fn nexthop_of(number: u32) -> u32 {
+    number / 2
+}
+
+/// The patterns of `count` parent domains, each with a nexthop whose mail exchangers are looked up.
+pub fn patterns(alloc: Global, count: u32) -> Result<Vec<u8>, AllocError> {
+    let mut text = Vec::new(alloc);
+    for number in 0..count {
+        let pattern = shuffled(number, count);
+        let nexthop = nexthop_of(pattern);
+        let line = format!(in alloc; ".p{pattern}.example.net smtp:x{nexthop}.example.com\n")?;
+        text.extend_from_slice(line.as_bytes())?;
+    }
+    Ok(text)
+}
+
+/// The records of `count` mail exchangers, two of one preference to each domain.
+pub fn records(alloc: Global, count: u32) -> Result<Vec<u8>, AllocError> {
+    let mut text = Vec::new(alloc);
+    for number in 0..count {
+        let record = shuffled(number, count);
+        let domain = nexthop_of(record);
+        let line = format!(in alloc; "x{domain}.example.com MX 10 mx{record}.example.com\n")?;
+        text.extend_from_slice(line.as_bytes())?;
+    }
+    Ok(text)
+}
+
+/// The records of `count` mail exchangers of one domain and one preference.
+pub fn records_of_one(alloc: Global, count: u32) -> Result<Vec<u8>, AllocError> {
+    let mut text = Vec::new(alloc);
+    for number in 0..count {
+        let record = shuffled(number, count);
+        let line = format!(in alloc; "example.com MX 10 mx{record}.example.com\n")?;
+        text.extend_from_slice(line.as_bytes())?;
+    }
+    Ok(text)
+}
+
+#[tactic(auto, unfolding(relay_text::specs::Addresses::is_origin, relay_text::specs::Addresses::is_domain))]
+fn address(alloc: Global, text: &[u8]) -> Result<Address, TextFault> {
+    parse_address(alloc, text, b"example.org")
+}
+
+/// An address below each parent domain, two labels deeper.
+pub fn addresses(alloc: Global, count: u32) -> Result<Vec<Address>>
+    ensures { IfOk result (λ addresses. vec_len addresses ≡ count) }
+{
+    let mut addresses = Vec::new(alloc);
+    for number in 0..count {
+        let pattern = shuffled(count - 1 - number, count);
+        let text = format!(in alloc; "u{number}@a.b.p{pattern}.example.net")?;
+        let address = address(alloc, text.as_bytes());
+        addresses.push(address.ok().context("reading an address")?)?;
+    }
+    Ok(addresses)
+}

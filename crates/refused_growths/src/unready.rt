@@ -1,0 +1,64 @@
+//! Why a case didn't begin.
+use relay_job::RunFault;
+use relay_rounds::ReachFault;
+use relay_routes::Unrouted;
+use relay_tables::TableFault;
+use relay_text::TextFault;
+use std::alloc::{AllocError, AllocFailed};
+
+/// Why the inputs of a call aren't there.
+#[derive(Clone, Copy, Debug, PartialEq, Eq)]
+pub enum Unready {
+    /// Memory ran out.
+    NoMemory,
+    /// They aren't what the example says.
+    Wrong,
+}
+
+impl From<AllocError> for Unready {
+    fn from(_error: AllocError) -> Unready {
+        Unready::NoMemory
+    }
+}
+
+impl<T: Drop> From<AllocFailed<T>> for Unready {
+    fn from(_error: AllocFailed<T>) -> Unready {
+        Unready::NoMemory
+    }
+}
+
+impl From<TextFault> for Unready {
+    fn from(fault: TextFault) -> Unready {
+        match fault {
+            TextFault::Memory => Unready::NoMemory,
+            _ => Unready::Wrong,
+        }
+    }
+}
+
+impl From<TableFault> for Unready {
+    fn from(fault: TableFault) -> Unready {
+        match fault {
+            TableFault::Memory => Unready::NoMemory,
+            _ => Unready::Wrong,
+        }
+    }
+}
+
+impl From<ReachFault> for Unready {
+    fn from(fault: ReachFault) -> Unready {
+        match fault {
+            ReachFault::Memory => Unready::NoMemory,
+            _ => Unready::Wrong,
+        }
+    }
+}
+
+impl From<RunFault> for Unready {
+    fn from(fault: RunFault) -> Unready {
+        match fault {
+            RunFault::Memory => Unready::NoMemory,
+            _ => Unready::Wrong,
+        }
+    }
+}

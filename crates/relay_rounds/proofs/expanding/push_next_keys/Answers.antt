@@ -1,7 +1,0 @@
-use Rattle.relay_rounds.proofs.Keys.{next_pushed}
-use Rattle.relay_rounds.proofs.expanding.push_next_keys.Goals as goal
-
-pub loop-i-preserved : goal.loop-i-preserved
-loop-i-preserved g c =
-    next_pushed c.args.next.now.items (g.S.Steps.next_keys c.args.steps.now c.args.key) c.loop-i.next.items c.push.new.self.items c.loop-i.i c.at.result
-    c.in_ok-push.ensures.items c.loop-i.invariant c.at.ensures
