@@ -31,7 +31,7 @@ code_after CommandLine = 5
 
 -- the command line is at fault where it asks for nothing that there is, and only there; only a plan has findings
 abbrev pub IsStatusOf : Request → Status → Type 0
-IsStatusOf (Plan options) status = status ≢ CommandLine
+IsStatusOf (Plan options path) status = status ≢ CommandLine
 IsStatusOf (Gather paths) status = (status ≢ Found) × (status ≢ CommandLine)
 IsStatusOf Help status = status ≡ Done
 IsStatusOf Unknown status = status ≡ CommandLine

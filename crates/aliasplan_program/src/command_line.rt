@@ -1,5 +1,5 @@
 //! The command line.
-ghost use Rattle.std.specs.Prelude.{◌≡◌, ◌≢◌, ◌⊎◌};
+ghost use Rattle.std.specs.Prelude.{◌≡◌, ◌≢◌, ◌⊎◌, IfOk};
 ghost use Rattle.std.specs.IoError.{error_kind};
 ghost use Rattle.std.specs.declared.io.ErrorKind.TheVariants.{InvalidData};
 ghost use Rattle.clap.specs.Values.{kind_of};
@@ -17,11 +17,11 @@ use std::{env, io};
 /// What the command line asks for.
 #[derive(Drop)]
 pub enum Request {
-    /// A plan of the job on standard input.
-    Plan(Options),
+    /// A plan of the job in the file of this path, or on standard input where there is none.
+    Plan(Options, Option<Text>),
     /// A job of the files of these paths.
     Gather(Paths),
-    /// The help, which is printed.
+    /// The help or the version, which is printed.
     Help,
     /// Something else, as is said on standard error.
     Unknown,
@@ -34,27 +34,52 @@ const WORKERS: usize = 4;
 
 const CUT: usize = 1024;
 
+/// The version of the program, as the file VERSION has it, and the kit that it is proved with.
+const VERSION: &str = "0.1.0, proved with rattle-kit-13b";
+
+/// What stands below the options in the help of `plan`.
+const AFTER_PLAN: &str =
+    "Exit status: 0 a plan without findings, 1 a plan with findings, 2 the job is refused,\n\
+      3 out of memory, 4 the job can't be read or the plan can't be written, 5 a fault of the command line.\n\
+      Where the status is 2 or more, one line on standard error says why.\n\n\
+      Example: aliasplan plan examples/first.job";
+
+/// What stands below the options in the help of `gather`.
+const AFTER_GATHER: &str =
+    "A section whose file isn't named isn't in the job. The include files that the alias file names are\n\
+      read too, from the paths that stand there.\n\n\
+      Exit status: 0 the job is written, 2 it would be refused, 3 out of memory, 4 a file can't be read or\n\
+      the job can't be written, 5 a fault of the command line.\n\n\
+      Example: aliasplan gather --aliases /etc/aliases --envelope message.envelope | aliasplan plan";
+
 fn plan_command<'a>(alloc: Global) -> Result<Command<'a>, AllocError> {
     let workers = Arg::new(alloc, "workers")
         .long("workers")
         .value_name("N")
-        .help("How many threads take part, from 1 to 64 (4)")
+        .help("How many threads take part, from 1 to 64; 4 where it isn't said")
         .value_parser(value_parser!(u64).range(1..=64));
     let cut = Arg::new(alloc, "cut")
         .long("cut")
         .value_name("N")
-        .help("How many pairs of sender and name a thread takes at once, from 1 to 1048576 (1024)")
+        .help(
+            "How many pairs of sender and name a thread takes at once, from 1 to 1048576; 1024 where it isn't said",
+        )
         .value_parser(value_parser!(u64).range(1..=1_048_576));
     let form = Arg::new(alloc, "form")
         .long("form")
         .value_name("FORM")
-        .help("The plan's lines, or the commands of each transaction")
+        .help("The plan's lines, as where it isn't said, or the commands of each transaction")
         .value_parser(["plan", "wire"].as_slice());
+    let file = Arg::new(alloc, "file").value_name("FILE").help(
+        "The file that the job is read from; - is standard input, as is no FILE",
+    );
     Command::new(alloc, "plan")
-        .about("Reads a job on standard input and writes its plan on standard output")
+        .about("Reads a job and writes its plan on standard output")
+        .after_help(AFTER_PLAN)
         .arg(workers)?
         .arg(cut)?
-        .arg(form)
+        .arg(form)?
+        .arg(file)
 }
 
 /// The files that a job is gathered of, each by the name of its section.
@@ -71,9 +96,9 @@ const FILES: [(&str, &str); 6] = [
 ];
 
 fn gather_command<'a>(alloc: Global) -> Result<Command<'a>, AllocError> {
-    let mut command = Command::new(alloc, "gather").about(
-        "Writes the job of files that lie apart on standard output",
-    );
+    let mut command = Command::new(alloc, "gather")
+        .about("Writes the job of files that lie apart on standard output")
+        .after_help(AFTER_GATHER);
     for (name, help) in FILES {
         let file = Arg::new(alloc, name)
             .long(name)
@@ -87,6 +112,8 @@ fn gather_command<'a>(alloc: Global) -> Result<Command<'a>, AllocError> {
 fn command<'a>(alloc: Global) -> Result<Command<'a>, AllocError> {
     Command::new(alloc, "aliasplan")
         .about("Plans the delivery of a message to aliases and mailing lists")
+        .version(VERSION)
+        .bin_name("aliasplan")?
         .subcommand_required(true)
         .arg_required_else_help(false)
         .subcommand(plan_command(alloc)?)?
@@ -111,11 +138,22 @@ fn options_of(plan: &ArgMatches<'_>) -> Options
 }
 
 /// The path that an option names, if it stands there.
-fn path_of(alloc: Global, gather: &ArgMatches<'_>, name: &str) -> Result<Option<Text>, AllocError> {
-    match gather.get_str(name) {
-        Some(path) => Ok(Some(Text::of(Vec::from_slice(alloc, path.as_bytes())?))),
+fn path_of(alloc: Global, words: &ArgMatches<'_>, name: &str) -> Result<Option<Text>, AllocError> {
+    match words.get_str(name) {
+        Some(path) => Ok(Some(Text::copy_of(alloc, path.as_bytes())?)),
         None => Ok(None),
     }
+}
+
+/// What the words after `plan` ask for.
+fn plan_of(alloc: Global, plan: &ArgMatches<'_>) -> Result<Request, AllocError>
+    ensures { IfOk result (λ request. IsRequest request) }
+{
+    let path = match plan.get_str("file") {
+        Some("-") => None,
+        _ => path_of(alloc, plan, "file")?,
+    };
+    Ok(Request::Plan(options_of(plan), path))
 }
 
 /// The paths that the words after `gather` say.
@@ -134,13 +172,11 @@ fn paths_of(alloc: Global, gather: &ArgMatches<'_>) -> Result<Paths, AllocError>
 fn request_of(alloc: Global, name: &str, words: &ArgMatches<'_>) -> Request
     ensures { IsRequest result }
 {
-    if name == "plan" {
-        return Request::Plan(options_of(words));
-    }
-    match paths_of(alloc, words) {
-        Ok(paths) => Request::Gather(paths),
-        Err(_) => Request::Fault(RunFault::Memory),
-    }
+    let request = match name {
+        "plan" => plan_of(alloc, words),
+        _ => paths_of(alloc, words).map(Request::Gather),
+    };
+    request.unwrap_or(Request::Fault(RunFault::Memory))
 }
 
 /// What is asked for where the words can't be had. A word that isn't UTF-8 is a fault of the command line, even in the place of a path.
@@ -161,11 +197,12 @@ fn request_without_words<R: Eprint>(rt: &R, error: &io::Error) -> Request
 fn request_of_error<R: Print + Eprint>(rt: &R, error: &clap::Error) -> Request
     ensures memory { kind_of error.now ≡ ErrorKind.OutOfMemory → result ≡ Request.Fault RunFault.Memory }
     ensures help { kind_of error.now ≡ ErrorKind.DisplayHelp → (result ≡ Request.Help) ⊎ (result ≡ Request.Fault RunFault.Write) }
-    ensures unknown { kind_of error.now ≢ ErrorKind.OutOfMemory → kind_of error.now ≢ ErrorKind.DisplayHelp → result ≡ Request.Unknown }
+    ensures version { kind_of error.now ≡ ErrorKind.DisplayVersion → (result ≡ Request.Help) ⊎ (result ≡ Request.Fault RunFault.Write) }
+    ensures unknown { kind_of error.now ≢ ErrorKind.OutOfMemory → kind_of error.now ≢ ErrorKind.DisplayHelp → kind_of error.now ≢ ErrorKind.DisplayVersion → result ≡ Request.Unknown }
 {
     match error.kind() {
         ErrorKind::OutOfMemory => Request::Fault(RunFault::Memory),
-        ErrorKind::DisplayHelp => match error.print(rt) {
+        ErrorKind::DisplayHelp | ErrorKind::DisplayVersion => match error.print(rt) {
             Ok(()) => Request::Help,
             Err(_) => Request::Fault(RunFault::Write),
         },

@@ -35,6 +35,14 @@ fn opening_fault(error: &Error) -> SourceFault
     }
 }
 
+/// The file of a path, opened. A path that isn't UTF-8, or has a byte of 0, fails.
+pub fn open<R: Files>(rt: &R, path: &[u8]) -> Result<R::File, SourceFault> {
+    let Ok(path) = str::from_utf8(path) else {
+        return Err(SourceFault::Failed);
+    };
+    fs::open(rt, path).map_err(|error| opening_fault(&error))
+}
+
 /// The bytes of an open file, as many as are read. The file is there, also where the system answers a read as if it weren't.
 fn bytes_of<F: Read + Drop>(alloc: Global, file: F) -> Result<Vec<u8>, SourceFault>
     ensures bytes { IfOk result (λ bytes. IfSome (F.remaining file) (λ whole. bytes.items ≡ take MOST whole)) }
@@ -54,14 +62,8 @@ impl<R: Files> Source for FileSource<'_, R> {
     // A file may change at any time, so nothing is told of the answers.
     ghost answer = { λ source path. unknown };
 
-    /// A path that isn't UTF-8, or has a byte of 0, fails.
     fn fetch(&mut self, alloc: Global, path: &[u8]) -> Result<Vec<u8>, SourceFault> {
-        let Ok(path) = str::from_utf8(path) else {
-            return Err(SourceFault::Failed);
-        };
-        match fs::open(self.rt, path) {
-            Ok(file) => bytes_of(alloc, file),
-            Err(error) => Err(opening_fault(&error)),
-        }
+        let file = open(self.rt, path)?;
+        bytes_of(alloc, file)
     }
 }

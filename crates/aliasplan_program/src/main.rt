@@ -1,5 +1,4 @@
-//! `aliasplan plan` reads a job on standard input and writes its plan on standard output; `aliasplan gather` writes a job of files that lie
-//! apart.
+//! `aliasplan plan` reads a job and writes its plan on standard output; `aliasplan gather` writes a job of files that lie apart.
 #![tactic(auto)]
 
 ghost use Rattle.std.specs.Prelude.{◌≡◌, ◌≢◌};
@@ -31,11 +30,13 @@ mod tests_signals;
 #[cfg(test)]
 mod tests_tables;
 
-use aliasplan::{Device, Limits, NoGate, Options, Paths, RunFault, gather, run};
+use aliasplan::{Device, Limits, NoGate, Options, Paths, RunFault, SourceFault, gather, run};
 use command_line::{Request, read_words};
 use file_source::FileSource;
+use relay_text::Text;
 use standard_input::StandardInput;
 use std::io;
+use std::io::Read;
 use std::process::ExitCode;
 use std::rt::Files;
 use std::thread::Threads;
@@ -98,14 +99,16 @@ fn refused<R: Eprint>(rt: &R, fault: RunFault) -> Status
     Status::of_fault(fault)
 }
 
-fn plan<R: Input + Print + Eprint + AllocGlobal + Threads + Sync>(
+/// Plans the job that a reader gives.
+fn plan<R: Print + Eprint + AllocGlobal + Threads + Sync, J: Read + Drop>(
     rt: &R,
+    job: J,
     options: Options,
 ) -> Status
     requires { AreOptions options }
     ensures { result ≢ Status.CommandLine }
 {
-    let mut reader = Device::new(StandardInput::new(rt.reader()));
+    let mut reader = Device::new(job);
     let mut writer = Device::new(io::writer(rt));
     match run(
         rt,
@@ -119,6 +122,22 @@ fn plan<R: Input + Print + Eprint + AllocGlobal + Threads + Sync>(
         Ok(summary) if summary.findings == 0 => Status::Done,
         Ok(_) => Status::Found,
         Err(fault) => refused(rt, fault),
+    }
+}
+
+/// Plans the job in the file of a path.
+fn plan_file<R: Files + Print + Eprint + AllocGlobal + Threads + Sync>(
+    rt: &R,
+    path: &Text,
+    options: Options,
+) -> Status
+    requires { AreOptions options }
+    ensures { result ≢ Status.CommandLine }
+{
+    match file_source::open(rt, path.as_bytes()) {
+        Ok(file) => plan(rt, file, options),
+        Err(SourceFault::Memory) => refused(rt, RunFault::Memory),
+        Err(_) => refused(rt, RunFault::Read),
     }
 }
 
@@ -141,7 +160,8 @@ fn answer<R: Input + Files + Print + Eprint + AllocGlobal + Threads + Sync>(
     ensures { IsStatusOf request result }
 {
     match request {
-        Request::Plan(options) => plan(rt, options),
+        Request::Plan(options, None) => plan(rt, StandardInput::new(rt.reader()), options),
+        Request::Plan(options, Some(path)) => plan_file(rt, &path, options),
         Request::Gather(paths) => gather_job(rt, &paths),
         Request::Help => Status::Done,
         Request::Unknown => Status::CommandLine,

@@ -23,10 +23,14 @@ pub enum Shape {
     Tree,
     /// Each to each other one.
     Complete,
+    /// One to each other one, and these back to it.
+    Star,
+    /// Each to two that are chosen at random.
+    Random,
 }
 
 impl Shape {
-    pub const ALL: [Shape; 7] = [
+    pub const ALL: [Shape; 9] = [
         Shape::Ring,
         Shape::Pairs,
         Shape::LineUp,
@@ -34,6 +38,8 @@ impl Shape {
         Shape::LineScattered,
         Shape::Tree,
         Shape::Complete,
+        Shape::Star,
+        Shape::Random,
     ];
 
     pub fn name(self) -> &'static str {
@@ -45,11 +51,13 @@ impl Shape {
             Shape::LineScattered => "line-scattered",
             Shape::Tree => "tree",
             Shape::Complete => "complete",
+            Shape::Star => "star",
+            Shape::Random => "random",
         }
     }
 
-    /// An alias file of this shape, where N aliases are asked for. There are N in a ring and in a tree, N / 10 pairs, and no more
-    /// than 2,000 where each leads to each other one.
+    /// An alias file of this shape, where N aliases are asked for. There are N / 10 pairs, no more than 2,000
+    /// where each leads to each other one, and N otherwise.
     pub fn text(self, alloc: Global, aliases: u32) -> Result<String, AllocError>
         requires { aliases ≤ 10000000 }
     {
@@ -58,9 +66,11 @@ impl Shape {
             Shape::Pairs => pairs(alloc, aliases / 10),
             Shape::LineUp => line(alloc, aliases / 10, &upward(alloc, aliases / 10)?),
             Shape::LineDown => line(alloc, aliases / 10, &downward(alloc, aliases / 10)?),
-            Shape::LineScattered => line(alloc, aliases / 10, &scattered(alloc, aliases / 10)?),
+            Shape::LineScattered => line(alloc, aliases / 10, &scattered(alloc, aliases / 10, 1)?),
             Shape::Tree => tree(alloc, aliases),
             Shape::Complete => complete(alloc, aliases.min(2000)),
+            Shape::Star => star(alloc, aliases),
+            Shape::Random => random(alloc, aliases),
         }
     }
 }
@@ -93,9 +103,9 @@ fn downward(alloc: Global, pairs: u32) -> Result<Vec<u32>, AllocError> {
     (0..pairs).rev().collect(alloc)
 }
 
-fn scattered(alloc: Global, pairs: u32) -> Result<Vec<u32>, AllocError> {
+fn scattered(alloc: Global, pairs: u32, seed: u64) -> Result<Vec<u32>, AllocError> {
     let mut order = upward(alloc, pairs)?;
-    let mut rng = Xoshiro256PlusPlus::seed_from_u64(1);
+    let mut rng = Xoshiro256PlusPlus::seed_from_u64(seed);
     order.as_mut_slice().shuffle(&mut rng);
     Ok(order)
 }
@@ -148,6 +158,27 @@ fn complete(alloc: Global, aliases: u32) -> Result<String, AllocError> {
         write!(text, "a{k}: ")?;
         put_others(&mut text, aliases, k)?;
         text.push('\n')?;
+    }
+    Ok(text)
+}
+
+fn star(alloc: Global, aliases: u32) -> Result<String, AllocError> {
+    let mut text = String::new(alloc);
+    write!(text, "a0: ")?;
+    put_others(&mut text, aliases, 0)?;
+    text.push('\n')?;
+    for k in 1..aliases {
+        writeln!(text, "a{k}: a0")?;
+    }
+    Ok(text)
+}
+
+fn random(alloc: Global, aliases: u32) -> Result<String, AllocError> {
+    let first = scattered(alloc, aliases, 1)?;
+    let second = scattered(alloc, aliases, 2)?;
+    let mut text = String::new(alloc);
+    for (k, (one, other)) in first.iter().zip(second.iter()).enumerate() {
+        writeln!(text, "a{k}: a{one}, a{other}")?;
     }
     Ok(text)
 }

@@ -1,8 +1,9 @@
 //! The files that administrators write.
 use crate::inputs::are_texts;
-use crate::seen::{Answer, Seen, twice};
 use crate::teller::{Teller, call, case};
+use crate::twice::twice;
 use crate::unready::Unready;
+use growth_answers::{Answer, Seen};
 use relay_aliasfile::{
     AliasFile, Entry, FaultKind, IncludeFile, Item, Items, LineFault, include_names,
     include_names_of, parse_aliases, parse_include, parse_mailboxes,
@@ -110,7 +111,7 @@ fn are_items(items: &[Item], has_more: bool) -> bool {
                 [last] => has_more && is_bare(last, b"b"),
                 _ => false,
             };
-            are_more && [a, b, c, d].iter().all(|item| is_bare(item, b"a"))
+            are_more && is_bare(a, b"a") && is_bare(b, b"a") && is_bare(c, b"a") && is_bare(d, b"a")
         }
         _ => false,
     }
@@ -138,7 +139,7 @@ fn adds_to_items(alloc: Global) -> Result<Seen, Unready> {
     })
 }
 
-pub fn tell<R: Print + AllocGlobal>(teller: &mut Teller<'_, R>) {
+pub(crate) fn tell<R: Print + AllocGlobal>(teller: &mut Teller<'_, R>) {
     let alloc = teller.rt.alloc();
     call!(teller, "parse_aliases", reads_aliases(alloc));
     case!(teller, "include_names", lists_includes_of_aliases(alloc));

@@ -1,7 +1,8 @@
 //! Sets of keys and of texts, numbered in the order in which they came.
-use crate::seen::{Answer, Seen, twice};
 use crate::teller::{Teller, call, case};
+use crate::twice::twice;
 use crate::unready::Unready;
+use growth_answers::{Answer, Seen};
 use relay_chains::{ChainFault, Chains, Interner, Key};
 use std::alloc::Global;
 
@@ -154,7 +155,7 @@ fn interns_more_texts(alloc: Global) -> Result<Seen, Unready> {
     Ok(seen.max(Seen::at_once(Answer::given(are_right))))
 }
 
-pub fn tell<R: Print + AllocGlobal>(teller: &mut Teller<'_, R>) {
+pub(crate) fn tell<R: Print + AllocGlobal>(teller: &mut Teller<'_, R>) {
     let alloc = teller.rt.alloc();
     call!(teller, "Chains::new", makes_chains(alloc));
     case!(teller, "Chains::insert", inserts_keys(alloc));

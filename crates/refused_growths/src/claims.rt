@@ -2,9 +2,9 @@
 ghost use Rattle.std.specs.Prelude.{◌≡◌, IfOk};
 ghost use Rattle.relay_claims.specs.Seat.{IsSeatOf};
 
-use crate::seen::{Answer, Seen};
 use crate::teller::{Teller, call, case};
 use crate::unready::Unready;
+use growth_answers::{Answer, Seen};
 use relay_claims::{Claim, CloseFault, Key, Round, Seat};
 use std::alloc::Global;
 
@@ -74,7 +74,7 @@ fn closes(alloc: Global) -> Result<Seen, Unready> {
     }
 }
 
-pub fn tell<R: Print + AllocGlobal>(teller: &mut Teller<'_, R>) {
+pub(crate) fn tell<R: Print + AllocGlobal>(teller: &mut Teller<'_, R>) {
     let alloc = teller.rt.alloc();
     call!(teller, "Round::open", opens(alloc));
     call!(teller, "Round::draw", draws(alloc));

@@ -12,7 +12,7 @@ pub struct Page<'a> {
 impl<'a> Page<'a> {
     ghost use Rattle.std.specs.Prelude.{◌≡◌, false};
 
-    pub fn new(rest: &'a [u8]) -> Page<'a>
+    pub(crate) fn new(rest: &'a [u8]) -> Page<'a>
         ensures { result.ended ≡ false }
     {
         Page { rest, ended: false }
@@ -59,7 +59,7 @@ impl Paper {
     ghost use Rattle.std.specs.Prelude.{◌≡◌, IfOk, false};
 
     /// An empty one.
-    pub fn new(alloc: Global) -> Result<Paper, AllocError>
+    pub(crate) fn new(alloc: Global) -> Result<Paper, AllocError>
         ensures { IfOk result (λ paper. paper.failed ≡ false) }
     {
         Ok(Paper {

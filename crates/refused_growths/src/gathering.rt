@@ -2,10 +2,11 @@
 ghost use Rattle.relay_gather.specs.Source.{unknown};
 
 use crate::devices::Paper;
-use crate::seen::{Answer, Seen, twice};
 use crate::teller::{Teller, call, case};
+use crate::twice::twice;
 use crate::unready::Unready;
 use aliasplan::{Paths, RunFault, Source, SourceFault, gather};
+use growth_answers::{Answer, Seen};
 use relay_gather::gathered_text;
 use relay_text::Text;
 use std::alloc::{AllocError, Global};
@@ -83,7 +84,7 @@ fn gathers(alloc: Global) -> Result<Answer, Unready> {
     gathered(alloc, &paths)
 }
 
-pub fn tell<R: Print + AllocGlobal>(teller: &mut Teller<'_, R>) {
+pub(crate) fn tell<R: Print + AllocGlobal>(teller: &mut Teller<'_, R>) {
     let alloc = teller.rt.alloc();
     case!(teller, "gathered_text", gathers_a_text(alloc));
     call!(teller, "gather", gathers(alloc));

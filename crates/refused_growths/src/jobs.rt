@@ -1,8 +1,8 @@
 //! Jobs and their plans' texts, worked by hand, and what a job says.
 use crate::inputs::{are_texts, is_address};
-use crate::seen::Answer;
 use crate::teller::{Teller, call};
 use crate::unready::Unready;
+use growth_answers::Answer;
 use relay_job::{Job, RunFault, Settings, parse_job};
 use relay_routes::Transport;
 use std::alloc::Global;
@@ -186,7 +186,7 @@ fn reads_a_job_of_lists(alloc: Global) -> Result<Answer, Unready> {
     }
 }
 
-pub fn tell<R: Print + AllocGlobal>(teller: &mut Teller<'_, R>) {
+pub(crate) fn tell<R: Print + AllocGlobal>(teller: &mut Teller<'_, R>) {
     let alloc = teller.rt.alloc();
     call!(teller, "parse_job", reads_a_job(alloc));
     call!(teller, "parse_job, lists", reads_a_job_of_lists(alloc));

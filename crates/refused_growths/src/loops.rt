@@ -3,10 +3,10 @@ ghost use Rattle.std.specs.Prelude.{◌≡◌, length, IfOk};
 ghost use Rattle.std.specs.List.{range_with_len};
 ghost use Rattle.relay_loops.specs.Loops.{IsClosedPart};
 
-use crate::seen::{Answer, Seen};
 use crate::tables::tables;
 use crate::teller::{Teller, case};
 use crate::unready::Unready;
+use growth_answers::{Answer, Seen};
 use relay_loops::{on_loops, whole_graphs};
 use relay_rounds::NoGate;
 use relay_tables::Graph;
@@ -48,7 +48,7 @@ fn finds_loops<R: Threads + Sync>(rt: &R, alloc: Global) -> Result<Seen, Unready
     })
 }
 
-pub fn tell<R: Print + AllocGlobal + Threads + Sync>(teller: &mut Teller<'_, R>) {
+pub(crate) fn tell<R: Print + AllocGlobal + Threads + Sync>(teller: &mut Teller<'_, R>) {
     let rt = teller.rt;
     let alloc = rt.alloc();
     case!(teller, "on_loops", finds_loops(rt, alloc));

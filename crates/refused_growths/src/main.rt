@@ -19,10 +19,10 @@ mod rings;
 mod rounds;
 mod routes;
 mod running;
-mod seen;
 mod tables;
 mod teller;
 mod texts;
+mod twice;
 mod unready;
 mod wire;
 

@@ -2,10 +2,10 @@
 ghost use Rattle.relay_pairs.specs.Pairs.{ArePairs};
 
 use crate::inputs::address;
-use crate::seen::{Answer, Seen};
 use crate::tables::{OWNED, tables};
 use crate::teller::{Teller, case};
 use crate::unready::Unready;
+use growth_answers::{Answer, Seen};
 use relay_pairs::{Reached, reached_nodes, reached_pairs};
 use relay_rounds::{NoGate, ReachFault};
 use relay_tables::Graph;
@@ -65,7 +65,7 @@ fn lists_nodes<R: Threads + Sync>(rt: &R, alloc: Global) -> Result<Seen, Unready
     })
 }
 
-pub fn tell<R: Print + AllocGlobal + Threads + Sync>(teller: &mut Teller<'_, R>) {
+pub(crate) fn tell<R: Print + AllocGlobal + Threads + Sync>(teller: &mut Teller<'_, R>) {
     let rt = teller.rt;
     let alloc = rt.alloc();
     case!(teller, "reached_pairs", reaches_pairs(rt, alloc));

@@ -3,10 +3,10 @@ use crate::devices::Page;
 use crate::inputs::{are_texts, is_address};
 use crate::jobs::FIRST_JOB;
 use crate::running::{LIMITS, OPTIONS};
-use crate::seen::{Answer, Seen};
 use crate::teller::{Teller, call, case};
 use crate::unready::Unready;
 use aliasplan::{Job, NoGate, RunFault, parse_job, plan_job, read_job};
+use growth_answers::{Answer, Seen};
 use relay_routes::Transport;
 use relay_wire::{Plan, Planned};
 use std::alloc::Global;
@@ -57,7 +57,7 @@ fn plans_a_job<R: Threads + Sync>(rt: &R, alloc: Global) -> Result<Seen, Unready
     )
 }
 
-pub fn tell<R: Print + AllocGlobal + Threads + Sync>(teller: &mut Teller<'_, R>) {
+pub(crate) fn tell<R: Print + AllocGlobal + Threads + Sync>(teller: &mut Teller<'_, R>) {
     let rt = teller.rt;
     let alloc = rt.alloc();
     call!(teller, "read_job", reads_a_job(alloc));

@@ -1,9 +1,9 @@
 //! Lists per destination, and transactions within limits.
 ghost use Rattle.std.specs.Prelude.{◌≡◌, ◌<◌, length};
 
-use crate::seen::{Answer, Seen};
 use crate::teller::{Teller, call, case};
 use crate::unready::Unready;
+use growth_answers::{Answer, Seen};
 use relay_rings::{Placed, RingFault, Rings, Transaction, batches};
 use std::alloc::Global;
 
@@ -138,7 +138,7 @@ fn cuts_batches(alloc: Global) -> Result<Answer, Unready> {
     }
 }
 
-pub fn tell<R: Print + AllocGlobal>(teller: &mut Teller<'_, R>) {
+pub(crate) fn tell<R: Print + AllocGlobal>(teller: &mut Teller<'_, R>) {
     let alloc = teller.rt.alloc();
     call!(teller, "Rings::new", makes_rings(alloc));
     case!(teller, "Rings::append", appends(alloc));

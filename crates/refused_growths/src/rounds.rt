@@ -3,9 +3,10 @@ ghost use Rattle.std.specs.Prelude.{◌+◌, ◌*◌, ◌%◌, ◌≤◌, ◌^�
 ghost use Rattle.std.proofs.Common.{rules};
 ghost use Rattle.std.proofs.lemmas.Grind.{common_steps};
 
-use crate::seen::{Answer, Seen, twice};
 use crate::teller::{Teller, call};
+use crate::twice::twice;
 use crate::unready::Unready;
+use growth_answers::{Answer, Seen};
 use relay_rounds::{Key, NoGate, ReachFault, Steps, reach};
 use std::alloc::Global;
 use std::thread::Threads;
@@ -56,7 +57,7 @@ fn reaches_too_many<R: Threads + Sync>(rt: &R, alloc: Global) -> Result<Answer, 
     }
 }
 
-pub fn tell<R: Print + AllocGlobal + Threads + Sync>(teller: &mut Teller<'_, R>) {
+pub(crate) fn tell<R: Print + AllocGlobal + Threads + Sync>(teller: &mut Teller<'_, R>) {
     let rt = teller.rt;
     let alloc = rt.alloc();
     call!(teller, "reach", reaches_all(rt, alloc));

@@ -1,8 +1,9 @@
 //! Which transport, nexthop and hosts an address goes to.
 use crate::inputs::{address, are_texts};
-use crate::seen::{Answer, Seen, twice};
 use crate::teller::{Teller, call, case};
+use crate::twice::twice;
 use crate::unready::Unready;
+use growth_answers::{Answer, Seen};
 use relay_routes::{
     Choice, Destination, FaultKind, Hosts, LineFault, MxTable, Route, RouteSettings, Router,
     Transport, TransportTable, Unrouted, Via,
@@ -295,7 +296,7 @@ fn tell_of_destinations<R: Print + AllocGlobal>(teller: &mut Teller<'_, R>) {
     );
 }
 
-pub fn tell<R: Print + AllocGlobal>(teller: &mut Teller<'_, R>) {
+pub(crate) fn tell<R: Print + AllocGlobal>(teller: &mut Teller<'_, R>) {
     tell_of_tables(teller);
     tell_of_routes(teller);
     tell_of_destinations(teller);

@@ -3,10 +3,10 @@ ghost use Rattle.std.specs.Prelude.{◌≡◌, false};
 
 use crate::devices::{Page, Paper};
 use crate::jobs::{FIRST_JOB, FIRST_PLAN, LISTS_JOB, LISTS_PLAN, OWNERS_JOB, OWNERS_PLAN};
-use crate::seen::{Answer, Seen};
 use crate::teller::{Teller, case};
 use crate::unready::Unready;
 use aliasplan::{Form, Limits, NoGate, Options, RunFault, run};
+use growth_answers::{Answer, Seen};
 use std::alloc::Global;
 use std::thread::Threads;
 
@@ -72,7 +72,7 @@ fn runs_jobs<R: Threads + Sync>(rt: &R, alloc: Global) -> Result<Seen, Unready> 
     Ok(seen)
 }
 
-pub fn tell<R: Print + AllocGlobal + Threads + Sync>(teller: &mut Teller<'_, R>) {
+pub(crate) fn tell<R: Print + AllocGlobal + Threads + Sync>(teller: &mut Teller<'_, R>) {
     let rt = teller.rt;
     let alloc = rt.alloc();
     case!(teller, "run", runs_jobs(rt, alloc));

@@ -6,9 +6,10 @@ ghost use Rattle.relay_text.specs.Addresses.{is_origin};
 ghost use Rattle.relay_tables.specs.Parts.{is_good_include};
 
 use crate::inputs::{address, is_address};
-use crate::seen::{Answer, Seen, twice};
 use crate::teller::{Teller, call, case};
+use crate::twice::twice;
 use crate::unready::Unready;
+use growth_answers::{Answer, Seen};
 use relay_aliasfile::{parse_aliases, parse_include, parse_mailboxes};
 use relay_tables::{Graph, IncludeEntry, Local, Node, TableFault, Tables, parsed_files};
 use relay_text::{Address, Seq, Text};
@@ -52,7 +53,7 @@ fn built(
 }
 
 /// The tables of an alias file without include files.
-pub fn tables(alloc: Global, expand: bool, aliases: &[u8]) -> Result<Tables, Unready> {
+pub(crate) fn tables(alloc: Global, expand: bool, aliases: &[u8]) -> Result<Tables, Unready> {
     let tables = built(alloc, expand, aliases, Vec::new(alloc))??;
     Ok(tables)
 }
@@ -169,7 +170,7 @@ fn builds_no_larger_graph(alloc: Global) -> Result<Seen, Unready> {
     ))
 }
 
-pub fn tell<R: Print + AllocGlobal>(teller: &mut Teller<'_, R>) {
+pub(crate) fn tell<R: Print + AllocGlobal>(teller: &mut Teller<'_, R>) {
     let alloc = teller.rt.alloc();
     call!(teller, "Tables::build", builds_tables(alloc));
     case!(

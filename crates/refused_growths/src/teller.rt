@@ -1,6 +1,6 @@
 //! Tells how cases went, a line each.
-use crate::seen::Seen;
 use crate::unready::Unready;
+use growth_answers::Seen;
 
 /// The status of a process of which each call did as it ought.
 pub const DONE: u8 = 0;
@@ -26,7 +26,7 @@ pub struct Teller<'a, R> {
 }
 
 impl<'a, R: Print + AllocGlobal> Teller<'a, R> {
-    pub fn new(rt: &'a R, asked: Option<&'a str>) -> Teller<'a, R> {
+    pub(crate) fn new(rt: &'a R, asked: Option<&'a str>) -> Teller<'a, R> {
         Teller {
             rt,
             asked,
@@ -37,7 +37,7 @@ impl<'a, R: Print + AllocGlobal> Teller<'a, R> {
     }
 
     /// What the process is to end with.
-    pub fn status(&self) -> u8 {
+    pub(crate) fn status(&self) -> u8 {
         if self.wrong {
             WRONG
         } else if self.told && !self.silenced {
@@ -48,7 +48,7 @@ impl<'a, R: Print + AllocGlobal> Teller<'a, R> {
     }
 
     /// Whether a case is asked for.
-    pub fn is_asked(&self, name: &str) -> bool {
+    pub(crate) fn is_asked(&self, name: &str) -> bool {
         match self.asked {
             Some(asked) => asked == name,
             None => true,
@@ -56,7 +56,7 @@ impl<'a, R: Print + AllocGlobal> Teller<'a, R> {
     }
 
     /// Prints how a case went.
-    pub fn tell(&mut self, name: &str, went: Result<Seen, Unready>) {
+    pub(crate) fn tell(&mut self, name: &str, went: Result<Seen, Unready>) {
         let (words, is_right) = match went {
             Ok(Seen::Answered) => ("answered", true),
             Ok(Seen::Recovered) => ("refused, then answered", true),
@@ -89,8 +89,8 @@ macro_rules! call {
     ($teller:ident, $name:literal, $call:expr) => {
         if $teller.is_asked($name) {
             let went = match $call {
-                Ok($crate::seen::Answer::Refused) => $crate::seen::Seen::of_anew($call),
-                Ok(answer) => Ok($crate::seen::Seen::at_once(answer)),
+                Ok(growth_answers::Answer::Refused) => $crate::unready::made_anew($call),
+                Ok(answer) => Ok(growth_answers::Seen::at_once(answer)),
                 Err(unready) => Err(unready),
             };
             $teller.tell($name, went);

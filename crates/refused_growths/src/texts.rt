@@ -1,8 +1,9 @@
 //! Addresses, names and lines of text.
 use crate::inputs::{address, are_texts, is_address};
-use crate::seen::{Answer, Seen, twice};
 use crate::teller::{Teller, call, case};
+use crate::twice::twice;
 use crate::unready::Unready;
+use growth_answers::{Answer, Seen};
 use relay_text::{
     Address, FirstPlaces, Line, Text, TextFault, TextSet, logical_lines, parse_name, parse_path,
     quoted_content, write_local, write_path,
@@ -268,7 +269,7 @@ fn tell_of_sets<R: Print + AllocGlobal>(teller: &mut Teller<'_, R>) {
     call!(teller, "FirstPlaces::find", finds_first_places(alloc));
 }
 
-pub fn tell<R: Print + AllocGlobal>(teller: &mut Teller<'_, R>) {
+pub(crate) fn tell<R: Print + AllocGlobal>(teller: &mut Teller<'_, R>) {
     tell_of_addresses(teller);
     tell_of_names(teller);
     tell_of_texts(teller);

@@ -1,4 +1,5 @@
 //! Why a case didn't begin.
+use growth_answers::{Answer, Seen};
 use relay_job::RunFault;
 use relay_rounds::ReachFault;
 use relay_routes::Unrouted;
@@ -60,5 +61,14 @@ impl From<RunFault> for Unready {
             RunFault::Memory => Unready::NoMemory,
             _ => Unready::Wrong,
         }
+    }
+}
+
+/// How a case went of which the first call was refused, after the same call with inputs of its own.
+pub(crate) fn made_anew(second: Result<Answer, Unready>) -> Result<Seen, Unready> {
+    match second {
+        Ok(answer) => Ok(Seen::at_last(answer)),
+        Err(Unready::NoMemory) => Ok(Seen::RefusedTwice),
+        Err(Unready::Wrong) => Err(Unready::Wrong),
     }
 }

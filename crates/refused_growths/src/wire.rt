@@ -1,8 +1,9 @@
 //! The texts of a plan of one transaction, from `a@example.net` to joe's mailbox.
 use crate::inputs::{address, is_address};
-use crate::seen::{Answer, Seen, twice};
 use crate::teller::{Teller, call, case};
+use crate::twice::twice;
 use crate::unready::Unready;
+use growth_answers::{Answer, Seen};
 use relay_routes::{Hosts, Transport};
 use relay_text::{Address, Seq, Text};
 use relay_wire::{
@@ -122,7 +123,7 @@ fn reads_a_script(alloc: Global) -> Result<Answer, Unready> {
     }
 }
 
-pub fn tell<R: Print + AllocGlobal>(teller: &mut Teller<'_, R>) {
+pub(crate) fn tell<R: Print + AllocGlobal>(teller: &mut Teller<'_, R>) {
     let alloc = teller.rt.alloc();
     case!(teller, "plan_text", writes_a_plan(alloc));
     case!(teller, "wire_text", writes_commands(alloc));

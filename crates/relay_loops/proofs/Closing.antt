@@ -1,67 +1,76 @@
--- The closures of steps within a part.
-use Rattle.std.proofs.Common.{All, filter, Result, Ok, Err, IfOk, OnOk, ◌≡◌, ℕ, ◌<◌, ◌≤◌, ◌==◌, true, List, [], length, get_or, Contains, refl, sym, ◌∙◌, subst, ◌⊎◌, inl, inr, arith, zero-add}
+-- The closures of a search's steps.
+use Rattle.std.proofs.Common.{All, Result, Ok, Err, IfOk, OnOk, ◌≡◌, ℕ, ◌<◌, ◌≤◌, ◌==◌, true, List, [], length, get_or, Contains, refl, sym, ◌∙◌, subst, ◌⊎◌, inl, inr, arith, zero-add}
 use Rattle.std.proofs.lemmas.List.FromFn.{length-range_with_len, get_or-range_with_len}
 use Rattle.std.specs.List.{list_any, range_with_len}
 use Rattle.std.proofs.lemmas.Bool.{cases_Bool}
 use Rattle.std.proofs.lemmas.Bool.Decides.{eqb_tells}
 use Rattle.std.proofs.lemmas.List.Elements.{Contains-get_or}
-use Rattle.relay_rounds.specs.Closures.{IsClosureOf, HasMoreReached}
+use Rattle.relay_rounds.specs.Closures.{IsClosureOf, IsReachedKey, HasMoreReached}
 use Rattle.relay_tables.specs.GraphParts.{GraphParts}
 use Rattle.relay_tables.specs.Graphs.{child_numbers, parent_numbers}
 use Rattle.relay_loops.specs.declared.place.Place.{Place}
-use Rattle.relay_loops.specs.declared.place.Place.TheVariants.{Ahead}
-use Rattle.relay_loops.specs.Inner.{left-below, same_part-left, inner_keys-below}
-use Rattle.relay_loops.specs.Parts.{place_at, is_same_part, inner_key, inner_keys, starts_of, is_head, IsInnerStep}
-use Rattle.relay_loops.proofs.Members.{Contains-map, Contains-from_map, Contains-filter, Contains-from_filter, Contains-from_flat_map, some_passes, passes_some}
-use Rattle.relay_loops.proofs.Placing.{same_part-equal, same_part-first, same_part-itself}
+use Rattle.relay_loops.specs.declared.direction.Direction.{Direction}
+use Rattle.relay_loops.specs.Bounds.{open_keys-below}
+use Rattle.relay_loops.specs.Judging.{Leads}
+use Rattle.relay_loops.specs.Places.{place_at, is_open, near_numbers, open_key, open_keys}
+use Rattle.relay_loops.specs.Searches.{AreWithin}
+use Rattle.relay_loops.proofs.Members.{Contains-map, Contains-from_map, Contains-filter, Contains-from_filter, some_passes, passes_some}
 use Rattle.relay_loops.proofs.Reaching.{reached_below, few_reached}
-use Rattle.relay_loops.proofs.Walking.{Leads, leads_last}
+use Rattle.relay_loops.proofs.Walking.{leads_here, leads_last, leads_on, leads_lazy}
+
+-- a root is reached, and so is what a reached key leads to
+pub reached_root : (next : ℕ → List ℕ) (roots : List ℕ) (x : ℕ) → Contains roots x → IsReachedKey next roots x
+reached_root next roots x c = (x, [], c, refl)
+
+pub reached_leads : (next : ℕ → List ℕ) (roots : List ℕ) (x : ℕ) → IsReachedKey next roots x → (from : ℕ) × Contains roots from × Leads (λ a b. Contains (next a) b) from x
+reached_leads next roots x r =
+    let way : Leads (λ a b. Contains (next a) b) r.0 x = record { path = r.1; walk = r.3 } in
+    (r.0, r.2, way)
+
+pub reached_on : (next : ℕ → List ℕ) (roots : List ℕ) (x y : ℕ) → IsReachedKey next roots x → Leads (λ a b. Contains (next a) b) x y → IsReachedKey next roots y
+reached_on next roots x y r more =
+    let first = reached_leads next roots x r in
+    let way : Leads (λ a b. Contains (next a) b) first.0 y = leads_on (λ a b. Contains (next a) b) first.0 x y first.2 more in
+    (first.0, way.path, first.1, way.walk)
+
+pub reached_step : (next : ℕ → List ℕ) (roots : List ℕ) (x y : ℕ) → IsReachedKey next roots x → Contains (next x) y → IsReachedKey next roots y
+reached_step next roots x y r step =
+    reached_on next roots x y r (leads_last (λ a b. Contains (next a) b) x x y (leads_here (λ a b. Contains (next a) b) x) step)
 
 module _ (next : ℕ → List ℕ) (roots keys : List ℕ) (closed : IsClosureOf next roots keys) where
   pub closed_root : (x : ℕ) → Contains roots x → Contains keys x
-  closed_root x c = (closed.members x).1 (x, [], c, refl)
-
-  pub closed_leads : (x : ℕ) → Contains keys x → (from : ℕ) × Contains roots from × Leads (λ a b. Contains (next a) b) from x
-  closed_leads x c =
-      let r = (closed.members x).0 c in
-      let way : Leads (λ a b. Contains (next a) b) r.0 x = record { path = r.1; walk = r.3 } in
-      (r.0, r.2, way)
+  closed_root x c = (closed.members x).1 (reached_root next roots x c)
 
   pub closed_step : (x y : ℕ) → Contains keys x → Contains (next x) y → Contains keys y
-  closed_step x y c step =
-      let r = closed_leads x c in
-      let way : Leads (λ a b. Contains (next a) b) r.0 y = leads_last (λ a b. Contains (next a) b) r.0 x y r.2 step in
-      (closed.members y).1 (r.0, way.path, r.1, way.walk)
+  closed_step x y c step = (closed.members y).1 (reached_step next roots x y ((closed.members x).0 c) step)
 
--- a near node in the same part is a step
-pub inner_step : (places : List Place) (near : List ℕ) (x y : ℕ) → Contains near y → is_same_part (place_at places x) (place_at places y) ≡ true → Contains (inner_keys places x near) y
-inner_step places near x y c together =
-    let e : inner_key places x y ≡ y = rw together in
-    subst (λ (z : ℕ). Contains (inner_keys places x near) z) e (Contains-map (inner_key places x) near y c)
+-- an open node is a step
+pub open_step : (d : Direction) (places : List Place) (near : List ℕ) (x y : ℕ) → Contains near y → is_open d (place_at places y) ≡ true → Contains (open_keys d places x near) y
+open_step d places near x y c here =
+    let e : open_key d places x y ≡ y = rw here in
+    subst (λ (z : ℕ). Contains (open_keys d places x near) z) e (Contains-map (open_key d places x) near y c)
 
--- a step leads to a near node in the same part, or nowhere
-pub inner_from_step : (places : List Place) (near : List ℕ) (x y : ℕ) → Contains (inner_keys places x near) y → (x ≡ y) ⊎ (Contains near y × (is_same_part (place_at places x) (place_at places y) ≡ true))
-inner_from_step places near x y c =
-    let r = Contains-from_map (inner_key places x) near y c in
-    elim (cases_Bool (is_same_part (place_at places x) (place_at places r.0))) [
-      | inl together ↦
-          let e : r.0 ≡ y = sym (rw together) ∙ r.2 in
-          inr (subst (λ (z : ℕ). Contains near z × (is_same_part (place_at places x) (place_at places z) ≡ true)) e (r.1, together))
-      | inr apart ↦ let e : inner_key places x r.0 ≡ x = rw apart in inl (sym e ∙ r.2)
+-- a step leads to a near node, or nowhere
+pub open_from_step : (d : Direction) (places : List Place) (near : List ℕ) (x y : ℕ) → Contains (open_keys d places x near) y → (x ≡ y) ⊎ Contains near y
+open_from_step d places near x y c =
+    let r = Contains-from_map (open_key d places x) near y c in
+    elim (cases_Bool (is_open d (place_at places r.0))) [
+      | inl here ↦ let e : r.0 ≡ y = sym (rw here) ∙ r.2 in inr (subst (λ (z : ℕ). Contains near z) e r.1)
+      | inr other ↦ let e : open_key d places x r.0 ≡ x = rw other in inl (sym e ∙ r.2)
     ]
 
-pub same_part-turned : (a b : Place) → is_same_part a b ≡ true → is_same_part b a ≡ true
-same_part-turned a b h =
-    subst (λ (z : Place). is_same_part z a ≡ true) (same_part-equal a b h) (same_part-itself a (same_part-first a b h))
+-- what a search comes to by its steps, it comes to along near nodes
+pub open_leads : (g : GraphParts) (d : Direction) (places : List Place) (x y : ℕ) → Leads (λ a b. Contains (open_keys d places a (near_numbers g d a)) b) x y → Leads (λ a b. Contains (near_numbers g d a) b) x y
+open_leads g d places x y way =
+    leads_lazy (λ a b. Contains (open_keys d places a (near_numbers g d a)) b) (λ a b. Contains (near_numbers g d a) b) (λ a b step. open_from_step d places (near_numbers g d a) a b step) x y way
 
 -- a parent of a child
-pub parent_of_child : (g : GraphParts) (places : List Place) (x y : ℕ) → length places ≤ length g.nodes → IsInnerStep g places x y → Contains (parent_numbers g y) x
-parent_of_child g places x y in_graph step =
-    let below : x < length places = left-below places x (same_part-first (place_at places x) (place_at places y) step.together) in
-    let in_range : Contains (range_with_len 0 (length g.nodes)) x = (x, rw length-range_with_len (omega arith), get_or-range_with_len 0 (length g.nodes) x x (omega arith) ∙ zero-add x) in
+pub parent_of_child : (g : GraphParts) (x y : ℕ) → x < length g.nodes → Contains (child_numbers g x) y → Contains (parent_numbers g y) x
+parent_of_child g x y below along =
+    let in_range : Contains (range_with_len 0 (length g.nodes)) x = (x, rw length-range_with_len below, get_or-range_with_len 0 (length g.nodes) x x below ∙ zero-add x) in
     let same : (y == y) ≡ true = elim (eqb_tells y y) [ inl h ↦ h.0 | inr differ ↦ absurd (differ.1 refl) ] in
     Contains-filter (λ (p : ℕ). list_any (λ (c : ℕ). c == y) (child_numbers g p)) (range_with_len 0 (length g.nodes)) x in_range
-    (some_passes (λ (c : ℕ). c == y) (child_numbers g x) y step.along same)
+    (some_passes (λ (c : ℕ). c == y) (child_numbers g x) y along same)
 
 pub child_of_parent : (g : GraphParts) (x y : ℕ) → Contains (parent_numbers g y) x → Contains (child_numbers g x) y
 child_of_parent g x y c =
@@ -70,30 +79,21 @@ child_of_parent g x y c =
     let e : r.0 ≡ y = elim (eqb_tells r.0 y) [ inl h ↦ h.1 | inr differ ↦ let q = differ.0 in let q' = r.2 in cc ] in
     subst (λ (z : ℕ). Contains (child_numbers g x) z) e r.1
 
--- steps within parts stay below the number of places
-pub closed_below : (places : List Place) (near : ℕ → List ℕ) (roots keys : List ℕ) → IsClosureOf (λ key. inner_keys places key (near key)) roots keys → All (λ n. n < length places) roots → All (λ n. n < length places) keys
-closed_below places near roots keys closed below k d inside =
-    let x : ℕ = get_or keys k d in
-    reached_below (λ key. inner_keys places key (near key)) roots (length places) (λ key h. inner_keys-below places key (near key) h) below x ((closed.members x).0 (Contains-get_or keys k d inside))
+module _ (g : GraphParts) (d : Direction) (places : List Place) (roots : List ℕ) (below : All (λ n. n < length places) roots) where
+  -- a search stays below the number of places
+  pub closed_below : (keys : List ℕ) → IsClosureOf (λ key. open_keys d places key (near_numbers g d key)) roots keys → All (λ n. n < length places) keys
+  closed_below keys closed k e inside =
+      let x : ℕ = get_or keys k e in
+      reached_below (λ key. open_keys d places key (near_numbers g d key)) roots (length places) (λ key h. open_keys-below d places key (near_numbers g d key) h) below x ((closed.members x).0 (Contains-get_or keys k e inside))
 
--- a limit that isn't below the number of places is never reached
-pub none_refused : (places : List Place) (near : ℕ → List ℕ) (roots : List ℕ) (limit : ℕ) → All (λ n. n < length places) roots → length places ≤ limit → HasMoreReached (λ key. inner_keys places key (near key)) roots limit → ⊥
-none_refused places near roots limit below few more =
-    let reached = few_reached (λ key. inner_keys places key (near key)) roots (length places) (λ key h. inner_keys-below places key (near key) h) below limit more in
-    omega arith
+  -- a limit that isn't below the number of places is never reached
+  pub none_refused : (limit : ℕ) → length places ≤ limit → HasMoreReached (λ key. open_keys d places key (near_numbers g d key)) roots limit → ⊥
+  none_refused limit few more =
+      let reached = few_reached (λ key. open_keys d places key (near_numbers g d key)) roots (length places) (λ key h. open_keys-below d places key (near_numbers g d key) h) below limit more in
+      omega arith
 
-pub starts_below : (g : GraphParts) (places : List Place) (pivots : List ℕ) → All (λ n. n < length places) (starts_of g places pivots)
-starts_below g places pivots k d inside =
-    let x : ℕ = get_or (starts_of g places pivots) k d in
-    let s = Contains-from_flat_map (λ (pivot : ℕ). filter (λ (n : ℕ). is_same_part (place_at places pivot) (place_at places n)) (child_numbers g pivot)) pivots x (Contains-get_or (starts_of g places pivots) k d inside) in
-    let f = Contains-from_filter (λ (n : ℕ). is_same_part (place_at places s.0) (place_at places n)) (child_numbers g s.0) x s.2 in
-    left-below places x (same_part-left (place_at places s.0) (place_at places x) f.1)
-
-pub heads_below : (places : List Place) (pivots : List ℕ) → All (λ n. n < length places) (filter (is_head places) pivots)
-heads_below places pivots k d inside =
-    let x : ℕ = get_or (filter (is_head places) pivots) k d in
-    let f = Contains-from_filter (is_head places) pivots x (Contains-get_or (filter (is_head places) pivots) k d inside) in
-    left-below places x (same_part-first (place_at places x) (Ahead x) f.1)
+pub all_within : (places : List Place) (nodes : List ℕ) → AreWithin places nodes → All (λ n. n < length places) nodes
+all_within places nodes within k e inside = within (get_or nodes k e) (Contains-get_or nodes k e inside)
 
 -- what holds of an answer that is handed on
 pub known_ok : {X E F : Type 0} (r : Result X E) (q : Result X F) (P : X → Type 0) → IfOk q (λ x. r ≡ Ok x) → IfOk r P → IfOk q P

@@ -3,8 +3,9 @@ pub mod Walking
 pub mod Reaching
 pub mod Placing
 pub mod Closing
-pub mod Ends
-pub mod Choosing
-pub mod Division
-pub mod Bounds
+pub mod Taking
+pub mod Searching
+pub mod Judging
+pub mod Answering
+pub mod Naming
 pub mod Whole

@@ -1,51 +1,84 @@
 -- Places, and what changes of them say.
-use Rattle.std.proofs.Common.{set, get_or-set_same, get_or-set_other, get_or-take, length-take-le, add-one, ◌+◌, ◌++◌, ◌≢◌, take, ◌≡◌, ℕ, ◌<◌, zero, suc, true, false, List, [], ◌∷◌, length, get_or, refl, subst, sym, ap, ◌∙◌, inl, inr, arith, Contains}
-use Rattle.std.specs.List.Sorted.{IsStrictlyIncreasing}
+use Rattle.std.proofs.Common.{set, get_or-set_same, get_or-set_other, ◌+◌, ◌++◌, ◌≢◌, take, ◌≡◌, ℕ, ◌<◌, zero, suc, true, false, List, [], ◌∷◌, length, get_or, refl, subst, sym, ap, ◌∙◌, inl, inr, arith, Contains}
 use Rattle.std.proofs.lemmas.Bool.Decides.{eqb_tells}
 use Rattle.std.proofs.lemmas.List.Elements.{Contains-push_cases, Contains-append_left, Contains-push}
 use Rattle.std.proofs.lemmas.List.{take_more}
 use Rattle.relay_loops.specs.declared.place.Place.{Place}
-use Rattle.relay_loops.specs.declared.place.Place.TheVariants.{Whole, Ahead, Looped, Clear}
+use Rattle.relay_loops.specs.declared.place.Place.TheVariants.{Left, Ahead, Around, Looped, Clear}
+use Rattle.relay_loops.specs.declared.direction.Direction.{Direction}
+use Rattle.relay_loops.specs.declared.direction.Direction.TheVariants.{Onward, Backward}
+use Rattle.relay_loops.specs.Bounds.{open-below}
+use Rattle.relay_loops.specs.Places.{place_at, is_left, is_ahead, is_looped, is_open, is_resting, met_place, settled, IsChangedAt}
 use Rattle.relay_loops.proofs.Members.{contains_dec}
-use Rattle.relay_loops.specs.Parts.{place_at, is_left, is_same_part, cleared, IsChangedAt}
 
-pub same_part-equal : (a b : Place) → is_same_part a b ≡ true → a ≡ b
-same_part-equal Whole Whole h = refl
-same_part-equal (Ahead p) (Ahead q) h =
-    elim (eqb_tells p q) [ inl same ↦ ap Ahead same.1 | inr differ ↦ cc ]
-same_part-equal a b h = cc
+pub met-not_open : (d : Direction) → is_open d (met_place d) ≡ false
+met-not_open Onward = refl
+met-not_open Backward = refl
 
-pub same_part-itself : (a : Place) → is_left a ≡ true → is_same_part a a ≡ true
-same_part-itself Whole h = refl
-same_part-itself (Ahead p) h = elim (eqb_tells p p) [ inl same ↦ same.0 | inr differ ↦ absurd (differ.1 refl) ]
-same_part-itself Looped h = cc
-same_part-itself Clear h = cc
+pub left_place : (p : Place) → is_left p ≡ true → p ≡ Left
+left_place Left h = refl
+left_place Ahead h = cc
+left_place Around h = cc
+left_place Looped h = cc
+left_place Clear h = cc
 
-pub same_part-first : (a b : Place) → is_same_part a b ≡ true → is_left a ≡ true
-same_part-first Whole b h = refl
-same_part-first (Ahead p) b h = refl
-same_part-first a b h = cc
+pub ahead_place : (p : Place) → is_ahead p ≡ true → p ≡ Ahead
+ahead_place Ahead h = refl
+ahead_place Left h = cc
+ahead_place Around h = cc
+ahead_place Looped h = cc
+ahead_place Clear h = cc
 
-pub cleared-left : (a : Place) → is_left (cleared a) ≡ false
-cleared-left Whole = refl
-cleared-left (Ahead p) = refl
-cleared-left Looped = refl
-cleared-left Clear = refl
+pub looped_place : (p : Place) → is_looped p ≡ true → p ≡ Looped
+looped_place Looped h = refl
+looped_place Left h = cc
+looped_place Ahead h = cc
+looped_place Around h = cc
+looped_place Clear h = cc
 
-pub cleared-twice : (a : Place) → cleared (cleared a) ≡ cleared a
-cleared-twice Whole = refl
-cleared-twice (Ahead p) = refl
-cleared-twice Looped = refl
-cleared-twice Clear = refl
+pub settled-resting : (p : Place) → is_resting (settled p) ≡ true
+settled-resting Left = refl
+settled-resting Ahead = refl
+settled-resting Around = refl
+settled-resting Looped = refl
+settled-resting Clear = refl
 
-pub cleared-looped : (a : Place) → cleared a ≡ Looped → a ≡ Looped
-cleared-looped Whole h = cc
-cleared-looped (Ahead p) h = cc
-cleared-looped Looped h = refl
-cleared-looped Clear h = cc
+pub resting-settled : (p : Place) → is_resting p ≡ true → settled p ≡ p
+resting-settled Left h = refl
+resting-settled Ahead h = cc
+resting-settled Around h = cc
+resting-settled Looped h = refl
+resting-settled Clear h = refl
+
+pub settled-twice : (p : Place) → settled (settled p) ≡ settled p
+settled-twice Left = refl
+settled-twice Ahead = refl
+settled-twice Around = refl
+settled-twice Looped = refl
+settled-twice Clear = refl
+
+-- a place that no search marks is settled
+pub settled-other : (p : Place) → (p ≡ Ahead → ⊥) → (p ≡ Around → ⊥) → settled p ≡ p
+settled-other Left a b = refl
+settled-other Ahead a b = absurd (a refl)
+settled-other Around a b = absurd (b refl)
+settled-other Looped a b = refl
+settled-other Clear a b = refl
+
+pub left-below : (places : List Place) (n : ℕ) → place_at places n ≡ Left → n < length places
+left-below places n e = open-below Onward places n (ap is_left e)
+
+pub ahead-below : (places : List Place) (n : ℕ) → place_at places n ≡ Ahead → n < length places
+ahead-below places n e = open-below Backward places n (ap is_ahead e)
+
+pub met-below : (d : Direction) (places : List Place) (n : ℕ) → place_at places n ≡ met_place d → n < length places
+met-below Onward places n e = ahead-below places n e
+met-below Backward [] n e = cc
+met-below Backward (x ∷ xs) zero e = omega arith
+met-below Backward (x ∷ xs) (suc n) e = let r = met-below Backward xs n e in omega arith
 
 -- what a change of one more node's place makes of the places
-pub changed_more : (change : Place → Place) (nodes : List ℕ) (i : ℕ) (old cur new : List Place) → i < length nodes → IsChangedAt change (take i nodes) old cur → place_at new (get_or nodes i 0) ≡ change (place_at old (get_or nodes i 0)) → ((n : ℕ) → n ≢ get_or nodes i 0 → place_at new n ≡ place_at cur n) → IsChangedAt change (take (i + 1) nodes) old new
+changed_more : (change : Place → Place) (nodes : List ℕ) (i : ℕ) (old cur new : List Place) → i < length nodes → IsChangedAt change (take i nodes) old cur → place_at new (get_or nodes i 0) ≡ change (place_at old (get_or nodes i 0)) → ((n : ℕ) → n ≢ get_or nodes i 0 → place_at new n ≡ place_at cur n) → IsChangedAt change (take (i + 1) nodes) old new
 changed_more change nodes i old cur new below before here others =
     let x : ℕ = get_or nodes i 0 in
     let more : take (i + 1) nodes ≡ take i nodes ++ x ∷ [] = take_more nodes i 0 below in
@@ -80,36 +113,3 @@ changed_again change twice nodes old cur before n =
       | inl c ↦ ap change (before.changed n c) ∙ twice (place_at old n)
       | inr absent ↦ ap change (before.same n absent)
     ]
-
-all_before : (nodes : List ℕ) (i : ℕ) → IsStrictlyIncreasing nodes → i < length nodes → (k : ℕ) → k < i → get_or nodes k 0 < get_or nodes i 0
-all_before nodes zero ascending below k h = absurd (omega arith)
-all_before nodes (suc i) ascending below k h =
-    let step : get_or nodes i 0 < get_or nodes (i + 1) 0 = ascending i (omega arith) in
-    let step' : get_or nodes i 0 < get_or nodes (suc i) 0 = subst (λ (m : ℕ). get_or nodes i 0 < get_or nodes m 0) (add-one i) step in
-    elim (eqb_tells k i) [
-      | inl same ↦ subst (λ (m : ℕ). get_or nodes m 0 < get_or nodes (suc i) 0) (sym same.1) step'
-      | inr differ ↦
-          let other : k ≢ i = differ.1 in
-          let earlier : get_or nodes k 0 < get_or nodes i 0 = all_before nodes i ascending (omega arith) k (omega arith) in
-          omega arith
-    ]
-
-pub get_or-default : (nodes : List ℕ) (k a b : ℕ) → k < length nodes → get_or nodes k a ≡ get_or nodes k b
-get_or-default [] k a b h = absurd (omega arith)
-get_or-default (x ∷ xs) zero a b h = refl
-get_or-default (x ∷ xs) (suc k) a b h = get_or-default xs k a b (omega arith)
-
--- an ascending list has no node twice
-pub not_earlier : (nodes : List ℕ) (i : ℕ) → IsStrictlyIncreasing nodes → i < length nodes → ¬ Contains (take i nodes) (get_or nodes i 0)
-not_earlier nodes i ascending below c =
-    let k : ℕ = c.0 in
-    let lt : k < length (take i nodes) = c.1 in
-    let short : length (take i nodes) ≡ i = length-take-le i nodes (omega arith) in
-    let before : k < i = omega arith in
-    let inside : k < length nodes = omega arith in
-    let less : get_or nodes k 0 < get_or nodes i 0 = all_before nodes i ascending below k before in
-    let x : ℕ = get_or nodes i 0 in
-    let at : get_or (take i nodes) k x ≡ x = c.2 in
-    let same : get_or nodes k x ≡ x = sym (get_or-take i nodes k x before) ∙ at in
-    let same0 : get_or nodes k 0 ≡ x = get_or-default nodes k 0 x inside ∙ same in
-    omega arith

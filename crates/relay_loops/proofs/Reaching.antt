@@ -4,7 +4,8 @@ use Rattle.std.proofs.lemmas.List.Elements.{All-contains}
 use Rattle.std.proofs.lemmas.Map.Keys.{sorted_from_strictly_increasing}
 use Rattle.std.proofs.lemmas.Map.Views.{length-le_from_below}
 use Rattle.relay_rounds.specs.Closures.{IsReachedKey, HasMoreReached}
-use Rattle.relay_loops.proofs.Walking.{Leads, leads_keeps}
+use Rattle.relay_loops.specs.Judging.{Leads}
+use Rattle.relay_loops.proofs.Walking.{leads_keeps}
 
 module _ (next : ℕ → List ℕ) (roots : List ℕ) (bound : ℕ) (stays : (key : ℕ) → key < bound → All (λ n. n < bound) (next key)) (below : All (λ n. n < bound) roots) where
   pub reached_below : (key : ℕ) → IsReachedKey next roots key → key < bound

@@ -1,11 +1,7 @@
 -- Walks along a relation of numbers.
 use Rattle.std.proofs.Common.{◌≡◌, ℕ, List, [], ◌∷◌, ◌++◌, refl, sym, subst, ◌⊎◌, inl, inr}
 use Rattle.relay_rounds.specs.Walks.{IsWalk, IsOnCycle}
-
--- some walk leads from one to the other
-pub record Leads (next : ℕ → ℕ → Type 0) (from to : ℕ) : Type 0 where
-  pub path : List ℕ
-  pub walk : IsWalk next from path to
+use Rattle.relay_loops.specs.Judging.{Leads}
 
 module _ (next : ℕ → ℕ → Type 0) where
   pub leads_here : (a : ℕ) → Leads next a a
@@ -79,18 +75,13 @@ module _ (next other : ℕ → ℕ → Type 0) where
   pub leads_lazy : ((x y : ℕ) → next x y → (x ≡ y) ⊎ other x y) → (a b : ℕ) → Leads next a b → Leads other a b
   leads_lazy lazy a b r = walk_lazy lazy a b r.path r.walk
 
-  -- A cycle stays one where each of its steps does: those from which a walk leads back.
-  module _ (C : ℕ → Type 0) (keeps : (x y : ℕ) → next x y → Leads next y x → C x → other x y × C y) where
-    keep_walk : (a b : ℕ) (p : List ℕ) → IsWalk next a p b → Leads next b a → C a → IsWalk other a p b
-    keep_walk a b [] h back here = h
-    keep_walk a b (x ∷ p) h back here =
-        let rest : Leads next x b = record { path = p; walk = h.1 } in
-        let kept : other a x × C x = keeps a x h.0 (leads_on next x b a rest back) here in
-        (kept.0, keep_walk x b p h.1 (leads_last next b a x back h.0) kept.1)
+module _ (next : ℕ → ℕ → Type 0) (C : ℕ → Type 0) (keeps : (x y : ℕ) → next x y → Leads next y x → C x → C y) where
+  round_walk : (a b : ℕ) (p : List ℕ) → IsWalk next a p b → Leads next b a → C a → C b
+  round_walk a b [] h back here = subst C h here
+  round_walk a b (x ∷ p) h back here =
+      let rest : Leads next x b = record { path = p; walk = h.1 } in
+      round_walk x b p h.1 (leads_last next b a x back h.0) (keeps a x h.0 (leads_on next x b a rest back) here)
 
-    pub keep_cycle : (x : ℕ) → C x → IsOnCycle next x → IsOnCycle other x
-    keep_cycle x here cycle =
-        let back : Leads next cycle.0 x = record { path = cycle.1; walk = cycle.3 } in
-        let kept : other x cycle.0 × C cycle.0 = keeps x cycle.0 cycle.2 back here in
-        let once : Leads next x cycle.0 = leads_first next x cycle.0 cycle.0 cycle.2 (leads_here next cycle.0) in
-        (cycle.0, cycle.1, kept.0, keep_walk cycle.0 x cycle.1 cycle.3 once kept.1)
+  -- what the steps of a loop keep, the way along it keeps
+  pub round_keeps : (a b : ℕ) → Leads next a b → Leads next b a → C a → C b
+  round_keeps a b there back here = round_walk a b there.path there.walk back here

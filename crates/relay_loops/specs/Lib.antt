@@ -1,4 +1,6 @@
 pub mod Loops
-pub mod Parts
-pub mod Inner
-pub mod Counting
+pub mod Places
+pub mod Bounds
+pub mod Searches
+pub mod Judging
+pub mod Naming

@@ -1,13 +1,12 @@
 //! The answers of all nodes.
-ghost use Rattle.std.specs.Prelude.{◌≡◌, ◌≤◌, ◌<◌, ◌+◌, [], false, ℕ, length, filter, All, Contains, IfOk, OnOk};
-ghost use Rattle.relay_loops.specs.declared.place.Place.TheVariants.{Whole};
-ghost use Rattle.relay_loops.specs.Parts.{is_left, is_looped, place_at, HasPlaces, IsChangedAt, IsParting};
+ghost use Rattle.std.specs.Prelude.{◌≡◌, ◌<◌, [], false, length, filter, All, IfOk, OnOk};
+ghost use Rattle.relay_loops.specs.declared.place.Place.TheVariants.{Left};
+ghost use Rattle.relay_loops.specs.Places.{is_left, is_looped, place_at, HasPlaces, IsChangedAt};
+ghost use Rattle.relay_loops.specs.Judging.{IsResting, KeepsJudged};
 
-use crate::counts::Counts;
-use crate::dividing::divide;
-use crate::pivots::Batch;
+use crate::crew::Crew;
+use crate::dividing::{Found, divide};
 use crate::place::{Place, place_of};
-use crate::trimming::trim;
 use relay_rounds::Gate;
 use relay_tables::Graph;
 use std::alloc::{AllocError, Global};
@@ -21,54 +20,37 @@ pub(crate) fn first_places(
 ) -> Result<Vec<Place>, AllocError>
     requires { All (λ n. n < length graph.now.nodes) reached.now }
     ensures sized { IfOk result (λ places. HasPlaces graph.now places.items) }
-    ensures whole { IfOk result (λ places. IsChangedAt (λ _. Whole) reached.now [] places.items) }
+    ensures left { IfOk result (λ places. IsChangedAt (λ _. Left) reached.now [] places.items) }
 {
     let count = graph.nodes();
     let mut places = vec![in alloc; Place::Clear; count]?;
     for node in reached {
-        places[*node as usize] = Place::Whole;
+        places[*node as usize] = Place::Left;
     }
     Ok(places)
 }
 
-// Divides the parts until each node of the order has its answer.
+// Takes one node of the order after another as a pivot, until each has its answer.
 pub(crate) fn settle<G: Gate, R: Threads + Sync>(
-    rt: &R,
-    alloc: Global,
+    crew: &Crew<G, R>,
     graph: &Graph,
     order: &[u32],
     places: &mut [Place],
-    heads: &mut [Option<u32>],
-    counts: &mut Counts,
-    workers: usize,
-    cut: usize,
-    gate: &G,
 ) -> Result<(), AllocError>
     requires places { HasPlaces graph.now places.old }
-    requires parting { IsParting graph.now order.now places.old }
-    requires heads { length heads.old ≡ length places.old + 1 }
-    requires workers { 1 ≤ workers }
-    requires cut { 1 ≤ cut }
-    ensures parting { OnOk result (IsParting graph.now order.now places.new) }
+    requires resting { IsResting places.old }
+    ensures resting { OnOk result (IsResting places.new) }
+    ensures judged { OnOk result (KeepsJudged graph.now places.old places.new) }
     ensures answered { OnOk result (All (λ n. is_left (place_at places.new n) ≡ false) order.now) }
 {
-    let mut next = 0;
-    while next < order.len() {
-        let batch = Batch::choose(alloc, order, next, places, heads)?;
-        divide(
-            rt,
-            alloc,
-            graph,
-            &batch.pivots,
-            heads,
-            places,
-            counts,
-            workers,
-            cut,
-            gate,
-        )?;
-        trim(graph, places, counts)?;
-        next = batch.next;
+    let mut found = Found {
+        ahead: Vec::new(crew.alloc),
+        around: Vec::new(crew.alloc),
+    };
+    for pivot in order {
+        if place_of(places, *pivot as usize).is_left() {
+            divide(crew, graph, *pivot, places, &mut found)?;
+        }
     }
     Ok(())
 }

@@ -96,7 +96,7 @@ fn check<R: Abort + Threads + Sync>(
     tables: &Tables,
     wanted: &[u32],
 ) -> Result<(), Fail> {
-    let graph = Graph::build(alloc, tables, None, &[], 1000, 0)?;
+    let graph = Graph::build(alloc, tables, None, &[], 10_000, 0)?;
     let reached = all_nodes(alloc, &graph)?;
     for workers in [1, 2, 4, 7] {
         check_by(rt, alloc, &graph, &reached, workers, wanted)?;
@@ -147,7 +147,7 @@ fn an_include_file_that_includes_itself_through_an_alias(rt: HostRuntime) -> Res
 
 // An alias for each number below `count`, that leads to the next one; the last one leads to `last`.
 fn chain(alloc: Global, count: u32, last: &str) -> Result<Vec<u8>, Fail>
-    requires { count < 1000 }
+    requires { count < 10000 }
 {
     let mut text = Vec::new(alloc);
     for n in 1..count {
@@ -159,12 +159,13 @@ fn chain(alloc: Global, count: u32, last: &str) -> Result<Vec<u8>, Fail>
     Ok(text)
 }
 
+// So many that a search goes on in rounds.
 #[test]
-fn a_ring_of_300(rt: HostRuntime) -> Result<(), Fail> {
+fn a_ring_of_5000(rt: HostRuntime) -> Result<(), Fail> {
     let alloc = rt.alloc();
-    let text = chain(alloc, 300, "a0")?;
+    let text = chain(alloc, 5000, "a0")?;
     let tables = tables(&rt, alloc, &text, Vec::new(alloc))?;
-    let wanted: Vec<u32> = (0..300).collect(alloc)?;
+    let wanted: Vec<u32> = (0..5000).collect(alloc)?;
     check(&rt, alloc, &tables, &wanted)
 }
 

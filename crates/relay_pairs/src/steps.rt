@@ -1,10 +1,11 @@
 //! The steps of a graph, from pair to pair.
-ghost use Rattle.std.specs.Prelude.{◌≡◌, ◌<◌, ◌%◌, ◌^◌, [], length, nat_lt, if◌then◌else◌};
-ghost use Rattle.relay_tables.specs.Graphs.{child_numbers, IsClosedGraph};
+ghost use Rattle.std.specs.Prelude.{◌≡◌, ◌<◌, ◌+◌, ◌*◌, ◌%◌, ◌^◌, ◌++◌, [], length, map, nat_lt, if◌then◌else◌, All, OnOk};
+ghost use Rattle.relay_tables.specs.Graphs.{child_numbers, sender_number_after, IsClosedGraph};
 
 use crate::reached::Reached;
 use relay_rounds::{Key, Steps};
 use relay_tables::Graph;
+use std::alloc::AllocError;
 
 // From a pair to the children of its node, each under the sender after the node.
 #[derive(Drop)]
@@ -44,6 +45,48 @@ impl Steps for PairSteps<'_> {
         }
         .key()
     }
+
+    // Looks up the node's row and the sender after it once.
+    fn append(&self, key: Key, next: &mut Vec<Key>) -> Result<(), AllocError> {
+        let from = Reached::of_key(key);
+        if from.node as usize >= self.graph.nodes() {
+            return Ok(());
+        }
+        let children = self.graph.children(from.node);
+        if children.is_empty() {
+            return Ok(());
+        }
+        push_keys(sender_after(self.graph, from), children, next)
+    }
+}
+
+// The sender after a pair. Where there is one sender alone no owner is looked up.
+fn sender_after(graph: &Graph, from: Reached) -> u32
+    requires closed { IsClosedGraph graph.now }
+    requires sender { from.sender < length graph.now.senders }
+    requires node { from.node < length graph.now.nodes }
+    ensures { result ≡ sender_number_after graph.now from.sender from.node }
+{
+    if graph.senders() == 1 {
+        return 0;
+    }
+    graph.sender_after(from.sender, from.node)
+}
+
+// Puts the keys of nodes, under a sender, behind what is there.
+fn push_keys(sender: u32, nodes: &[u32], keys: &mut Vec<Key>) -> Result<(), AllocError>
+    requires { All (λ n. n < 2 ^ 24) nodes.now }
+    ensures { OnOk result (keys.new.items ≡ keys.old.items ++ map (λ n. sender * 2 ^ 24 + n) nodes.now) }
+{
+    keys.reserve(nodes.len())?;
+    for node in nodes {
+        keys.push(Reached {
+            sender,
+            node: *node,
+        }
+        .key())?;
+    }
+    Ok(())
 }
 
 // The children of a node, none where there is no such node.

@@ -1,4 +1,7 @@
 pub mod Keys
+pub mod Words
+pub mod BlockKeys
+pub mod ShardKeys
 pub mod Rising
 pub mod Numbers
 pub mod Sharding

@@ -26,7 +26,7 @@ no_later key xs on =
     absurd (true≢false (sym here ∙ not-true _ other)))
     (cases_lt (position_or_len (nat_eq key) xs) (length xs))
 
-some_where : (key : ℕ) (xs : List ℕ) (o : Option ℕ) → number_of nat_eq xs key ≡ o → IsTrue (is_some o) ↔ Contains xs key
+pub some_where : (key : ℕ) (xs : List ℕ) (o : Option ℕ) → number_of nat_eq xs key ≡ o → IsTrue (is_some o) ↔ Contains xs key
 some_where key xs None e = (
   (λ t. absurd (true≢false (sym t))),
   (λ on. absurd (none-some (position_or_len (nat_eq key) xs) (sym e ∙ cond-true _ _ _ (lt-ltb _ _ (no_later key xs on))))),
@@ -39,7 +39,7 @@ some_where key xs (Some i) e = (
 pub has_number : (xs : List ℕ) (key : ℕ) → IsTrue (is_there xs key) ↔ Contains xs key
 has_number xs key = some_where key xs (number_of nat_eq xs key) refl
 
-alike : (a b : Bool) → (IsTrue a → IsTrue b) → (IsTrue b → IsTrue a) → a ≡ b
+pub alike : (a b : Bool) → (IsTrue a → IsTrue b) → (IsTrue b → IsTrue a) → a ≡ b
 alike true true f g = refl
 alike true false f g = sym (f refl)
 alike false true f g = g refl
@@ -113,3 +113,28 @@ copied_more keys copy new limit n key answer distinct at is fine done =
     let none : Contains copy key → ⊥ = λ on. not_before keys n key distinct at (subst (λ (xs : List ℕ). Contains xs key) is on) in
     inserted copy limit key answer new none fine done ∙ ap (λ (xs : List ℕ). xs ++ key ∷ []) is
     ∙ ap (λ (k : ℕ). take n keys ++ k ∷ []) (sym (get_or_from_slice_get keys n key key at)) ∙ sym (take_more keys n key below)
+
+number : Result (ℕ × Bool) ChainFault → ℕ
+number (Ok found) = found.0
+number (Err fault) = 0
+
+not_put : (keys : List ℕ) (key : ℕ) (found : ℕ × Bool) (new : List ℕ) (full : Bool)
+    → Inserts (if◌then◌else◌ {A = Insertion ℕ} full (record { answer = Err Full; keys = keys }) (record { answer = Ok (length keys, true); keys = keys ++ key ∷ [] })) keys (Ok found) new
+    → found.1 ≡ false → ⊥
+unfolding flag
+not_put keys key found new true done old = absurd (cc)
+not_put keys key found new false done old = true≢false (ap flag done.0 ∙ old)
+
+found_by : (keys : List ℕ) (limit key : ℕ) (found : ℕ × Bool) (new : List ℕ) (o : Option ℕ) → number_of nat_eq keys key ≡ o
+    → Inserts (insertion_at nat_eq o keys limit key) keys (Ok found) new → found.1 ≡ false → (found.0 < length keys) × (get_or keys found.0 0 ≡ key) × (new ≡ keys)
+unfolding number
+found_by keys limit key found new None is done old = absurd (not_put keys key found new (length keys == limit) done old)
+found_by keys limit key found new (Some i) is done old =
+    let at = position-Some (nat_eq key) keys i 0 is in
+    let e : i ≡ found.0 = ap number done.0 in
+    (subst (λ (n : ℕ). n < length keys) e at.0, ap (λ (n : ℕ). get_or keys n 0) (sym e) ∙ sym ((Decides-eqb key (get_or keys i 0)).0 at.1), done.1)
+
+-- the place of a key that was there
+pub found_at : (keys : List ℕ) (limit key : ℕ) (found : ℕ × Bool) (new : List ℕ) → Inserts (insertion nat_eq keys limit key) keys (Ok found) new → found.1 ≡ false
+    → (found.0 < length keys) × (get_or keys found.0 0 ≡ key) × (new ≡ keys)
+found_at keys limit key found new done old = found_by keys limit key found new (number_of nat_eq keys key) refl done old

@@ -1,15 +1,16 @@
 -- What a round does for a search, and what a search without offers has found.
-use Rattle.std.proofs.Common.{◌≡◌, ◌≢◌, ℕ, ◌+◌, ◌<◌, List, [], ◌∷◌, ◌++◌, length, get_or, arith, sym, refl, ap, ◌∙◌, subst, inl, inr, ⊎_elim}
+use Rattle.std.proofs.Common.{◌≡◌, ◌≢◌, ℕ, ◌+◌, ◌<◌, ◌≤◌, List, [], ◌∷◌, ◌++◌, length, get_or, arith, sym, refl, subst, inl, inr, ⊎_elim}
 use Rattle.std.specs.Prelude.{All, AllPairs, Contains, flat_map, ◌⊎◌, ◌↔◌}
 use Rattle.std.proofs.lemmas.List.{length-append, append-nil}
 use Rattle.std.proofs.lemmas.List.Elements.{All-nil, All-cons, All-append, All-contains, Contains-append_left, Contains-append_right, Contains-append_cases, Contains-push, Contains-push_cases}
-use Rattle.std.specs.List.Sorted.{IsPermutation, IsNonDecreasing}
-use Rattle.std.proofs.lemmas.List.Sorted.{Contains-permutation, IsPermutation-sym}
+use Rattle.std.specs.List.Sorted.{IsStrictlyIncreasing}
 use Rattle.relay_rounds.specs.Walks.{IsWalk}
 use Rattle.relay_rounds.specs.Closures.{IsReachedKey, IsClosureOf, HasMoreReached}
-use Rattle.relay_rounds.specs.Searches.{IsSearch, AreNewOf, AreDistinctOf, Advances}
+use Rattle.relay_rounds.specs.Searches.{IsSearch, AreNewOf, Advances, Settles, IsTooFar}
+use Rattle.relay_rounds.specs.Shards.{AreBothOf}
 use Rattle.relay_rounds.proofs.Keys.{nowhere, in_head, in_tail, cons_cases, present, in_flat_map, from_flat_map, all_of, distinct_both}
-use Rattle.relay_rounds.proofs.Rising.{rising_of, sorted_rises}
+use Rattle.relay_rounds.proofs.Rising.{rising_of}
+use Rattle.relay_rounds.proofs.Sharding.{both_len}
 
 -- one more step at the end of a walk
 one_more : {X : Type 0} (next : X → X → Type 0) (from : X) (path : List X) (to last : X) → IsWalk next from path to → next to last → IsWalk next from (path ++ last ∷ []) last
@@ -97,10 +98,6 @@ other_offers next roots settled offered others s from left =
       nexts_met = λ a b on step. met b (s.nexts_met a b on step);
     }
 
--- each key is offered once
-pub offered_once : (next : ℕ → List ℕ) (roots settled offered won : List ℕ) → AreDistinctOf offered won → IsSearch next roots settled offered → IsSearch next roots settled won
-offered_once next roots settled offered won w s = other_offers next roots settled offered won s (λ key on. (w.members key).0 on) (λ key off. inr ((w.members key).1 off))
-
 -- the first offer is settled already
 pub known_key : (next : ℕ → List ℕ) (roots settled rest : List ℕ) (key : ℕ) → IsSearch next roots settled (key ∷ rest) → Contains settled key → IsSearch next roots settled rest
 known_key next roots settled rest key s there = other_offers next roots settled (key ∷ rest) rest s
@@ -166,28 +163,80 @@ one_too_many next roots settled rest last key limit s fresh full =
     let size = up.3 in
     record { keys = up.0; distinct = up.1; reached = up.2; more = omega arith }
 
--- one advance after another
-pub advances_on : (a a_offered b b_offered c c_offered : List ℕ) → Advances a a_offered b b_offered → Advances b b_offered c c_offered → Advances a a_offered c c_offered
-advances_on a a_offered b b_offered c c_offered one two =
-    ⊎_elim
-    (λ more. ⊎_elim (λ again. inl (omega arith)) (λ same. let e = ap length same.0 in inl (omega arith)) two)
-    (λ still. ⊎_elim (λ again. let e = ap length still.0 in inl (omega arith)) (λ same. inr (same.0 ∙ still.0, same.1 ∙ still.1)) two)
-    one
+-- the new keys would be too many
+pub too_many : (next : ℕ → List ℕ) (roots settled offered new : List ℕ) (limit : ℕ) → IsSearch next roots settled offered → AreNewOf settled offered new
+    → limit < length settled + length new → HasMoreReached next roots limit
+too_many next roots settled offered new limit s n more =
+    let up = rising_of (IsReachedKey next roots) (settled ++ new) (both_distinct next roots settled offered new s n) (both_reached next roots settled offered new s n) in
+    let long = length-append settled new in
+    let size = up.3 in
+    record { keys = up.0; distinct = up.1; reached = up.2; more = omega arith }
 
--- what a round of many keys does
-pub many_advance : (next : ℕ → List ℕ) (settled new : List ℕ) → Advances settled [] (settled ++ new) (flat_map next new)
-many_advance next settled [] = inr (append-nil settled, refl)
-many_advance next settled (x ∷ xs) = let long = length-append settled (x ∷ xs) in inl (omega arith)
+-- the settled keys in another order
+pub other_order : (next : ℕ → List ℕ) (roots settled others offered : List ℕ) → IsSearch next roots settled offered → AllPairs (λ a b. a ≢ b) others
+    → ((key : ℕ) → Contains settled key ↔ Contains others key) → IsSearch next roots others offered
+other_order next roots settled others offered s distinct same =
+    let met : (key : ℕ) → Contains settled key ⊎ Contains offered key → Contains others key ⊎ Contains offered key = λ key h. ⊎_elim (λ old. inl ((same key).0 old)) (λ off. inr off) h in
+    record {
+      distinct = distinct;
+      reached = all_of (IsReachedKey next roots) others (λ key on. All-contains (IsReachedKey next roots) settled key s.reached ((same key).1 on));
+      offers = s.offers;
+      roots_met = λ key on. met key (s.roots_met key on);
+      nexts_met = λ a b on step. met b (s.nexts_met a b ((same a).1 on) step);
+    }
 
--- the keys of a round that were won, where a round hands on its lists by slices
-pub won_search : (next : ℕ → List ℕ) (roots settled offered shown won won_shown : List ℕ) → shown ≡ offered → won_shown ≡ won → AreDistinctOf shown won
-    → IsSearch next roots settled offered → IsSearch next roots settled won_shown
-won_search next roots settled offered shown won won_shown a b w s =
-    subst (λ (xs : List ℕ). IsSearch next roots settled xs) (sym b) (offered_once next roots settled offered won (subst (λ (xs : List ℕ). AreDistinctOf xs won) a w) s)
+both_same : (old more now : List ℕ) → AreBothOf old more now → (key : ℕ) → Contains (old ++ more) key ↔ Contains now key
+both_same old more now b key = (
+  (λ on. (b.members key).1 (Contains-append_cases old more key on)),
+  (λ on. ⊎_elim (λ o. Contains-append_left old more key o) (λ m. Contains-append_right old more key m) ((b.members key).0 on)),
+)
 
-pub won_all : (P : ℕ → Type 0) (offered shown won won_shown : List ℕ) → shown ≡ offered → won_shown ≡ won → AreDistinctOf shown won → All P offered → All P won_shown
-won_all P offered shown won won_shown a b w each =
-    subst (λ (xs : List ℕ). All P xs) (sym b) (all_of P won (λ key on. All-contains P offered key each (subst (λ (xs : List ℕ). Contains xs key) a ((w.members key).0 on))))
+-- new keys were won of those that are offered
+pub new_won : (next : ℕ → List ℕ) (roots settled offered won : List ℕ) → AreNewOf settled offered won → IsSearch next roots settled offered → IsSearch next roots settled won
+new_won next roots settled offered won w s = other_offers next roots settled offered won s (λ key on. ((w.members key).0 on).0)
+    (λ key off. ⊎_elim (λ old. inl old) (λ new. inr ((w.members key).1 (off, new))) (present settled key))
+
+-- distinct keys that are not settled
+all_new : (settled won : List ℕ) → AllPairs (λ a b. a ≢ b) won → ((key : ℕ) → Contains won key → Contains settled key → ⊥) → AreNewOf settled won won
+all_new settled won distinct fresh = record { distinct = distinct; members = λ key. ((λ on. (on, fresh key on)), (λ h. h.0)) }
+
+module _ (next : ℕ → List ℕ) (bound limit : ℕ) (settled won now : List ℕ) (apart : AllPairs (λ a b. a ≢ b) settled) (distinct : AllPairs (λ a b. a ≢ b) won)
+    (fresh : (key : ℕ) → Contains won key → Contains settled key → ⊥) where
+  -- a round that settled them all
+  pub settles_all : AreBothOf settled won now → length settled + length won ≤ limit → All (λ key. key < bound) (flat_map next won) → Settles next bound limit settled won now (flat_map next won)
+  settles_all b room below =
+      let size = both_len settled won now b apart distinct fresh in
+      record {
+        within = omega arith;
+        below = below;
+        advances = advance won size;
+        search = λ roots s. other_order next roots (settled ++ won) now (flat_map next won) (search_goes_on next roots settled won won s (all_new settled won distinct fresh)) b.distinct (both_same settled won now b);
+      }
+    where
+      advance : (keys : List ℕ) → length now ≡ length settled + length keys → Advances settled now (flat_map next keys)
+      advance [] e = inr (omega arith, refl)
+      advance (x ∷ xs) e = inl (omega arith)
+
+  -- and one that would settle too many
+  pub too_many_won : limit < length settled + length won → IsTooFar next settled won limit
+  too_many_won more roots s = too_many next roots settled won won limit s (all_new settled won distinct fresh) more
+
+-- the one key of a round was new
+pub settles_new : (next : ℕ → List ℕ) (bound limit key : ℕ) (settled now : List ℕ) → AllPairs (λ a b. a ≢ b) settled → (Contains settled key → ⊥) → AreBothOf settled (key ∷ []) now
+    → length settled < limit → All (λ k. k < bound) (next key) → Settles next bound limit settled (key ∷ []) now (next key)
+settles_new next bound limit key settled now apart none b room below =
+    let only : (k : ℕ) → Contains (key ∷ []) k → Contains settled k → ⊥ = λ k one old. ⊎_elim (λ e. none (subst (λ (z : ℕ). Contains settled z) (sym e) old)) (λ no. nowhere k no) (cons_cases key [] k one) in
+    subst (λ (xs : List ℕ). Settles next bound limit settled (key ∷ []) now xs) (append-nil (next key))
+    (settles_all next bound limit settled (key ∷ []) now apart (one_apart key) only b (omega arith) (subst (All (λ k. k < bound)) (sym (append-nil (next key))) below))
+
+-- the one key of a round was settled already
+pub settles_old : (next : ℕ → List ℕ) (bound limit key : ℕ) (settled : List ℕ) → Contains settled key → length settled ≤ limit → Settles next bound limit settled (key ∷ []) settled []
+settles_old next bound limit key settled there room = record {
+  within = room;
+  below = All-nil (λ k. k < bound);
+  advances = inr (refl, refl);
+  search = λ roots s. known_key next roots settled [] key s there;
+}
 
 -- a lone key
 pub lone : (xs : List ℕ) → length xs ≡ 1 → xs ≡ get_or xs 0 0 ∷ []
@@ -204,21 +253,9 @@ pub nexts_all : (P : ℕ → Type 0) (next : ℕ → List ℕ) (keys : List ℕ)
 nexts_all P next keys each stay = all_of P (flat_map next keys) (λ key on. let w = from_flat_map next keys key on in
     All-contains P (next w.0) key (stay w.0 (All-contains P keys w.0 each w.1)) w.2)
 
--- the new keys would be too many
-pub too_many : (next : ℕ → List ℕ) (roots settled offered new : List ℕ) (limit : ℕ) → IsSearch next roots settled offered → AreNewOf settled offered new
-    → limit < length settled + length new → HasMoreReached next roots limit
-too_many next roots settled offered new limit s n more =
-    let up = rising_of (IsReachedKey next roots) (settled ++ new) (both_distinct next roots settled offered new s n) (both_reached next roots settled offered new s n) in
-    let long = length-append settled new in
-    let size = up.3 in
-    record { keys = up.0; distinct = up.1; reached = up.2; more = omega arith }
-
--- no offers are left, and the keys are sorted
-pub closes : (next : ℕ → List ℕ) (roots settled sorted : List ℕ) → IsSearch next roots settled [] → IsPermutation settled sorted → IsNonDecreasing sorted → IsClosureOf next roots sorted
-closes next roots settled sorted s moved rising = record {
-  ascending = sorted_rises settled sorted s.distinct moved rising;
-  members = λ key. let e = search_ends next roots settled s key in (
-    (λ on. e.0 (Contains-permutation sorted settled key (IsPermutation-sym settled sorted moved) on)),
-    (λ r. Contains-permutation settled sorted key moved (e.1 r)),
-  );
+-- no offers are left, and the keys are put in order
+pub closes : (next : ℕ → List ℕ) (roots settled sorted : List ℕ) → IsSearch next roots settled [] → IsStrictlyIncreasing sorted → ((key : ℕ) → Contains sorted key ↔ Contains settled key) → IsClosureOf next roots sorted
+closes next roots settled sorted s rising same = record {
+  ascending = rising;
+  members = λ key. let e = search_ends next roots settled s key in let m = same key in ((λ on. e.0 (m.0 on)), (λ r. m.1 (e.1 r)));
 }

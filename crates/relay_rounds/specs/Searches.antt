@@ -10,11 +10,6 @@ pub record IsSearch (next : ℕ → List ℕ) (roots settled offered : List ℕ)
   pub roots_met : (key : ℕ) → Contains roots key → Contains settled key ⊎ Contains offered key
   pub nexts_met : (from to : ℕ) → Contains settled from → Contains (next from) to → Contains settled to ⊎ Contains offered to
 
--- each offered key once
-pub record AreDistinctOf (offered keys : List ℕ) : Type 0 where
-  pub distinct : AllPairs (λ a b. a ≢ b) keys
-  pub members : (key : ℕ) → Contains keys key ↔ Contains offered key
-
 -- each offered key that is not settled, once
 pub record AreNewOf (settled offered keys : List ℕ) : Type 0 where
   pub distinct : AllPairs (λ a b. a ≢ b) keys
@@ -28,13 +23,13 @@ GoesOn next settled offered settled_now offered_now = (roots : List ℕ) → IsS
 abbrev pub IsTooFar : (ℕ → List ℕ) → List ℕ → List ℕ → ℕ → Type 0
 IsTooFar next settled offered limit = (roots : List ℕ) → IsSearch next roots settled offered → HasMoreReached next roots limit
 
--- keys were settled, or all is as it was
-abbrev pub Advances : List ℕ → List ℕ → List ℕ → List ℕ → Type 0
-Advances settled offered settled_now offered_now = (length settled < length settled_now) ⊎ ((settled_now ≡ settled) × (offered_now ≡ offered))
+-- keys were settled, or none is offered
+abbrev pub Advances : List ℕ → List ℕ → List ℕ → Type 0
+Advances settled settled_now offered_now = (length settled < length settled_now) ⊎ ((length settled_now ≡ length settled) × (offered_now ≡ []))
 
 -- the keys of a round were settled, and what they lead to is offered
 pub record Settles (next : ℕ → List ℕ) (bound limit : ℕ) (settled won settled_now offered_now : List ℕ) : Type 0 where
   pub within : length settled_now ≤ limit
   pub below : All (λ key. key < bound) offered_now
-  pub advances : Advances settled [] settled_now offered_now
+  pub advances : Advances settled settled_now offered_now
   pub search : GoesOn next settled won settled_now offered_now

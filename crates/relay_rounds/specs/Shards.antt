@@ -1,27 +1,61 @@
--- Keys in shards, each in that of its remainder.
+-- Keys in shards, each in that of its block.
 use Rattle.std.specs.Option.{is_some}
 use Rattle.relay_chains.specs.Keys.{number_of}
-use Rattle.std.specs.Prelude.{Bool, true, false, nat_eq, ◌≡◌, ℕ, ◌<◌, ◌≤◌, ◌-◌, ◌^◌, ◌%◌, List, [], ◌∷◌, ◌++◌, length, Contains, slice_index_or, ◌↔◌}
-
--- a shard's set has some buckets and room for as many keys as there are numbers
-pub record IsShard (heads limit : ℕ) : Type 0 where
-  pub some_head : 1 ≤ heads
-  pub wide : limit ≡ 2 ^ 32 - 2
+use Rattle.std.specs.Prelude.{Bool, true, false, nat_eq, ◌≡◌, ◌≢◌, ℕ, ◌<◌, ◌/◌, ◌%◌, List, [], ◌∷◌, ◌++◌, length, flat_map, slice_index_or, All, AllPairs, Contains, ◌↔◌, ◌⊎◌}
+use Rattle.relay_rounds.specs.declared.block.Block.{Block}
+use Rattle.relay_rounds.specs.declared.part.Part.{Part}
+use Rattle.relay_rounds.specs.Blocks.{keys_of, AreBlocks}
 
 -- whether a key stands in the list
 abbrev pub is_there : List ℕ → ℕ → Bool
 is_there keys key = is_some (number_of nat_eq keys key)
 
--- the keys of the shard in which a key belongs
-abbrev pub shard_of : List (List ℕ) → ℕ → List ℕ
-shard_of shards key = slice_index_or shards (key % length shards) []
-
--- a key stands in its shard just where it is settled
-pub record AreSharded (settled : List ℕ) (shards : List (List ℕ)) : Type 0 where
-  pub some_shard : 0 < length shards
-  pub found : (key : ℕ) → Contains (shard_of shards key) key ↔ Contains settled key
-
 -- a new key was put last, or the key was there already
 abbrev pub Inserted : List ℕ → ℕ → Bool → List ℕ → Type 0
 Inserted keys key true after = (Contains keys key → ⊥) × (after ≡ keys ++ key ∷ [])
 Inserted keys key false after = Contains keys key × (after ≡ keys)
+
+-- the keys of both lists, each once
+pub record AreBothOf (old more keys : List ℕ) : Type 0 where
+  pub distinct : AllPairs (λ a b. a ≢ b) keys
+  pub members : (key : ℕ) → Contains keys key ↔ (Contains old key ⊎ Contains more key)
+
+-- a new key was taken, or the key was there already
+abbrev pub Taken : List ℕ → ℕ → Bool → List ℕ → Type 0
+Taken keys key true after = (Contains keys key → ⊥) × AreBothOf keys (key ∷ []) after
+Taken keys key false after = Contains keys key × (after ≡ keys)
+
+-- the shard of a key is the remainder of its block
+abbrev pub home_of : ℕ → ℕ → ℕ
+home_of parts key = key / 64 % parts
+
+-- all blocks are those of one shard
+abbrev pub AreAtHome : ℕ → ℕ → List Block → Type 0
+AreAtHome parts place blocks = All (λ block. block.number % parts ≡ place) blocks
+
+-- a key came to the blocks, or was there already
+pub record Grows (old : List Block) (key : ℕ) (new : Bool) (blocks : List Block) : Type 0 where
+  pub lawful : AreBlocks blocks
+  pub home : (parts place : ℕ) → home_of parts key ≡ place → AreAtHome parts place old → AreAtHome parts place blocks
+  pub taken : Taken (keys_of old) key new (keys_of blocks)
+
+-- the keys of all shards
+abbrev pub keys_of_parts : List Part → List ℕ
+keys_of_parts parts = flat_map (λ part. keys_of part.shard) parts
+
+pub record AreParts (len : ℕ) (parts : List Part) : Type 0 where
+  pub some_part : 0 < length parts
+  pub lawful : All (λ part. AreBlocks part.shard) parts
+  pub homes : (place : ℕ) (d : Part) → place < length parts → AreAtHome (length parts) place (slice_index_or parts place d).shard
+  pub count : len ≡ length (keys_of_parts parts)
+
+-- a part has taken those of the keys that belong to it, unless memory for one was refused
+pub record HasTaken (keys : List ℕ) (parts place : ℕ) (before after : Part) : Type 0 where
+  pub lawful : after.refused ≡ false → AreBlocks after.shard
+  pub home : after.refused ≡ false → AreAtHome parts place after.shard
+  pub keys_now : after.refused ≡ false → (key : ℕ) → Contains (keys_of after.shard) key ↔ (Contains (keys_of before.shard) key ⊎ (Contains keys key × (home_of parts key ≡ place)))
+
+-- each part has
+pub record HaveTaken (keys : List ℕ) (before after : List Part) : Type 0 where
+  pub count : length after ≡ length before
+  pub each : (place : ℕ) (d : Part) → place < length before → HasTaken keys (length before) place (slice_index_or before place d) (slice_index_or after place d)

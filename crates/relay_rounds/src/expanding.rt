@@ -10,15 +10,28 @@ use std::thread::Threads;
 // So many keys are expanded into one vector.
 const PIECE: usize = 1024;
 
-// The next keys of all keys, in their order.
+/// Puts the next keys of all keys, in their order, behind what is there.
+pub(crate) fn next_keys<S: Steps>(
+    steps: &S,
+    keys: &[Key],
+    next: &mut Vec<Key>,
+) -> Result<(), AllocError>
+    requires { All (λ key. key < S.key_bound steps.now) keys.now }
+    ensures { OnOk result (next.new.items ≡ next.old.items ++ flat_map (S.next_keys steps.now) keys.now) }
+{
+    for key in keys {
+        steps.append(*key, next)?;
+    }
+    Ok(())
+}
+
+// The next keys of a piece.
 fn next_keys_of<S: Steps>(alloc: Global, steps: &S, keys: &[Key]) -> Result<Vec<Key>, AllocError>
     requires { All (λ key. key < S.key_bound steps.now) keys.now }
     ensures { IfOk result (λ next. next.items ≡ flat_map (S.next_keys steps.now) keys.now) }
 {
-    let mut next = Vec::new(alloc);
-    for key in keys {
-        steps.append(*key, &mut next)?;
-    }
+    let mut next = Vec::with_capacity(alloc, keys.len())?;
+    next_keys(steps, keys, &mut next)?;
     Ok(next)
 }
 
@@ -64,8 +77,8 @@ fn put_behind(pieces: &[Vec<Key>], whole: &mut Vec<Key>) -> Result<(), AllocErro
     Ok(())
 }
 
-/// Puts the next keys of many keys, in their order, behind what is there. Several threads find them.
-pub(crate) fn next_keys<S: Steps, R: Threads + Sync>(
+/// The same of many keys. Several threads find them.
+pub(crate) fn next_keys_in_threads<S: Steps, R: Threads + Sync>(
     rt: &R,
     alloc: Global,
     steps: &S,

@@ -1,43 +1,25 @@
 //! The rounds.
 ghost use Rattle.std.specs.Prelude.{◌≡◌, ◌<◌, ◌≤◌, ◌-◌, ◌^◌, length, All, IfOk, Err};
-ghost use Rattle.std.specs.List.Sorted.{IsPermutation, IsSorted};
-ghost use Rattle.std.specs.Ordering.{nat_cmp};
 ghost use Rattle.relay_rounds.specs.Closures.{IsClosureOf, HasMoreReached};
 
 use crate::fault::ReachFault;
 use crate::gate::Gate;
 use crate::kept::Kept;
+use crate::offers::Offers;
 use crate::settled::Settled;
 use crate::settling::{settle, settle_one};
 use crate::steps::Steps;
 use crate::winning::winners;
-use rayon::prelude::*;
 use relay_chains::Key;
 use std::alloc::Global;
 use std::thread::Threads;
-
-// From so many keys on it pays to start threads.
-const MANY_KEYS: usize = 8192;
-
-// Sorts the keys: in threads where there are many keys and workers.
-fn sort_keys<R: Threads + Sync>(rt: &R, keys: &mut Vec<Key>, workers: usize)
-    ensures permutation { IsPermutation keys.old.items keys.new.items }
-    ensures len { length keys.new.items ≡ length keys.old.items }
-    ensures sorted { IsSorted nat_cmp keys.new.items }
-{
-    if workers == 1 || keys.len() < MANY_KEYS {
-        keys.sort_unstable();
-        return;
-    }
-    par_sort_unstable(rt, keys.as_mut_slice());
-}
 
 /// All keys that some chain of steps from a root ends in, ascending, each once. A root is reached by a chain of no steps.
 ///
 /// `workers` threads take part, the calling one among them, but no more than a round has pieces; a piece is `cut` offered
 /// keys, which one worker claims. Neither they nor the gate change the answer. `roots` may name a key more than once.
-/// Time of a round grows with the keys that it offers, and not with the bound of the steps; a settled key takes about 40
-/// bytes. A round of one key takes no table and no thread, and one of one piece no thread.
+/// Time of a round grows with the keys that it offers, and not with the bound of the steps. 64 keys one after another take
+/// about 40 bytes once one of them is settled, and no more where all are. A round of one key takes no table and no thread.
 ///
 /// `TooManyPairs` comes exactly where more than `limit` keys are reached, however often each is offered. `Memory` comes
 /// only where a growth was refused, once all threads have ended.
@@ -71,22 +53,16 @@ pub fn reach<S: Steps, G: Gate, R: Threads + Sync>(
             settle_one(steps, key, limit, &mut settled, &mut offered)?;
             continue;
         }
-        winners(rt, offered.as_slice(), workers, cut, gate, &mut kept)?;
+        let offers = Offers {
+            keys: offered.as_slice(),
+            settled: &settled,
+            cut,
+        };
+        winners(rt, &offers, workers, gate, &mut kept)?;
         offered.clear();
-        settle(
-            rt,
-            steps,
-            kept.won.as_slice(),
-            limit,
-            &mut settled,
-            &mut offered,
-        )?;
+        let new = kept.won.as_slice();
+        settled = settle(rt, alloc, steps, new, limit, settled, &mut offered)?;
     }
-    let Settled {
-        alloc: _,
-        mut keys,
-        shards: _,
-    } = settled;
-    sort_keys(rt, &mut keys, workers);
+    let keys = settled.ascending(rt)?;
     Ok(keys)
 }

@@ -1,13 +1,14 @@
-//! The keys of a round: each new one is settled, and its next keys are offered to the next round.
-ghost use Rattle.std.specs.Prelude.{◌≡◌, ◌≢◌, ◌<◌, ◌≤◌, ℕ, List, [], ◌∷◌, ◌++◌, length, All, AllPairs, OnOk, Err};
-ghost use Rattle.relay_rounds.specs.Shards.{AreSharded};
+//! The keys of a round: they are settled, and their next keys are offered to the next round.
+ghost use Rattle.std.specs.Prelude.{◌≡◌, ◌≢◌, ◌<◌, ◌≤◌, ◌+◌, ◌-◌, ◌^◌, ℕ, List, [], ◌∷◌, ◌++◌, length, flat_map, All, AllPairs, Contains, OnOk, IfOk, Err};
 ghost use Rattle.relay_rounds.specs.Searches.{GoesOn, Advances, Settles, IsTooFar};
+ghost use Rattle.relay_rounds.specs.Shards.{AreBothOf};
 
-use crate::expanding::next_keys;
+use crate::expanding::{next_keys, next_keys_in_threads};
 use crate::fault::ReachFault;
 use crate::settled::Settled;
 use crate::steps::Steps;
 use relay_chains::Key;
+use std::alloc::{AllocError, Global};
 use std::thread::Threads;
 
 // From so many keys on it pays to start threads.
@@ -22,17 +23,13 @@ pub(crate) fn settle_one<S: Steps>(
     offered: &mut Vec<Key>,
 ) -> Result<(), ReachFault>
     requires key { key < S.key_bound steps.now }
-    requires shards { AreSharded settled.old.keys.items settled.old.shards.items }
-    requires within { length settled.old.keys.items ≤ limit }
-    requires below { All (λ next. next < S.key_bound steps.now) offered.old.items }
-    ensures shards { OnOk result (AreSharded settled.new.keys.items settled.new.shards.items) }
-    ensures within { OnOk result (length settled.new.keys.items ≤ limit) }
-    ensures below { OnOk result (All (λ next. next < S.key_bound steps.now) offered.new.items) }
-    ensures advances { OnOk result (Advances settled.old.keys.items offered.old.items settled.new.keys.items offered.new.items) }
-    ensures search { OnOk result ((rest : List ℕ) → GoesOn (S.next_keys steps.now) settled.old.keys.items (key ∷ (rest ++ offered.old.items)) settled.new.keys.items (rest ++ offered.new.items)) }
-    ensures refused { result ≡ Err ReachFault.TooManyPairs → (rest : List ℕ) → IsTooFar (S.next_keys steps.now) settled.old.keys.items (key ∷ (rest ++ offered.old.items)) limit }
+    requires within { length settled.old ≤ limit }
+    requires limit { limit ≤ 2 ^ 32 - 2 }
+    requires none { offered.old.items ≡ [] }
+    ensures settles { OnOk result (Settles (S.next_keys steps.now) (S.key_bound steps.now) limit settled.old (key ∷ []) settled.new offered.new.items) }
+    ensures refused { result ≡ Err ReachFault.TooManyPairs → IsTooFar (S.next_keys steps.now) settled.old (key ∷ []) limit }
 {
-    if settled.keys.len() == limit {
+    if settled.len() == limit {
         if settled.contains(key) {
             return Ok(());
         }
@@ -44,75 +41,71 @@ pub(crate) fn settle_one<S: Steps>(
     Ok(())
 }
 
-// Settles the keys in this thread.
+// Settles the keys, and expands them, in this thread.
 fn settle_few<S: Steps>(
     steps: &S,
-    won: &[Key],
-    limit: usize,
-    settled: &mut Settled,
+    new: &[Key],
+    mut settled: Settled,
     offered: &mut Vec<Key>,
-) -> Result<(), ReachFault>
-    requires won { All (λ key. key < S.key_bound steps.now) won.now }
-    requires shards { AreSharded settled.old.keys.items settled.old.shards.items }
-    requires within { length settled.old.keys.items ≤ limit }
-    requires none { offered.old.items ≡ [] }
-    ensures shards { OnOk result (AreSharded settled.new.keys.items settled.new.shards.items) }
-    ensures settles { OnOk result (Settles (S.next_keys steps.now) (S.key_bound steps.now) limit settled.old.keys.items won.now settled.new.keys.items offered.new.items) }
-    ensures refused { result ≡ Err ReachFault.TooManyPairs → IsTooFar (S.next_keys steps.now) settled.old.keys.items won.now limit }
+) -> Result<Settled, AllocError>
+    requires below { All (λ key. key < S.key_bound steps.now) new.now }
+    requires few { length settled + length new.now < 2 ^ 64 }
+    requires distinct { AllPairs (λ a b. a ≢ b) settled }
+    ensures settled { IfOk result (λ now. AreBothOf settled new.now now) }
+    ensures offered { OnOk result (offered.new.items ≡ offered.old.items ++ flat_map (S.next_keys steps.now) new.now) }
 {
-    for key in won {
-        settle_one(steps, *key, limit, settled, offered)?;
-    }
-    Ok(())
+    settled.add(new)?;
+    next_keys(steps, new, offered)?;
+    Ok(settled)
 }
 
 // The same by several threads.
 fn settle_many<S: Steps, R: Threads + Sync>(
     rt: &R,
+    alloc: Global,
     steps: &S,
-    won: &[Key],
-    limit: usize,
-    settled: &mut Settled,
+    new: &[Key],
+    settled: Settled,
     offered: &mut Vec<Key>,
-) -> Result<(), ReachFault>
-    requires won { All (λ key. key < S.key_bound steps.now) won.now }
-    requires distinct { AllPairs (λ a b. a ≢ b) won.now }
-    requires shards { AreSharded settled.old.keys.items settled.old.shards.items }
-    requires within { length settled.old.keys.items ≤ limit }
-    requires none { offered.old.items ≡ [] }
-    ensures shards { OnOk result (AreSharded settled.new.keys.items settled.new.shards.items) }
-    ensures settles { OnOk result (Settles (S.next_keys steps.now) (S.key_bound steps.now) limit settled.old.keys.items won.now settled.new.keys.items offered.new.items) }
-    ensures refused { result ≡ Err ReachFault.TooManyPairs → IsTooFar (S.next_keys steps.now) settled.old.keys.items won.now limit }
+) -> Result<Settled, AllocError>
+    requires below { All (λ key. key < S.key_bound steps.now) new.now }
+    requires few { length settled + length new.now < 2 ^ 64 }
+    requires distinct { AllPairs (λ a b. a ≢ b) new.now }
+    requires fresh { (key : ℕ) → Contains new.now key → Contains settled key → ⊥ }
+    ensures settled { IfOk result (λ now. AreBothOf settled new.now now) }
+    ensures offered { OnOk result (offered.new.items ≡ offered.old.items ++ flat_map (S.next_keys steps.now) new.now) }
 {
-    let new = settled.new_among(rt, won)?;
-    if new.len() > limit - settled.keys.len() {
-        return Err(ReachFault::TooManyPairs);
-    }
-    settled.add(new.as_slice())?;
-    next_keys(rt, settled.alloc, steps, new.as_slice(), offered)?;
-    Ok(())
+    let settled = settled.with(rt, new)?;
+    next_keys_in_threads(rt, alloc, steps, new, offered)?;
+    Ok(settled)
 }
 
-/// Settles the keys of a round, by several threads where there are many keys and workers.
+/// Settles the new keys of a round, by several threads where there are many keys and workers.
 pub(crate) fn settle<S: Steps, R: Threads + Sync>(
     rt: &R,
+    alloc: Global,
     steps: &S,
-    won: &[Key],
+    new: &[Key],
     limit: usize,
-    settled: &mut Settled,
+    settled: Settled,
     offered: &mut Vec<Key>,
-) -> Result<(), ReachFault>
-    requires won { All (λ key. key < S.key_bound steps.now) won.now }
-    requires distinct { AllPairs (λ a b. a ≢ b) won.now }
-    requires shards { AreSharded settled.old.keys.items settled.old.shards.items }
-    requires within { length settled.old.keys.items ≤ limit }
+) -> Result<Settled, ReachFault>
+    requires below { All (λ key. key < S.key_bound steps.now) new.now }
+    requires distinct { AllPairs (λ a b. a ≢ b) new.now }
+    requires fresh { (key : ℕ) → Contains new.now key → Contains settled key → ⊥ }
+    requires within { length settled ≤ limit }
+    requires limit { limit ≤ 2 ^ 32 - 2 }
     requires none { offered.old.items ≡ [] }
-    ensures shards { OnOk result (AreSharded settled.new.keys.items settled.new.shards.items) }
-    ensures settles { OnOk result (Settles (S.next_keys steps.now) (S.key_bound steps.now) limit settled.old.keys.items won.now settled.new.keys.items offered.new.items) }
-    ensures refused { result ≡ Err ReachFault.TooManyPairs → IsTooFar (S.next_keys steps.now) settled.old.keys.items won.now limit }
+    ensures settles { IfOk result (λ now. Settles (S.next_keys steps.now) (S.key_bound steps.now) limit settled new.now now offered.new.items) }
+    ensures refused { result ≡ Err ReachFault.TooManyPairs → IsTooFar (S.next_keys steps.now) settled new.now limit }
 {
-    if settled.shards.len() == 1 || won.len() < MANY_KEYS {
-        return settle_few(steps, won, limit, settled, offered);
+    if new.len() > limit - settled.len() {
+        return Err(ReachFault::TooManyPairs);
     }
-    settle_many(rt, steps, won, limit, settled, offered)
+    if settled.is_one_part() || new.len() < MANY_KEYS {
+        let now = settle_few(steps, new, settled, offered)?;
+        return Ok(now);
+    }
+    let now = settle_many(rt, alloc, steps, new, settled, offered)?;
+    Ok(now)
 }

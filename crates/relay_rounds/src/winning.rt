@@ -1,9 +1,10 @@
 //! One round of claims.
 ghost use Rattle.std.specs.Prelude.{◌≤◌, ◌^◌, OnOk};
-ghost use Rattle.relay_rounds.specs.Searches.{AreDistinctOf};
+ghost use Rattle.relay_rounds.specs.Searches.{AreNewOf};
 
 use crate::gate::Gate;
 use crate::kept::Kept;
+use crate::offers::Offers;
 use crate::worker::Worker;
 use crate::workers::work_all;
 use relay_chains::Key;
@@ -24,30 +25,31 @@ fn heads_for(keys: &[Key]) -> usize
 {
     let mut mixed = 0u64;
     for key in keys {
-        mixed = (mixed ^ *key).wrapping_mul(MIX);
-        mixed ^= mixed >> 32;
+        let spread = key.wrapping_mul(MIX);
+        mixed = mixed.wrapping_add(spread ^ (spread >> 32));
     }
     let half = (keys.len() / 2).min(2147483647);
     let more = (mixed % half.max(1) as u64) as usize;
     (half + more) / 2 * 2 + 1
 }
 
-/// Wins each offered key once, by so many threads, but no more than there are pieces.
+/// Wins each offered key that isn't settled once, by so many threads, but no more than there are pieces.
 pub(crate) fn winners<G: Gate, R: Threads + Sync>(
     rt: &R,
-    offered: &[Key],
+    offers: &Offers,
     workers: usize,
-    cut: usize,
     gate: &G,
     kept: &mut Kept,
 ) -> Result<(), AllocError>
-    requires { 1 ≤ cut }
-    ensures { OnOk result (AreDistinctOf offered.now kept.new.won.items) }
+    requires { 1 ≤ offers.now.cut }
+    ensures { OnOk result (AreNewOf offers.now.settled.now offers.now.keys.now kept.new.won.items) }
 {
-    let heads = heads_for(offered);
-    let count = 1 + heads + offered.len();
+    let keys = offers.keys;
+    let heads = heads_for(keys);
+    let count = 1 + heads + keys.len();
     kept.zeros.grow(count)?;
-    let (round, seat) = Round::open_of(kept.alloc, offered, heads, cut, kept.zeros.first(count))?;
+    let zeros = kept.zeros.first(count);
+    let (round, seat) = Round::open_of(kept.alloc, keys, heads, offers.cut, zeros)?;
     let workers = workers.min(round.pieces());
     kept.won.clear();
     let alone = Worker {
@@ -56,7 +58,7 @@ pub(crate) fn winners<G: Gate, R: Threads + Sync>(
         won: mem::replace(&mut kept.won, Vec::new(kept.alloc)),
         refused: false,
     };
-    let worker = work_all(rt, &round, alone, offered, workers, cut, gate);
+    let worker = work_all(rt, &round, alone, offers, workers, gate);
     let Worker {
         alloc: _,
         seat,

@@ -2,12 +2,11 @@
 ghost use Rattle.std.specs.Prelude.{◌≡◌, ◌≤◌, IfSome, IsSome};
 ghost use Rattle.std.specs.Thread.{IsSync};
 ghost use Rattle.relay_claims.specs.Seat.{IsSeatOf};
-ghost use Rattle.relay_claims.specs.Work.{HasClaimedAll, ClaimsTheRest};
-ghost use Rattle.relay_rounds.specs.Winners.{HasKept};
+ghost use Rattle.relay_rounds.specs.Winners.{HasKept, HasClaimedNew, ClaimsTheNew};
 
 use crate::gate::Gate;
+use crate::offers::Offers;
 use crate::worker::Worker;
-use relay_chains::Key;
 use relay_claims::Round;
 use std::thread::{Threads, join_mut};
 
@@ -18,21 +17,20 @@ pub(crate) fn work_all<G: Gate, R: Threads + Sync>(
     rt: &R,
     round: &Round,
     mut worker: Worker,
-    keys: &[Key],
+    offers: &Offers,
     workers: usize,
-    cut: usize,
     gate: &G,
 ) -> Worker
     requires own { IsSeatOf round.now worker.seat }
-    requires keys { round.now.keys ≡ keys.now }
-    requires cut { 1 ≤ cut }
-    requires claimed { HasClaimedAll worker.seat }
-    requires kept { HasKept keys.now worker.seat worker.refused worker.won.items }
-    ensures rest { ClaimsTheRest worker.seat result.seat }
-    ensures kept { HasKept keys.now result.seat result.refused result.won.items }
+    requires keys { round.now.keys ≡ offers.now.keys.now }
+    requires cut { 1 ≤ offers.now.cut }
+    requires claimed { HasClaimedNew offers.now.settled.now offers.now.keys.now worker.seat }
+    requires kept { HasKept offers.now.keys.now worker.seat worker.refused worker.won.items }
+    ensures rest { ClaimsTheNew offers.now.settled.now offers.now.keys.now worker.seat result.seat }
+    ensures kept { HasKept offers.now.keys.now result.seat result.refused result.won.items }
 {
     if workers <= 1 {
-        worker.work(round, keys, cut, gate);
+        worker.work(round, offers, gate);
         return worker;
     }
     let half = workers / 2;
@@ -43,18 +41,18 @@ pub(crate) fn work_all<G: Gate, R: Threads + Sync>(
     join_mut(
         rt,
         &mut ||
-            requires { IsSync R.row × IsSync G.row × (1 ≤ cut) × (round.now.keys ≡ keys.now) × IfSome one (λ w. IsSeatOf round.now w.seat × HasClaimedAll w.seat × HasKept keys.now w.seat w.refused w.won.items) × IsSome one }
-            ensures { IfSome one.exit (λ w. IfSome one.entry (λ v. ClaimsTheRest v.seat w.seat) × HasKept keys.entry.now w.seat w.refused w.won.items) × IsSome one.exit }
+            requires { IsSync R.row × IsSync G.row × (1 ≤ offers.now.cut) × (round.now.keys ≡ offers.now.keys.now) × IfSome one (λ w. IsSeatOf round.now w.seat × HasClaimedNew offers.now.settled.now offers.now.keys.now w.seat × HasKept offers.now.keys.now w.seat w.refused w.won.items) × IsSome one }
+            ensures { IfSome one.exit (λ w. IfSome one.entry (λ v. ClaimsTheNew offers.entry.now.settled.now offers.entry.now.keys.now v.seat w.seat) × HasKept offers.entry.now.keys.now w.seat w.refused w.won.items) × IsSome one.exit }
         {
             let worker = one.take().unwrap();
-            one = Some(work_all(rt, round, worker, keys, half, cut, gate));
+            one = Some(work_all(rt, round, worker, offers, half, gate));
         },
         &mut ||
-            requires { IsSync R.row × IsSync G.row × (1 ≤ cut) × (round.now.keys ≡ keys.now) × IfSome two (λ w. IsSeatOf round.now w.seat × HasClaimedAll w.seat × HasKept keys.now w.seat w.refused w.won.items) × IsSome two }
-            ensures { IfSome two.exit (λ w. IfSome two.entry (λ v. ClaimsTheRest v.seat w.seat) × HasKept keys.entry.now w.seat w.refused w.won.items) × IsSome two.exit }
+            requires { IsSync R.row × IsSync G.row × (1 ≤ offers.now.cut) × (round.now.keys ≡ offers.now.keys.now) × IfSome two (λ w. IsSeatOf round.now w.seat × HasClaimedNew offers.now.settled.now offers.now.keys.now w.seat × HasKept offers.now.keys.now w.seat w.refused w.won.items) × IsSome two }
+            ensures { IfSome two.exit (λ w. IfSome two.entry (λ v. ClaimsTheNew offers.entry.now.settled.now offers.entry.now.keys.now v.seat w.seat) × HasKept offers.entry.now.keys.now w.seat w.refused w.won.items) × IsSome two.exit }
         {
             let worker = two.take().unwrap();
-            two = Some(work_all(rt, round, worker, keys, rest, cut, gate));
+            two = Some(work_all(rt, round, worker, offers, rest, gate));
         },
     );
     Worker::join(round, one.unwrap(), two.unwrap())

@@ -1,14 +1,12 @@
-use Rattle.std.proofs.Common.{◌≡◌, ◌≤◌, ◌<◌, ◌-◌, ℕ, false, length, slice_index}
-use Rattle.relay_loops.specs.Parts.{is_left, place_at, HasPlaces, IsParting}
+use Rattle.std.proofs.Common.{◌≡◌, ◌<◌, ℕ, false, slice_index}
+use Rattle.relay_loops.specs.Judging.{IsResting, KeepsJudged}
+use Rattle.relay_loops.specs.Places.{is_left, place_at, HasPlaces}
 use Rattle.relay_loops.proofs.settling.settle.Given as goal
 
-abbrev pub invariant-loop-next : goal.invariant-loop-next
-invariant-loop-next g l = record {
-  within : l.next ≤ length l.order;
+abbrev pub invariant-loop-pivot : goal.invariant-loop-pivot
+invariant-loop-pivot g l = record {
   places : HasPlaces l.graph l.places;
-  parting : IsParting l.graph l.order l.places;
-  passed : (k : ℕ) → k < l.next → is_left (place_at l.places (slice_index l.order k)) ≡ false;
+  resting : IsResting l.places;
+  judged : KeepsJudged l.graph l.initial.places l.places;
+  answered : (k : ℕ) → k < l.pivot-index → is_left (place_at l.places (slice_index l.order k)) ≡ false;
 }
-
-abbrev pub decreases-loop-next : goal.decreases-loop-next
-decreases-loop-next g l = length l.order - l.next

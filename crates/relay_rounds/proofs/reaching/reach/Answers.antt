@@ -1,28 +1,25 @@
 use Rattle.std.proofs.Common.{rules, ◌≡◌, ℕ, ◌<◌, length, get_or, arith, sym, refl, ap, ◌∙◌, subst, List, [], ◌∷◌, Result, Ok, Err}
-use Rattle.std.proofs.lemmas.List.Sorted.{IsNonDecreasingBy-from_sort}
 use Rattle.std.proofs.lemmas.List.{get_or_default}
 use Rattle.std.proofs.lemmas.Result.{err_from_is_err_and}
 use Rattle.relay_rounds.specs.declared.fault.ReachFault.{ReachFault}
-use Rattle.relay_rounds.specs.Searches.{IsSearch}
-use Rattle.relay_rounds.proofs.Search.{search_begins, won_search, won_all, lone, closes}
+use Rattle.relay_rounds.specs.Searches.{IsSearch, AreNewOf}
+use Rattle.relay_rounds.proofs.Search.{search_begins, new_won, new_all, lone, closes}
 use Rattle.relay_rounds.proofs.reaching.reach.Goals as goal
 
 pub rounds-init : goal.rounds-init
 rounds-init g c =
     let next = g.S.Steps.next_keys c.args.steps.now in
-    let keys = c.in_ok-settled.ensures.keys in
+    let keys = c.in_ok-settled.ensures in
     let offered = c.in_ok-offered.ensures.items in
     record {
       search = rw (keys, offered) (search_begins next c.args.roots.now);
-      shards = c.in_ok-settled.ensures.shards;
       below = rw offered c.requires.roots;
       within = rw keys (omega arith);
     }
 
--- the lone offer, with none behind it
-one_offer : (offered cleared : List ℕ) (key : ℕ) → length offered ≡ 1 → key ≡ get_or offered 0 key → cleared ≡ [] → offered ≡ key ∷ cleared
-one_offer offered cleared key one is none =
-    lone offered one ∙ ap (λ (k : ℕ). k ∷ []) (get_or_default offered 0 0 key (omega arith) ∙ sym is) ∙ ap (λ (xs : List ℕ). key ∷ xs) (sym none)
+-- the lone offer
+one_offer : (offered : List ℕ) (key : ℕ) → length offered ≡ 1 → key ≡ get_or offered 0 key → offered ≡ key ∷ []
+one_offer offered key one is = lone offered one ∙ ap (λ (k : ℕ). k ∷ []) (get_or_default offered 0 0 key (omega arith) ∙ sym is)
 
 -- the fault of an answer of another type
 abbrev fault_or : {A : Type 0} → ReachFault → Result A ReachFault → ReachFault
@@ -38,48 +35,66 @@ returns-in_err-settle_one-clause-refused g c =
     let one : length offered ≡ 1 = (let size : c.len.result ≡ length offered = search rules in let test = c.if-len-eq1.true in omega arith) in
     let p = err_from_is_err_and c.from_residual-in_err-settle_one.result c.from_residual-in_err-settle_one.ensures.1 in
     rw (p.1, p.2)
-    (λ e. c.in_err-settle_one.ensures.refused (same_fault _ _ e) [] c.args.roots.now
-    (subst (λ (xs : List ℕ). IsSearch (g.S.Steps.next_keys c.args.steps.now) c.args.roots.now c.rounds.settled.keys.items xs)
-    (one_offer offered c.clear.new.self.items c.index-key.result.now one c.index-key.ensures c.clear.ensures.items) c.rounds.invariant.search))
+    (λ e. c.in_err-settle_one.ensures.refused (same_fault _ _ e) c.args.roots.now
+    (subst (λ (xs : List ℕ). IsSearch (g.S.Steps.next_keys c.args.steps.now) c.args.roots.now c.rounds.settled xs)
+    (one_offer offered c.index-key.result.now one c.index-key.ensures) c.rounds.invariant.search))
 
 pub rounds-preserved-then-len-eq1 : goal.rounds-preserved-then-len-eq1
 rounds-preserved-then-len-eq1 g c =
     let offered = c.rounds.offered.items in
     let one : length offered ≡ 1 = (let size : c.len.result ≡ length offered = search rules in let test = c.if-len-eq1.true in omega arith) in
-    let e = c.in_ok-settle_one.ensures in
+    let e = c.in_ok-settle_one.ensures.settles in
     record {
-      search = e.search [] c.args.roots.now
-          (subst (λ (xs : List ℕ). IsSearch (g.S.Steps.next_keys c.args.steps.now) c.args.roots.now c.rounds.settled.keys.items xs)
-          (one_offer offered c.clear.new.self.items c.index-key.result.now one c.index-key.ensures c.clear.ensures.items) c.rounds.invariant.search);
-      shards = e.shards;
+      search = e.search c.args.roots.now
+          (subst (λ (xs : List ℕ). IsSearch (g.S.Steps.next_keys c.args.steps.now) c.args.roots.now c.rounds.settled xs)
+          (one_offer offered c.index-key.result.now one c.index-key.ensures) c.rounds.invariant.search);
       below = e.below;
       within = e.within;
     }
 
-pub settle-requires-clause-won : goal.settle-requires-clause-won
-settle-requires-clause-won g c κs within =
-    won_all (λ key. key < g.S.Steps.key_bound c.args.steps.now) c.rounds.offered.items c.as_slice.result.now c.winners.new.kept.won.items c.as_slice-in-rounds.result.now
-    c.as_slice.ensures.value c.as_slice-in-rounds.ensures.value c.in_ok-winners.ensures c.rounds.invariant.below
+-- the new keys of a round, where it hands on its lists by slices
+new_here : (settled offered shown won won_shown : List ℕ) → shown ≡ offered → won_shown ≡ won → AreNewOf settled shown won → AreNewOf settled offered won_shown
+new_here settled offered shown won won_shown a b n = subst (λ (xs : List ℕ). AreNewOf settled offered xs) (sym b) (subst (λ (xs : List ℕ). AreNewOf settled xs won) a n)
+
+pub settle-requires-clause-below : goal.settle-requires-clause-below
+settle-requires-clause-below g c κs within =
+    let settled = c.rounds.settled in
+    let new = c.as_slice-new.result.now in
+    let n : AreNewOf settled c.rounds.offered.items new =
+    new_here settled c.rounds.offered.items c.as_slice.result.now c.winners.new.kept.won.items new c.as_slice.ensures.value c.as_slice-new.ensures.value c.in_ok-winners.ensures in
+    new_all (λ key. key < g.S.Steps.key_bound c.args.steps.now) settled c.rounds.offered.items new n c.rounds.invariant.below
+
+pub settle-requires-clause-fresh : goal.settle-requires-clause-fresh
+settle-requires-clause-fresh g c κs within =
+    let settled = c.rounds.settled in
+    let new = c.as_slice-new.result.now in
+    let n : AreNewOf settled c.rounds.offered.items new =
+    new_here settled c.rounds.offered.items c.as_slice.result.now c.winners.new.kept.won.items new c.as_slice.ensures.value c.as_slice-new.ensures.value c.in_ok-winners.ensures in
+    λ key on old. ((n.members key).0 on).1 old
+
+pub returns-in_err-settled-2-clause-refused : goal.returns-in_err-settled-2-clause-refused
+returns-in_err-settled-2-clause-refused g c =
+    let settled = c.rounds.settled in
+    let new = c.as_slice-new.result.now in
+    let n : AreNewOf settled c.rounds.offered.items new =
+    new_here settled c.rounds.offered.items c.as_slice.result.now c.winners.new.kept.won.items new c.as_slice.ensures.value c.as_slice-new.ensures.value c.in_ok-winners.ensures in
+    let p = err_from_is_err_and c.from_residual-in_err-settled-2.result c.from_residual-in_err-settled-2.ensures.1 in
+    rw (p.1, p.2)
+    (λ e. c.in_err-settled-2.ensures.refused (same_fault _ _ e) c.args.roots.now
+    (new_won (g.S.Steps.next_keys c.args.steps.now) c.args.roots.now settled c.rounds.offered.items new n c.rounds.invariant.search))
 
 pub rounds-preserved : goal.rounds-preserved
 rounds-preserved g c =
-    let e = c.in_ok-settle.ensures in
+    let settled = c.rounds.settled in
+    let new = c.as_slice-new.result.now in
+    let n : AreNewOf settled c.rounds.offered.items new =
+    new_here settled c.rounds.offered.items c.as_slice.result.now c.winners.new.kept.won.items new c.as_slice.ensures.value c.as_slice-new.ensures.value c.in_ok-winners.ensures in
+    let e = c.in_ok-settled-2.ensures.settles in
     record {
-      search = e.settles.search c.args.roots.now
-          (won_search (g.S.Steps.next_keys c.args.steps.now) c.args.roots.now c.rounds.settled.keys.items c.rounds.offered.items c.as_slice.result.now c.winners.new.kept.won.items c.as_slice-in-rounds.result.now
-          c.as_slice.ensures.value c.as_slice-in-rounds.ensures.value c.in_ok-winners.ensures c.rounds.invariant.search);
-      shards = e.shards;
-      below = e.settles.below;
-      within = e.settles.within;
+      search = e.search c.args.roots.now (new_won (g.S.Steps.next_keys c.args.steps.now) c.args.roots.now settled c.rounds.offered.items new n c.rounds.invariant.search);
+      below = e.below;
+      within = e.within;
     }
-
-pub returns-in_err-settle-clause-refused : goal.returns-in_err-settle-clause-refused
-returns-in_err-settle-clause-refused g c =
-    let p = err_from_is_err_and c.from_residual-in_err-settle.result c.from_residual-in_err-settle.ensures.1 in
-    rw (p.1, p.2)
-    (λ e. c.in_err-settle.ensures.refused (same_fault _ _ e) c.args.roots.now
-    (won_search (g.S.Steps.next_keys c.args.steps.now) c.args.roots.now c.rounds.settled.keys.items c.rounds.offered.items c.as_slice.result.now c.winners.new.kept.won.items c.as_slice-in-rounds.result.now
-    c.as_slice.ensures.value c.as_slice-in-rounds.ensures.value c.in_ok-winners.ensures c.rounds.invariant.search))
 
 none_left : (xs : List ℕ) → length xs ≡ 0 → xs ≡ []
 none_left [] e = refl
@@ -88,10 +103,9 @@ none_left (x ∷ xs) e = absurd (omega arith)
 pub returns-clause-closure : goal.returns-clause-closure
 returns-clause-closure g c =
     let next = g.S.Steps.next_keys c.args.steps.now in
-    let settled = c.rounds.settled.keys.items in
+    let settled = c.rounds.settled in
     let count : length c.rounds.offered.items ≡ 0 = search rules in
     let none : c.rounds.offered.items ≡ [] = none_left c.rounds.offered.items count in
-    closes next c.args.roots.now settled c.sort_keys.new.keys.items
+    closes next c.args.roots.now settled c.in_ok-keys.keys.items
     (subst (λ (xs : List ℕ). IsSearch next c.args.roots.now settled xs) none c.rounds.invariant.search)
-    c.sort_keys.ensures.permutation
-    (IsNonDecreasingBy-from_sort (λ (x : ℕ). x) c.sort_keys.new.keys.items c.sort_keys.ensures.sorted)
+    c.in_ok-keys.ensures.ascending c.in_ok-keys.ensures.members

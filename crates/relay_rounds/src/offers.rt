@@ -1,0 +1,12 @@
+//! What a round has to look at.
+use crate::settled::Settled;
+use relay_chains::Key;
+
+/// The keys that are offered to a round, those that were settled before it, and how many of the offered ones a worker draws
+/// at once.
+#[derive(Clone, Copy)]
+pub(crate) struct Offers<'a> {
+    pub(crate) keys: &'a [Key],
+    pub(crate) settled: &'a Settled,
+    pub(crate) cut: usize,
+}
