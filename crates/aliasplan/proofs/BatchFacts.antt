@@ -87,12 +87,12 @@ route_is job t n route found = ap (or_none t n) found where
   or_none transport nexthop (Err reason) = record { transport = transport; nexthop = nexthop; hosts = [] }
 
 pub lane_batches : (job : Job) (routes : Routing) (sender : Sender) (lane : Lane) (limit : ℕ) (to : List AddressParts) (first made : List Planned) → routes ≡ routing_of job → limit ≡ limit_of job.settings lane.transport → to ≡ lane.to
-    → ((route : Route) → (AddressParts → route_to routes lane.transport lane.nexthop ≡ Ok route) → made ≡ first ++ map (planned_by sender route) (parts_of limit to))
+    → ((route : Route) → route_to routes lane.transport lane.nexthop ≡ Ok route → made ≡ first ++ map (planned_by sender route) (parts_of limit to))
     → IsRouted job lane.transport lane.nexthop → made ≡ first ++ batches_of job (group_of job sender lane)
 lane_batches job routes sender lane limit to first made same limit_is to_is made_by routed =
     let route = routed.route in
     let batches : Route → List Planned = λ r. map (planned_by sender r) (parts_of (limit_of job.settings r.transport) lane.to) in
-    made_by route (λ a. ap (λ r. route_to r lane.transport lane.nexthop) same ∙ routed.found)
+    made_by route (ap (λ r. route_to r lane.transport lane.nexthop) same ∙ routed.found)
     ∙ ap (λ n. first ++ map (planned_by sender route) (parts_of n to)) (limit_is ∙ ap (limit_of job.settings) (sym routed.by_transport))
     ∙ ap (λ xs. first ++ map (planned_by sender route) (parts_of (limit_of job.settings route.transport) xs)) to_is
     ∙ ap (λ r. first ++ batches r) (sym (route_is job lane.transport lane.nexthop route routed.found))

@@ -48,7 +48,7 @@ unrouted_added cause reason copy address q old new same is e =
     )
 
 -- what is answered is the route, unless memory ran out
-answered : (answer route : Result Route Unrouted) → Answers answer route → (answer ≡ Err causes.Memory → ⊥) → answer ≡ route
+pub answered : (answer route : Result Route Unrouted) → Answers answer route → (answer ≡ Err causes.Memory → ⊥) → answer ≡ route
 answered (Ok q) route h enough = sym h
 answered (Err causes.Memory) route h enough = absurd (enough refl)
 answered (Err causes.Domain) route h enough = sym h

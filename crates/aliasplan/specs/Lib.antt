@@ -6,6 +6,7 @@ pub mod RecipientLists
 pub mod Lanes
 pub mod Texts
 pub mod Stops
+pub mod NexthopRoutes
 pub mod Outcomes
 pub mod Transfers
 pub mod Listing

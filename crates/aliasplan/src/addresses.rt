@@ -10,11 +10,11 @@ ghost use Rattle.aliasplan.specs.Report.{IsLineOf};
 ghost use Rattle.aliasplan.specs.Report.{routes};
 
 use crate::batches::plan_senders;
+use crate::cached_router::CachedRouter;
 use crate::gathering::gather_stops;
 use crate::sender_order::order_senders;
 use relay_job::Job;
 use relay_pairs::Reached;
-use relay_routes::Router;
 use relay_tables::Graph;
 use relay_text::TextSet;
 use relay_wire::Planned;
@@ -25,12 +25,12 @@ use std::alloc::{AllocError, Global};
 pub fn plan_addresses(
     alloc: Global,
     job: &Job,
-    router: &Router,
+    router: &mut CachedRouter,
     graph: &Graph,
     pairs: &[Reached],
     lines: &mut TextSet,
 ) -> Result<Vec<Planned>, AllocError>
-    requires router { router.now ≡ routing_of job.now }
+    requires router { router.old ≡ routing_of job.now }
     requires graph { IsJobGraph job.now graph.now }
     requires pairs { AreReachedPairs job.now graph.now pairs.now }
     requires limits { (t : names.Transport) → 0 < limit_of job.now.settings t }

@@ -10,7 +10,7 @@ use relay_job::RunFault;
 use std::alloc::Global;
 
 /// Writes the text of a job whose files lie apart: settings, aliases, the include files that these lead to, mailboxes, transport table,
-/// mail exchangers and envelope, each where it is named.
+/// mail exchangers and envelope, each where it is named. Several alias files, or transport tables, are joined in their order.
 ///
 /// `Read` where a named file is absent or fails or an include file fails, `TooLong` where the text has more than `max` bytes; the first
 /// section with a fault decides. `Memory` where memory runs out. All of the text is there before the first write, so these write

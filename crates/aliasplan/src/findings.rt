@@ -16,7 +16,7 @@ pub fn report(alloc: Global, finding: &Finding, lines: &mut TextSet) -> Result<(
     ensures { OnOk result (ReportsWhere lines.old lines.new (λ q. bytes_eq q (finding_text_of finding.now))) }
 {
     let line = finding_line(alloc, finding)?;
-    lines.insert(line.into_bytes())?;
+    lines.insert(line.into_bytes(alloc)?)?;
     Ok(())
 }
 

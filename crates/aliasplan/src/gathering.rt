@@ -8,12 +8,13 @@ ghost use Rattle.aliasplan.specs.Findings.{Reports};
 ghost use Rattle.aliasplan.specs.Lanes.{HasStop, NoStops, AreStopsRouted, IsStopAt, IsLineAt, IsStopOf, IsLineOfNode};
 ghost use Rattle.aliasplan.specs.Gathering.{route_by_found, AreNumbered, HasStopUnder, HaveStop, HaveLine};
 
+use crate::cached_router::CachedRouter;
 use crate::findings::{reason_for, report};
 use crate::lanes::Lanes;
 use crate::sender_lanes::SenderLanes;
 use relay_job::Job;
 use relay_pairs::Reached;
-use relay_routes::{Destination, Route, Router, Unrouted, route_by_destination};
+use relay_routes::{Destination, Route, Unrouted, route_by_destination};
 use relay_tables::{Graph, Node};
 use relay_text::{Address, TextSet};
 use relay_wire::Finding;
@@ -85,18 +86,19 @@ fn add_routed(
     }
 }
 
-/// Adds an address by its destination, whose route is looked up only where no address goes there yet.
+/// Adds an address by its destination.
 fn add_to(
     alloc: Global,
-    router: &Router,
+    router: &mut CachedRouter,
     to: &Destination,
     address: &Address,
     lanes: &mut Lanes,
     lines: &mut TextSet,
 ) -> Result<(), AllocError>
-    requires { AreStopsRouted router.now lanes.old }
-    ensures stops { OnOk result ((t : kinds.Transport) (n : List ℕ) (a : AddressParts) → HasStop lanes.new t n a ↔ (HasStop lanes.old t n a ⊎ IsStopAt (route_to router.now to.now.transport to.now.nexthop) address.now t n a)) }
-    ensures lines { OnOk result (Reports lines.old lines.new (IsLineAt (route_to router.now to.now.transport to.now.nexthop) address.now)) }
+    requires { AreStopsRouted router.old lanes.old }
+    ensures stops { OnOk result ((t : kinds.Transport) (n : List ℕ) (a : AddressParts) → HasStop lanes.new t n a ↔ (HasStop lanes.old t n a ⊎ IsStopAt (route_to router.old to.now.transport to.now.nexthop) address.now t n a)) }
+    ensures lines { OnOk result (Reports lines.old lines.new (IsLineAt (route_to router.old to.now.transport to.now.nexthop) address.now)) }
+    ensures kept { router.new ≡ router.old }
 {
     let nexthop = to.nexthop.as_bytes();
     if lanes.join(alloc, to.transport, nexthop, address)? {
@@ -109,16 +111,17 @@ fn add_to(
 /// Adds an address by the destination that was found for it.
 fn add_found(
     alloc: Global,
-    router: &Router,
+    router: &mut CachedRouter,
     found: Result<Destination, Unrouted>,
     address: &Address,
     lanes: &mut Lanes,
     lines: &mut TextSet,
 ) -> Result<(), AllocError>
-    requires { AreStopsRouted router.now lanes.old }
-    ensures stops { OnOk result ((t : kinds.Transport) (n : List ℕ) (a : AddressParts) → HasStop lanes.new t n a ↔ (HasStop lanes.old t n a ⊎ IsStopAt (route_by_found router.now found) address.now t n a)) }
-    ensures lines { OnOk result (Reports lines.old lines.new (IsLineAt (route_by_found router.now found) address.now)) }
+    requires { AreStopsRouted router.old lanes.old }
+    ensures stops { OnOk result ((t : kinds.Transport) (n : List ℕ) (a : AddressParts) → HasStop lanes.new t n a ↔ (HasStop lanes.old t n a ⊎ IsStopAt (route_by_found router.old found) address.now t n a)) }
+    ensures lines { OnOk result (Reports lines.old lines.new (IsLineAt (route_by_found router.old found) address.now)) }
     ensures memory { OnOk result (found ≡ Err Unrouted.Memory → ⊥) }
+    ensures kept { router.new ≡ router.old }
 {
     match found {
         Ok(to) => add_to(alloc, router, &to, address, lanes, lines),
@@ -130,25 +133,26 @@ fn add_found(
 fn add_node(
     alloc: Global,
     job: &Job,
-    router: &Router,
+    router: &mut CachedRouter,
     node: &Node,
     lanes: &mut Lanes,
     lines: &mut TextSet,
 ) -> Result<(), AllocError>
-    requires router { router.now ≡ routing_of job.now }
-    requires routed { AreStopsRouted router.now lanes.old }
+    requires router { router.old ≡ routing_of job.now }
+    requires routed { AreStopsRouted router.old lanes.old }
     ensures stops { OnOk result ((t : kinds.Transport) (n : List ℕ) (a : AddressParts) → HasStop lanes.new t n a ↔ (HasStop lanes.old t n a ⊎ IsStopOf job.now node.now t n a)) }
     ensures lines { OnOk result (Reports lines.old lines.new (IsLineOfNode job.now node.now)) }
+    ensures kept { router.new ≡ router.old }
 {
     route_by_destination();
     match node {
         Node::Mailbox(address) => {
             let via = &job.settings.mailbox_transport;
-            let found = router.destination_via(alloc, via, address);
+            let found = router.router().destination_via(alloc, via, address);
             add_found(alloc, router, found, address, lanes, lines)
         }
         Node::Remote(address) => {
-            let found = router.destination(alloc, address);
+            let found = router.router().destination(alloc, address);
             add_found(alloc, router, found, address, lanes, lines)
         }
         Node::Alias(_)
@@ -165,17 +169,18 @@ fn add_node(
 pub fn gather_stops(
     alloc: Global,
     job: &Job,
-    router: &Router,
+    router: &mut CachedRouter,
     graph: &Graph,
     pairs: &[Reached],
     lines: &mut TextSet,
 ) -> Result<Vec<SenderLanes>, AllocError>
-    requires router { router.now ≡ routing_of job.now }
+    requires router { router.old ≡ routing_of job.now }
     requires in_graph { All (λ p. (p.sender < length graph.now.senders) × (p.node < length graph.now.nodes)) pairs.now }
     ensures stops { IfOk result (λ by_sender. (s : ℕ) (t : kinds.Transport) (n : List ℕ) (a : AddressParts) → HasStopUnder by_sender.items s t n a ↔ HaveStop job.now graph.now pairs.now s t n a) }
     ensures lines { OnOk result (Reports lines.old lines.new (HaveLine job.now graph.now pairs.now)) }
     ensures numbers { IfOk result (λ by_sender. AreNumbered by_sender.items) }
     ensures few { IfOk result (λ by_sender. length by_sender.items ≤ length graph.now.senders) }
+    ensures kept { router.new ≡ router.old }
 {
     let mut by_sender = no_lanes(alloc, sender_count(pairs))?;
     for pair in pairs {

@@ -14,6 +14,7 @@ ghost use Rattle.aliasplan.specs.Texts.{has_fault_line};
 ghost use Rattle.aliasplan.specs.Reaching.{AreReachedPairs, AreReachedNodes};
 
 use crate::addresses::plan_addresses;
+use crate::cached_router::CachedRouter;
 use crate::entries::report_entries;
 use crate::options::{Limits, Options};
 use crate::sources::Sources;
@@ -22,7 +23,6 @@ use relay_job::{Job, RunFault, parsed_jobs};
 use relay_loops::on_loops;
 use relay_pairs::{Reached, pairs_are_counted, pairs_by_numbers, reached_nodes, reached_pairs};
 use relay_rounds::{Gate, ReachFault};
-use relay_routes::Router;
 use relay_tables::{Graph, TableFault, Tables};
 use relay_text::{Seq, Text, TextSet};
 use relay_wire::{Plan, Planned};
@@ -157,7 +157,7 @@ fn plan_reached<G: Gate, R: Threads + Sync>(
     alloc: Global,
     job: &Job,
     tables: &Tables,
-    router: &Router,
+    router: &mut CachedRouter,
     graph: &Graph,
     pairs: &[Reached],
     options: Options,
@@ -167,7 +167,7 @@ fn plan_reached<G: Gate, R: Threads + Sync>(
     requires options { AreOptions options }
     requires batches { (t : names.Transport) → 0 < limit_of job.now.settings t }
     requires tables { tables.now ≡ directory_of job.now }
-    requires router { router.now ≡ routing_of job.now }
+    requires router { router.old ≡ routing_of job.now }
     requires graph { IsJobGraph job.now graph.now }
     requires pairs { ArePairs graph.now pairs.now }
     requires reached { AreReachedPairs job.now graph.now pairs.now }
@@ -188,7 +188,7 @@ fn plan_sources<G: Gate, R: Threads + Sync>(
     alloc: Global,
     job: &Job,
     tables: &Tables,
-    router: &Router,
+    router: &mut CachedRouter,
     options: Options,
     limits: Limits,
     lines: TextSet,
@@ -198,7 +198,7 @@ fn plan_sources<G: Gate, R: Threads + Sync>(
     requires limits { AreLimits limits }
     requires batches { (t : names.Transport) → 0 < limit_of job.now.settings t }
     requires tables { tables.now ≡ directory_of job.now }
-    requires router { router.now ≡ routing_of job.now }
+    requires router { router.old ≡ routing_of job.now }
     requires lines { (q : List ℕ) → has_text lines q ≡ has_fault_line job.now q }
     ensures plan { IfOk result (IsPlanOf job.now) }
     ensures within { OnOk result (IsWithin limits job.now) }
@@ -247,7 +247,18 @@ pub fn plan_job<G: Gate, R: Threads + Sync>(
         router,
         lines,
     } = sources;
+    let Ok(mut router) = CachedRouter::new(alloc, job, router) else {
+        return Err(RunFault::Memory);
+    };
     plan_sources(
-        rt, alloc, job, &tables, &router, options, limits, lines, gate,
+        rt,
+        alloc,
+        job,
+        &tables,
+        &mut router,
+        options,
+        limits,
+        lines,
+        gate,
     )
 }

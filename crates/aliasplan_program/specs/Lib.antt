@@ -1,3 +1,4 @@
 pub mod Statuses
 pub mod Requests
-pub mod FilesInMemory
+pub mod Summaries
+pub mod JsonEscapes

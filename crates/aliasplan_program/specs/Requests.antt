@@ -7,8 +7,8 @@ use Rattle.aliasplan_program.specs.declared.command_line.Request.TheVariants.{Pl
 
 -- a plan is asked for with options in range, and no more than memory and standard output fail a command line
 abbrev pub IsRequest : Request → Type 0
-IsRequest (Plan options path) = AreOptions options
-IsRequest (Gather paths) = ⊤
+IsRequest (Plan options output path detail) = AreOptions options
+IsRequest (Gather paths detail) = ⊤
 IsRequest Help = ⊤
 IsRequest Unknown = ⊤
 IsRequest (Fault fault) = (fault ≡ Memory) ⊎ (fault ≡ Write)

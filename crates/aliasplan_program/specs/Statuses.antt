@@ -31,8 +31,8 @@ code_after CommandLine = 5
 
 -- the command line is at fault where it asks for nothing that there is, and only there; only a plan has findings
 abbrev pub IsStatusOf : Request → Status → Type 0
-IsStatusOf (Plan options path) status = status ≢ CommandLine
-IsStatusOf (Gather paths) status = (status ≢ Found) × (status ≢ CommandLine)
+IsStatusOf (Plan options output path detail) status = status ≢ CommandLine
+IsStatusOf (Gather paths detail) status = (status ≢ Found) × (status ≢ CommandLine)
 IsStatusOf Help status = status ≡ Done
 IsStatusOf Unknown status = status ≡ CommandLine
 IsStatusOf (Fault fault) status = code_after status ≡ code_of fault

@@ -8,8 +8,8 @@ ghost use Rattle.aliasplan_program.specs.Requests.{IsRequest};
 
 use aliasplan::{Form, Options, Paths, RunFault};
 use clap::error::ErrorKind;
-use clap::{Arg, ArgMatches, Command, value_parser};
-use relay_text::Text;
+use clap::{Arg, ArgAction, ArgMatches, Command, value_parser};
+use relay_text::{Seq, Text};
 use std::alloc::{AllocError, Global};
 use std::rt::Env;
 use std::{env, io};
@@ -18,15 +18,33 @@ use std::{env, io};
 #[derive(Drop)]
 pub enum Request {
     /// A plan of the job in the file of this path, or on standard input where there is none.
-    Plan(Options, Option<Text>),
+    Plan(Options, Output, Option<Text>, Detail),
     /// A job of the files of these paths.
-    Gather(Paths),
+    Gather(Paths, Detail),
     /// The help or the version, which is printed.
     Help,
     /// Something else, as is said on standard error.
     Unknown,
     /// Words that can't be read for want of memory, or the help, which can't be written.
     Fault(RunFault),
+}
+
+/// What a plan is written as.
+#[derive(Clone, Copy, Debug, PartialEq, Eq)]
+pub enum Output {
+    /// The text of the form that the options name.
+    Text,
+    /// A JSON object, whatever form the options name.
+    Json,
+}
+
+/// How much is said of a fault.
+#[derive(Clone, Copy, Debug, PartialEq, Eq)]
+pub enum Detail {
+    /// One line that names it.
+    Line,
+    /// Behind it, the line or the file that has the fault.
+    Culprit,
 }
 
 /// How many threads take part where the command line says nothing, and how many pairs one of them takes at once.
@@ -41,16 +59,34 @@ const VERSION: &str = "0.1.0, proved with rattle-kit-13b";
 const AFTER_PLAN: &str =
     "Exit status: 0 a plan without findings, 1 a plan with findings, 2 the job is refused,\n\
       3 out of memory, 4 the job can't be read or the plan can't be written, 5 a fault of the command line.\n\
-      Where the status is 2 or more, one line on standard error says why.\n\n\
+      Where the status is 2 or more, one line on standard error says why; with -v a second says where.\n\
+      Where it is 1, -v says there which items of alias and include files are bad, and why.\n\n\
       Example: aliasplan plan examples/first.job";
 
 /// What stands below the options in the help of `gather`.
 const AFTER_GATHER: &str =
-    "A section whose file isn't named isn't in the job. The include files that the alias file names are\n\
-      read too, from the paths that stand there.\n\n\
+    "A section whose file isn't named isn't in the job. --aliases and --transport may stand several times:\n\
+      the files are joined in that order, and the first entry of a name or a pattern holds. The include\n\
+      files that the alias files name are read too, from the paths that stand there.\n\n\
       Exit status: 0 the job is written, 2 it would be refused, 3 out of memory, 4 a file can't be read or\n\
       the job can't be written, 5 a fault of the command line.\n\n\
       Example: aliasplan gather --aliases /etc/aliases --envelope message.envelope | aliasplan plan";
+
+fn verbose<'a>(alloc: Global) -> Arg<'a> {
+    Arg::new(alloc, "verbose")
+        .short('v')
+        .long("verbose")
+        .action(ArgAction::SetTrue)
+        .help("Where there is a fault, says on a second line which line or file has it, and why")
+}
+
+fn detail_of(words: &ArgMatches<'_>) -> Detail {
+    if words.get_flag("verbose") {
+        Detail::Culprit
+    } else {
+        Detail::Line
+    }
+}
 
 fn plan_command<'a>(alloc: Global) -> Result<Command<'a>, AllocError> {
     let workers = Arg::new(alloc, "workers")
@@ -68,8 +104,10 @@ fn plan_command<'a>(alloc: Global) -> Result<Command<'a>, AllocError> {
     let form = Arg::new(alloc, "form")
         .long("form")
         .value_name("FORM")
-        .help("The plan's lines, as where it isn't said, or the commands of each transaction")
-        .value_parser(["plan", "wire"].as_slice());
+        .help(
+            "plan for its lines, as where it isn't said, wire for the commands of each transaction, json for one JSON object",
+        )
+        .value_parser(["plan", "wire", "json"].as_slice());
     let file = Arg::new(alloc, "file").value_name("FILE").help(
         "The file that the job is read from; - is standard input, as is no FILE",
     );
@@ -79,34 +117,45 @@ fn plan_command<'a>(alloc: Global) -> Result<Command<'a>, AllocError> {
         .arg(workers)?
         .arg(cut)?
         .arg(form)?
+        .arg(verbose(alloc))?
         .arg(file)
 }
 
-/// The files that a job is gathered of, each by the name of its section.
-const FILES: [(&str, &str); 6] = [
-    ("settings", "The settings"),
+/// The files that a job is gathered of, each by the name of its section, and what naming several does.
+const FILES: [(&str, ArgAction, &str); 6] = [
+    ("settings", ArgAction::Set, "The settings"),
     (
         "aliases",
-        "The alias file, whose include files are followed",
+        ArgAction::Append,
+        "An alias file, whose include files are followed",
     ),
-    ("mailboxes", "The names that have a mailbox, one a line"),
-    ("transport", "The transport table"),
-    ("mx", "The mail exchangers"),
-    ("envelope", "The envelope: the sender and the recipients"),
+    (
+        "mailboxes",
+        ArgAction::Set,
+        "The names that have a mailbox, one a line",
+    ),
+    ("transport", ArgAction::Append, "A transport table"),
+    ("mx", ArgAction::Set, "The mail exchangers"),
+    (
+        "envelope",
+        ArgAction::Set,
+        "The envelope: the sender and the recipients",
+    ),
 ];
 
 fn gather_command<'a>(alloc: Global) -> Result<Command<'a>, AllocError> {
     let mut command = Command::new(alloc, "gather")
         .about("Writes the job of files that lie apart on standard output")
         .after_help(AFTER_GATHER);
-    for (name, help) in FILES {
+    for (name, action, help) in FILES {
         let file = Arg::new(alloc, name)
             .long(name)
             .value_name("FILE")
+            .action(action)
             .help(help);
         command = command.arg(file)?;
     }
-    Ok(command)
+    command.arg(verbose(alloc))
 }
 
 fn command<'a>(alloc: Global) -> Result<Command<'a>, AllocError> {
@@ -137,12 +186,31 @@ fn options_of(plan: &ArgMatches<'_>) -> Options
     }
 }
 
+/// What the words after `plan` say that the plan is written as.
+fn output_of(plan: &ArgMatches<'_>) -> Output {
+    match plan.get_str("form") {
+        Some("json") => Output::Json,
+        _ => Output::Text,
+    }
+}
+
 /// The path that an option names, if it stands there.
 fn path_of(alloc: Global, words: &ArgMatches<'_>, name: &str) -> Result<Option<Text>, AllocError> {
     match words.get_str(name) {
         Some(path) => Ok(Some(Text::copy_of(alloc, path.as_bytes())?)),
         None => Ok(None),
     }
+}
+
+/// The paths that an option names, each time that it stands there, in their order.
+fn paths_named(alloc: Global, words: &ArgMatches<'_>, name: &str) -> Result<Seq<Text>, AllocError> {
+    let mut paths = Vec::new(alloc);
+    if let Some(named) = words.get_strs(name) {
+        for path in named {
+            paths.push(Text::copy_of(alloc, path.as_bytes())?)?;
+        }
+    }
+    Ok(Seq::of(paths))
 }
 
 /// What the words after `plan` ask for.
@@ -153,19 +221,27 @@ fn plan_of(alloc: Global, plan: &ArgMatches<'_>) -> Result<Request, AllocError>
         Some("-") => None,
         _ => path_of(alloc, plan, "file")?,
     };
-    Ok(Request::Plan(options_of(plan), path))
+    Ok(Request::Plan(options_of(plan), output_of(plan), path, detail_of(plan)))
 }
 
 /// The paths that the words after `gather` say.
 fn paths_of(alloc: Global, gather: &ArgMatches<'_>) -> Result<Paths, AllocError> {
     Ok(Paths {
         settings: path_of(alloc, gather, "settings")?,
-        aliases: path_of(alloc, gather, "aliases")?,
+        aliases: paths_named(alloc, gather, "aliases")?,
         mailboxes: path_of(alloc, gather, "mailboxes")?,
-        transport: path_of(alloc, gather, "transport")?,
+        transport: paths_named(alloc, gather, "transport")?,
         mx: path_of(alloc, gather, "mx")?,
         envelope: path_of(alloc, gather, "envelope")?,
     })
+}
+
+/// What the words after `gather` ask for.
+fn gather_of(alloc: Global, gather: &ArgMatches<'_>) -> Result<Request, AllocError>
+    ensures { IfOk result (λ request. IsRequest request) }
+{
+    let paths = paths_of(alloc, gather)?;
+    Ok(Request::Gather(paths, detail_of(gather)))
 }
 
 /// What a subcommand and the words after it ask for.
@@ -174,7 +250,7 @@ fn request_of(alloc: Global, name: &str, words: &ArgMatches<'_>) -> Request
 {
     let request = match name {
         "plan" => plan_of(alloc, words),
-        _ => paths_of(alloc, words).map(Request::Gather),
+        _ => gather_of(alloc, words),
     };
     request.unwrap_or(Request::Fault(RunFault::Memory))
 }

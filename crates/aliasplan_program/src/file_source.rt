@@ -6,20 +6,27 @@ use aliasplan::{Source, SourceFault};
 use std::alloc::Global;
 use std::io::{Error, ErrorKind, Read};
 use std::rt::Files;
-use std::{fs, str};
+use std::{fs, io, str};
 
 /// How much of a file is read: one byte more than a job may have, so that a longer file makes a job that is too long.
-const MOST: u64 = 67_108_865;
+pub const MOST: u64 = 67_108_865;
 
 /// The files of the system by their paths.
 #[derive(Drop)]
 pub struct FileSource<'a, R> {
     rt: &'a R,
+    /// The path that was asked for last of those that gave no file.
+    failed: Option<Vec<u8>>,
 }
 
 impl<'a, R> FileSource<'a, R> {
     pub fn new(rt: &'a R) -> FileSource<'a, R> {
-        FileSource { rt }
+        FileSource { rt, failed: None }
+    }
+
+    /// The path that was asked for last of those that gave no file, where there is one.
+    pub fn failed(&self) -> Option<&[u8]> {
+        self.failed.as_deref()
     }
 }
 
@@ -36,11 +43,16 @@ fn opening_fault(error: &Error) -> SourceFault
 }
 
 /// The file of a path, opened. A path that isn't UTF-8, or has a byte of 0, fails.
+pub fn open_file<R: Files>(rt: &R, path: &[u8]) -> io::Result<R::File> {
+    match str::from_utf8(path) {
+        Ok(path) => fs::open(rt, path),
+        Err(_) => Err(Error::from(ErrorKind::InvalidInput)),
+    }
+}
+
+/// The same, with the fault of a source.
 pub fn open<R: Files>(rt: &R, path: &[u8]) -> Result<R::File, SourceFault> {
-    let Ok(path) = str::from_utf8(path) else {
-        return Err(SourceFault::Failed);
-    };
-    fs::open(rt, path).map_err(|error| opening_fault(&error))
+    open_file(rt, path).map_err(|error| opening_fault(&error))
 }
 
 /// The bytes of an open file, as many as are read. The file is there, also where the system answers a read as if it weren't.
@@ -63,7 +75,13 @@ impl<R: Files> Source for FileSource<'_, R> {
     ghost answer = { λ source path. unknown };
 
     fn fetch(&mut self, alloc: Global, path: &[u8]) -> Result<Vec<u8>, SourceFault> {
-        let file = open(self.rt, path)?;
-        bytes_of(alloc, file)
+        let answer = match open(self.rt, path) {
+            Ok(file) => bytes_of(alloc, file),
+            Err(fault) => Err(fault),
+        };
+        if answer.is_err() {
+            self.failed = Vec::from_slice(alloc, path).ok();
+        }
+        answer
     }
 }

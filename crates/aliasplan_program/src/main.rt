@@ -1,42 +1,30 @@
 //! `aliasplan plan` reads a job and writes its plan on standard output; `aliasplan gather` writes a job of files that lie apart.
 #![tactic(auto)]
 
-ghost use Rattle.std.specs.Prelude.{◌≡◌, ◌≢◌};
+ghost use Rattle.std.specs.Prelude.{◌≡◌, ◌≢◌, IfOk, IfErr};
 ghost use Rattle.aliasplan.specs.Outcomes.{AreOptions};
 ghost use Rattle.aliasplan_program.specs.Requests.{IsRequest};
 ghost use Rattle.aliasplan_program.specs.Statuses.{code_of, code_after, IsStatusOf};
 
+mod bad_lists;
 mod command_line;
+mod explaining;
+mod explaining_items;
 mod file_source;
+mod json_form;
+mod json_run;
 mod standard_input;
-#[cfg(test)]
-mod tests;
-#[cfg(test)]
-mod tests_aliases;
-#[cfg(test)]
-mod tests_devices;
-#[cfg(test)]
-mod tests_files;
-#[cfg(test)]
-mod tests_gates;
-#[cfg(test)]
-mod tests_gathering;
-#[cfg(test)]
-mod tests_options;
-#[cfg(test)]
-mod tests_proved;
-#[cfg(test)]
-mod tests_signals;
-#[cfg(test)]
-mod tests_tables;
 
 use aliasplan::{Device, Limits, NoGate, Options, Paths, RunFault, SourceFault, gather, run};
-use command_line::{Request, read_words};
-use file_source::FileSource;
+use command_line::{Detail, Output, Request, read_words};
+use explaining::{explain_file, explain_job, shown};
+use explaining_items::explain_items;
+use file_source::{FileSource, MOST};
+use json_run::run_as_json;
 use relay_text::Text;
 use standard_input::StandardInput;
 use std::io;
-use std::io::Read;
+use std::io::{ErrorKind, Read};
 use std::process::ExitCode;
 use std::rt::Files;
 use std::thread::Threads;
@@ -99,29 +87,118 @@ fn refused<R: Eprint>(rt: &R, fault: RunFault) -> Status
     Status::of_fault(fault)
 }
 
+/// What becomes of the plan of the job that a reader gives.
+fn planned<R: Print + Eprint + AllocGlobal + Threads + Sync, J: Read + Drop>(
+    rt: &R,
+    job: J,
+    options: Options,
+    output: Output,
+) -> Result<Status, RunFault>
+    requires { AreOptions options }
+    ensures { IfOk result (λ status. status ≢ Status.CommandLine) }
+{
+    let mut reader = Device::new(job);
+    let mut writer = Device::new(io::writer(rt));
+    let summary = match output {
+        Output::Text => run(
+            rt,
+            rt.alloc(),
+            &mut reader,
+            &mut writer,
+            options,
+            LIMITS,
+            &NoGate,
+        )?,
+        Output::Json => run_as_json(rt, &mut reader, &mut writer, options, LIMITS)?,
+    };
+    if summary.findings == 0 {
+        Ok(Status::Done)
+    } else {
+        Ok(Status::Found)
+    }
+}
+
 /// Plans the job that a reader gives.
 fn plan<R: Print + Eprint + AllocGlobal + Threads + Sync, J: Read + Drop>(
     rt: &R,
     job: J,
     options: Options,
+    output: Output,
 ) -> Status
     requires { AreOptions options }
     ensures { result ≢ Status.CommandLine }
 {
-    let mut reader = Device::new(job);
-    let mut writer = Device::new(io::writer(rt));
-    match run(
-        rt,
-        rt.alloc(),
-        &mut reader,
-        &mut writer,
-        options,
-        LIMITS,
-        &NoGate,
-    ) {
-        Ok(summary) if summary.findings == 0 => Status::Done,
-        Ok(_) => Status::Found,
+    match planned(rt, job, options, output) {
+        Ok(status) => status,
         Err(fault) => refused(rt, fault),
+    }
+}
+
+/// All bytes that a reader of this name gives, or what the process ends with, which is said.
+fn read_whole<R: Eprint + AllocGlobal, J: Read + Drop>(
+    rt: &R,
+    job: J,
+    name: &str,
+) -> Result<Vec<u8>, Status>
+    ensures { IfErr result (λ status. status ≢ Status.CommandLine) }
+{
+    let mut bytes = Vec::new(rt.alloc());
+    match job.take(MOST).read_to_end(&mut bytes) {
+        Ok(_) => Ok(bytes),
+        Err(error) if error.kind() == ErrorKind::OutOfMemory => Err(refused(rt, RunFault::Memory)),
+        Err(error) => {
+            let status = refused(rt, RunFault::Read);
+            let _ = eprintln!(rt; "aliasplan: {name}: {error}");
+            Err(status)
+        }
+    }
+}
+
+/// Plans the job that a reader of this name gives, and says what of it has a fault. It's read whole before, so that a line is there to
+/// be said.
+fn plan_verbosely<R: Print + Eprint + AllocGlobal + Threads + Sync, J: Read + Drop>(
+    rt: &R,
+    job: J,
+    name: &str,
+    options: Options,
+    output: Output,
+) -> Status
+    requires { AreOptions options }
+    ensures { result ≢ Status.CommandLine }
+{
+    let bytes = match read_whole(rt, job, name) {
+        Ok(bytes) => bytes,
+        Err(status) => return status,
+    };
+    match planned(rt, bytes.as_slice(), options, output) {
+        Ok(status) => {
+            if status == Status::Found {
+                explain_items(rt, bytes.as_slice());
+            }
+            status
+        }
+        Err(fault) => {
+            let status = refused(rt, fault);
+            explain_job(rt, bytes.as_slice(), fault);
+            status
+        }
+    }
+}
+
+/// Plans the job on standard input.
+fn plan_input<R: Input + Print + Eprint + AllocGlobal + Threads + Sync>(
+    rt: &R,
+    options: Options,
+    output: Output,
+    detail: Detail,
+) -> Status
+    requires { AreOptions options }
+    ensures { result ≢ Status.CommandLine }
+{
+    let input = StandardInput::new(rt.reader());
+    match detail {
+        Detail::Line => plan(rt, input, options, output),
+        Detail::Culprit => plan_verbosely(rt, input, "standard input", options, output),
     }
 }
 
@@ -130,26 +207,47 @@ fn plan_file<R: Files + Print + Eprint + AllocGlobal + Threads + Sync>(
     rt: &R,
     path: &Text,
     options: Options,
+    output: Output,
+    detail: Detail,
 ) -> Status
     requires { AreOptions options }
     ensures { result ≢ Status.CommandLine }
 {
     match file_source::open(rt, path.as_bytes()) {
-        Ok(file) => plan(rt, file, options),
+        Ok(file) => match detail {
+            Detail::Line => plan(rt, file, options, output),
+            Detail::Culprit => plan_verbosely(rt, file, shown(path.as_bytes()), options, output),
+        },
         Err(SourceFault::Memory) => refused(rt, RunFault::Memory),
-        Err(_) => refused(rt, RunFault::Read),
+        Err(_) => {
+            let status = refused(rt, RunFault::Read);
+            if detail == Detail::Culprit {
+                explain_file(rt, path.as_bytes());
+            }
+            status
+        }
     }
 }
 
-fn gather_job<R: Files + Print + Eprint + AllocGlobal>(rt: &R, paths: &Paths) -> Status
+fn gather_job<R: Files + Print + Eprint + AllocGlobal>(
+    rt: &R,
+    paths: &Paths,
+    detail: Detail,
+) -> Status
     ensures { (result ≢ Status.Found) × (result ≢ Status.CommandLine) }
 {
     let mut source = FileSource::new(rt);
     let mut writer = Device::new(io::writer(rt));
-    match gather(rt.alloc(), &mut source, paths, &mut writer, LIMITS.bytes) {
-        Ok(()) => Status::Done,
-        Err(fault) => refused(rt, fault),
+    let Err(fault) = gather(rt.alloc(), &mut source, paths, &mut writer, LIMITS.bytes) else {
+        return Status::Done;
+    };
+    let status = refused(rt, fault);
+    if detail == Detail::Culprit && fault == RunFault::Read {
+        if let Some(path) = source.failed() {
+            explain_file(rt, path);
+        }
     }
+    status
 }
 
 fn answer<R: Input + Files + Print + Eprint + AllocGlobal + Threads + Sync>(
@@ -160,9 +258,11 @@ fn answer<R: Input + Files + Print + Eprint + AllocGlobal + Threads + Sync>(
     ensures { IsStatusOf request result }
 {
     match request {
-        Request::Plan(options, None) => plan(rt, StandardInput::new(rt.reader()), options),
-        Request::Plan(options, Some(path)) => plan_file(rt, &path, options),
-        Request::Gather(paths) => gather_job(rt, &paths),
+        Request::Plan(options, output, path, detail) => match path {
+            None => plan_input(rt, options, output, detail),
+            Some(path) => plan_file(rt, &path, options, output, detail),
+        },
+        Request::Gather(paths, detail) => gather_job(rt, &paths, detail),
         Request::Help => Status::Done,
         Request::Unknown => Status::CommandLine,
         Request::Fault(fault) => refused(rt, fault),

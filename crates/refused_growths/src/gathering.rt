@@ -1,4 +1,4 @@
-//! A job gathered from files: an alias file that leads to an include file, and an envelope.
+//! A job gathered from files: two alias files, of which one leads to an include file, and an envelope.
 ghost use Rattle.relay_gather.specs.Source.{unknown};
 
 use crate::devices::Paper;
@@ -8,7 +8,7 @@ use crate::unready::Unready;
 use aliasplan::{Paths, RunFault, Source, SourceFault, gather};
 use growth_answers::{Answer, Seen};
 use relay_gather::gathered_text;
-use relay_text::Text;
+use relay_text::{Seq, Text};
 use std::alloc::{AllocError, Global};
 
 /// How many bytes a job may have.
@@ -16,6 +16,8 @@ const MOST: usize = 1000;
 
 const GATHERED: &[u8] = b"%aliases\n\
     l: :include:/l\n\
+    # joe\n\
+    k: joe\n\
     %include /l\n\
     :include:/m\n\
     %%z\n\
@@ -31,7 +33,8 @@ impl Source for Files {
 
     fn fetch(&mut self, alloc: Global, path: &[u8]) -> Result<Vec<u8>, SourceFault> {
         let file: &[u8] = match path {
-            b"/aliases" => b"l: :include:/l\n",
+            b"/aliases" => b"l: :include:/l",
+            b"/lists" => b" joe\nk: joe\n",
             b"/l" => b":include:/m\n%z",
             b"/envelope" => b"MAIL FROM:<>\n",
             _ => return Err(SourceFault::Absent),
@@ -47,12 +50,20 @@ fn text(alloc: Global, bytes: &[u8]) -> Result<Option<Text>, AllocError> {
     Ok(Some(Text::copy_of(alloc, bytes)?))
 }
 
+fn texts(alloc: Global, paths: &[&[u8]]) -> Result<Seq<Text>, AllocError> {
+    let mut texts = Vec::new(alloc);
+    for path in paths {
+        texts.push(Text::copy_of(alloc, path)?)?;
+    }
+    Ok(Seq::of(texts))
+}
+
 fn paths(alloc: Global) -> Result<Paths, AllocError> {
     Ok(Paths {
         settings: None,
-        aliases: text(alloc, b"/aliases")?,
+        aliases: texts(alloc, &[b"/aliases", b"/lists"])?,
         mailboxes: None,
-        transport: None,
+        transport: texts(alloc, &[])?,
         mx: None,
         envelope: text(alloc, b"/envelope")?,
     })

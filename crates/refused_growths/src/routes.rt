@@ -11,12 +11,13 @@ use relay_routes::{
 use relay_text::{Address, Seq, Text};
 use std::alloc::{AllocError, Global};
 
+/// With the pattern of an address, since a table that has none looks for no address.
 const TRANSPORTS: &[u8] =
-    b"example.net smtp:[gw.example.com]\n.example.net relay:hub.example.com:2525\n";
+    b"example.net smtp:[gw.example.com]\n.example.net relay:hub.a-department-with-a-long-name.example.com:2525\npostmaster@example.net lmtp:\n";
 
 const FAULTY_TRANSPORTS: &[u8] = b"  orphan\n* smtp\n* relay:\nexample.net smtp:[gw.example.com]\n";
 
-const EXCHANGES: &[u8] = b"hub.example.com A\n";
+const EXCHANGES: &[u8] = b"hub.a-department-with-a-long-name.example.com A\n";
 
 const PREFERENCES: &[u8] =
     b"example.net MX 20 c.example.net\nexample.net MX 10 a.example.net\nexample.net MX\nexample.net MX 20 b.example.net\nexample.net MX 20 c.example.net\n";
@@ -31,14 +32,17 @@ fn is_text(text: &Text, wanted: &[u8]) -> bool {
 
 fn is_via(via: &Via) -> bool {
     via.transport == Transport::Lmtp
-        && via
-            .nexthop
-            .as_ref()
-            .is_some_and(|nexthop| is_text(nexthop, b"unix:mbox"))
+        && via.nexthop.as_ref().is_some_and(|nexthop| is_text(
+            nexthop,
+            b"unix:/a/path/that/does/not/lie/in/the/value/itself",
+        ))
 }
 
 fn reads_a_setting(alloc: Global) -> Result<Answer, Unready> {
-    match Via::parse(alloc, b"lmtp:unix:mbox") {
+    match Via::parse(
+        alloc,
+        b"lmtp:unix:/a/path/that/does/not/lie/in/the/value/itself",
+    ) {
         Ok(Some(via)) => Ok(Answer::given(is_via(&via))),
         Ok(None) => Ok(Answer::Wrong),
         Err(_) => Ok(Answer::Refused),
@@ -122,8 +126,16 @@ fn finds_exchangers(alloc: Global) -> Result<Seen, Unready> {
 fn finds_an_address(alloc: Global) -> Result<Seen, Unready> {
     let names = own_names(alloc)?;
     let table = MxTable::parse(alloc, EXCHANGES)?;
-    let wanted: [&[u8]; 1] = [b"hub.example.com"];
-    Ok(twice!({ finds_hosts(&table, alloc, b"hub.example.com", &names, &wanted) }))
+    let wanted: [&[u8]; 1] = [b"hub.a-department-with-a-long-name.example.com"];
+    Ok(twice!({
+        finds_hosts(
+            &table,
+            alloc,
+            b"hub.a-department-with-a-long-name.example.com",
+            &names,
+            &wanted
+        )
+    }))
 }
 
 fn lists_one_host(alloc: Global) -> Result<Answer, Unready> {
@@ -183,8 +195,8 @@ fn leads_to_hub(route: &Result<Route, Unrouted>) -> Answer {
     leads(
         route,
         Transport::Relay,
-        b"hub.example.com:2525",
-        b"hub.example.com:2525",
+        b"hub.a-department-with-a-long-name.example.com:2525",
+        b"hub.a-department-with-a-long-name.example.com:2525",
     )
 }
 
@@ -214,7 +226,13 @@ fn routes_to_exchangers(alloc: Global) -> Result<Seen, Unready> {
 
 fn routes_to_a_nexthop(alloc: Global) -> Result<Seen, Unready> {
     let router = router(alloc)?;
-    Ok(twice!({ leads_to_hub(&router.route_to(alloc, Transport::Relay, b"HUB.example.com:2525")) }))
+    Ok(twice!({
+        leads_to_hub(&router.route_to(
+            alloc,
+            Transport::Relay,
+            b"HUB.a-department-with-a-long-name.example.com:2525"
+        ))
+    }))
 }
 
 fn routes_a_mailbox(alloc: Global) -> Result<Seen, Unready> {
@@ -244,7 +262,11 @@ fn finds_a_destination(alloc: Global) -> Result<Seen, Unready> {
     let address = address(alloc, b"u@a.b.example.net")?;
     Ok(twice!({
         let found = router.destination(alloc, &address);
-        is_destination(&found, Transport::Relay, b"hub.example.com:2525")
+        is_destination(
+            &found,
+            Transport::Relay,
+            b"hub.a-department-with-a-long-name.example.com:2525"
+        )
     }))
 }
 

@@ -19,6 +19,10 @@ use std::alloc::{AllocError, Global};
 pub const OWNED: &[u8] =
     b"outer: inner, kim@example.net\ninner: kim@example.net, lee@example.net\nowner-inner: joe\n";
 
+/// The same where the owner's name and what it stands for are longer than lies in a value.
+const LONG_OWNED: &[u8] =
+    b"outer: kim@example.net\ninner-alias-with-a-long-name: kim@example.net\nowner-inner-alias-with-a-long-name: local-part-that-does-not-lie-in-the-value-itself\n";
+
 #[tactic(auto, unfolding(relay_text::specs::Addresses::is_origin, relay_text::specs::Addresses::is_domain))]
 fn local(alloc: Global, expand: bool) -> Result<Local, AllocError>
     ensures origin { IfOk result (λ local. IsTrue (is_origin local.origin)) }
@@ -88,7 +92,7 @@ fn builds_tables(alloc: Global) -> Result<Answer, Unready> {
 
 /// The sender of what the second of three aliases expands to.
 fn gives_a_sender(alloc: Global, expand: bool, local: &[u8]) -> Result<Seen, Unready> {
-    let tables = tables(alloc, expand, OWNED)?;
+    let tables = tables(alloc, expand, LONG_OWNED)?;
     if tables.aliases().len() != 3 || tables.owner_of(1).is_none() {
         return Err(Unready::Wrong);
     }
@@ -103,11 +107,15 @@ fn gives_a_sender(alloc: Global, expand: bool, local: &[u8]) -> Result<Seen, Unr
 }
 
 fn gives_an_owners_sender(alloc: Global) -> Result<Seen, Unready> {
-    gives_a_sender(alloc, false, b"owner-inner")
+    gives_a_sender(alloc, false, b"owner-inner-alias-with-a-long-name")
 }
 
 fn gives_an_owners_address(alloc: Global) -> Result<Seen, Unready> {
-    gives_a_sender(alloc, true, b"joe")
+    gives_a_sender(
+        alloc,
+        true,
+        b"local-part-that-does-not-lie-in-the-value-itself",
+    )
 }
 
 fn is_remote(node: &Node, local: &[u8]) -> bool {

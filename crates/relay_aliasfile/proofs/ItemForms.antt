@@ -32,7 +32,7 @@ last_alone text some =
     at_drop_more (λ xs. xs) text (length text - 1) 0 (omega arith)
     ∙ ap (λ xs. get_or text (length text - 1) 0 ∷ xs) (drop_all (length text - 1 + 1) text (omega arith))
 
-ends_one : (text : List ℕ) (byte : ℕ) → 1 ≤ length text → (get_or text (length text - 1) 0 == byte) ≡ ends_with (byte ∷ []) text
+pub ends_one : (text : List ℕ) (byte : ℕ) → 1 ≤ length text → (get_or text (length text - 1) 0 == byte) ≡ ends_with (byte ∷ []) text
 ends_one text byte some = and_true (get_or text (length text - 1) 0 == byte) ∙ ap (λ xs. bytes_eq xs (byte ∷ [])) (sym (last_alone text some))
 
 pub ends_is : (text : List ℕ) (byte x : ℕ) → Some x ≡ slice_get text (length text - 1) → (x == byte) ≡ ends_with (byte ∷ []) text

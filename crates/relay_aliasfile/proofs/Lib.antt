@@ -4,8 +4,10 @@ pub mod Rows
 pub mod Outside
 pub mod AddressItems
 pub mod ItemForms
+pub mod OpenTexts
 pub mod ItemLists
 pub mod NamePlaces
 pub mod AliasLines
 pub mod IncludePaths
 pub mod FileSizes
+pub mod BrokenRules

@@ -6,6 +6,7 @@ pub mod IncludeFiles
 pub mod IncludeNames
 pub mod QuoteStates
 pub mod ItemTexts
+pub mod ItemReasons
 pub mod Specials
 pub mod Lists
 pub mod Headings

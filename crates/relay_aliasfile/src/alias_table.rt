@@ -15,7 +15,7 @@ use crate::heading::Heading;
 use crate::item_texts::has_items;
 use crate::items::Items;
 use crate::lists::read_entry_items;
-use relay_text::{Seq, Text};
+use relay_text::Seq;
 use std::alloc::{AllocError, Global};
 
 /// The entries of an alias file up to a line, how many lines up to there have a name, and the faults.
@@ -94,7 +94,7 @@ impl AliasTable {
         let mut items = Items::new(alloc);
         read_entry_items(alloc, line, heading.list, &mut items, &mut self.faults)?;
         self.entries.push(Entry {
-            name: Text::of(heading.name),
+            name: heading.name,
             line,
             items,
         })?;

@@ -41,7 +41,7 @@ pub(crate) fn name_places(
     let mut places = FirstPlaces::new(alloc);
     for line in headed {
         if let Some(heading) = &line.heading {
-            places.push(heading.name.as_slice())?;
+            places.push(heading.name.as_bytes())?;
         }
     }
     places.find(alloc)

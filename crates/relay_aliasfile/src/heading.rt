@@ -1,17 +1,17 @@
 //! The name of an entry, and its list.
 ghost use Rattle.std.specs.Prelude.{◌≡◌, IfOk, option_map};
 ghost use Rattle.relay_aliasfile.specs.AliasFiles.{heading_of};
-ghost use Rattle.relay_aliasfile.specs.Headings.{heading_value};
+ghost use Rattle.relay_aliasfile.specs.Headings.{heading_list, heading_value};
 
 use crate::names::folded_name;
 use crate::quotes::first_outside;
-use relay_text::trimmed_end;
+use relay_text::{Text, trimmed_end};
 use std::alloc::{AllocError, Global};
 
 /// The name of an entry, folded, and its list in place.
 #[derive(Drop)]
 pub(crate) struct Heading<'a> {
-    pub(crate) name: Vec<u8>,
+    pub(crate) name: Text,
     pub(crate) list: &'a [u8],
 }
 
@@ -33,4 +33,15 @@ pub(crate) fn heading_in<'a>(
         name,
         list: &text[colon + 1..],
     }))
+}
+
+/// The list of the entry on a logical line, in place; `None` where the line has no colon, or no name before it (aliases(5)). `Err`
+/// where memory runs out.
+pub fn entry_list<'a>(alloc: Global, text: &'a [u8]) -> Result<Option<&'a [u8]>, AllocError>
+    ensures { IfOk result (λ list. option_map (λ list. list.now) list ≡ option_map heading_list (heading_of text.now)) }
+{
+    match heading_in(alloc, text)? {
+        Some(heading) => Ok(Some(heading.list)),
+        None => Ok(None),
+    }
 }

@@ -1,12 +1,13 @@
 //! The texts of a list's items.
-ghost use Rattle.std.specs.Prelude.{◌≡◌, ◌∷◌, ◌++◌, ◌≤◌, ◌<◌, not, [], length, filter, IfSome, IfNone};
+ghost use Rattle.std.specs.Prelude.{◌≡◌, ◌∷◌, ◌++◌, ◌≤◌, ◌<◌, not, [], length, filter, option_map, IfSome, IfNone};
 ghost use Rattle.relay_text.specs.Bytes.{trimmed};
 ghost use Rattle.relay_text.specs.Addresses.{is_empty};
 ghost use Rattle.relay_aliasfile.specs.Items.{item_texts, is_text};
-ghost use Rattle.relay_aliasfile.specs.ItemTexts.{texts_left};
+ghost use Rattle.relay_aliasfile.specs.ItemTexts.{behind_comma, bytes_in, texts_left};
 
+use crate::item_text::ItemText;
 use crate::quotes::first_outside;
-use relay_text::trimmed;
+use relay_text::{PlainText, trimmed, trimmed_start};
 
 /// A reader over the texts of a list's items: what stands between the commas outside quotes, trimmed, unless it is empty (aliases(5)).
 /// It lends them in place, takes no memory and reads each byte once.
@@ -24,7 +25,31 @@ impl<'a> ItemTexts<'a> {
     }
 
     /// The next item's text; `None` at the end, and again from then on.
-    pub(crate) fn next_text(&mut self) -> Option<&'a [u8]>
+    pub(crate) fn next_text(&mut self) -> Option<ItemText<'a>>
+        ensures none { IfNone result (texts_left self.old ≡ []) }
+        ensures some { IfSome result (λ text. texts_left self.old ≡ bytes_in text ∷ texts_left self.new) }
+    {
+        if let Some(text) = self.next_plain() {
+            return Some(ItemText::Plain(text));
+        }
+        let text = self.next_cut()?;
+        Some(ItemText::Other(text))
+    }
+
+    /// The next item's text where it has no quotes and a comma or the end follows it at once, in one pass; else nothing is read.
+    fn next_plain(&mut self) -> Option<PlainText<'a>>
+        ensures none { IfNone result (texts_left self.new ≡ texts_left self.old) }
+        ensures some { IfSome result (λ text. texts_left self.old ≡ text ∷ texts_left self.new) }
+    {
+        let rest = trimmed_start(self.rest);
+        let text = PlainText::at_front(rest)?;
+        let more = behind_comma(&rest[text.text().len()..])?;
+        self.rest = more;
+        Some(text)
+    }
+
+    /// The next item's text, cut out before it is read.
+    fn next_cut(&mut self) -> Option<&'a [u8]>
         ensures none { IfNone result (texts_left self.old ≡ []) }
         ensures some { IfSome result (λ text. texts_left self.old ≡ text.now ∷ texts_left self.new) }
     {
@@ -54,6 +79,20 @@ impl<'a> ItemTexts<'a> {
                 rest
             }
         }
+    }
+}
+
+/// What follows a comma at the front of a text; at its end nothing.
+fn behind_comma(text: &[u8]) -> Option<&[u8]>
+    ensures { option_map (λ more. more.now) result ≡ behind_comma text.now }
+{
+    if text.is_empty() {
+        return Some(text);
+    }
+    if text[0] == b',' {
+        Some(&text[1..])
+    } else {
+        None
     }
 }
 

@@ -4,11 +4,11 @@ use smallvec::SmallVec;
 use std::alloc::{AllocError, Global};
 use std::marker::Model;
 
-/// The items of an entry, in order, which contracts see as their list. Up to four lie in the value itself, more of them in memory of
+/// The items of an entry, in order, which contracts see as their list. One lies in the value itself, more of them in memory of
 /// their own.
 #[derive(Drop)]
 pub struct Items {
-    items: SmallVec<Item, 4, Global>,
+    items: SmallVec<Item, 1, Global>,
 }
 
 impl Model for Items {

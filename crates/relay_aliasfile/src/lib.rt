@@ -11,6 +11,7 @@ mod headed_line;
 mod heading;
 pub mod includes;
 pub mod item;
+mod item_text;
 mod item_texts;
 pub mod items;
 mod lists;
@@ -19,21 +20,20 @@ mod names;
 mod paths;
 mod quotes;
 mod reading;
+pub mod reason;
+pub mod reasons;
 mod special;
-#[cfg(test)]
-mod tests_aliases;
-#[cfg(test)]
-mod tests_includes;
-#[cfg(test)]
-mod tests_mailboxes;
-#[cfg(test)]
-mod tests_shown;
+mod unquoted;
 
 pub use aliases::{AliasFile, include_names, parse_aliases};
 pub use counts::file_counts;
 pub use entry::Entry;
 pub use fault::{FaultKind, LineFault};
+pub use heading::entry_list;
 pub use includes::{IncludeFile, include_names_of, parse_include};
 pub use item::Item;
 pub use items::Items;
+pub use lists::bad_items;
 pub use mailboxes::{MailboxFile, parse_mailboxes};
+pub use reason::ItemReason;
+pub use reasons::item_reason;

@@ -1,14 +1,15 @@
 //! The items of lists, and the faults of bad ones.
-ghost use Rattle.std.specs.Prelude.{◌≡◌, ◌++◌, IfOk, OnOk};
-ghost use Rattle.relay_aliasfile.specs.Items.{item_of, good_items};
+ghost use Rattle.std.specs.Prelude.{◌≡◌, ◌++◌, map, IfOk, OnOk};
+ghost use Rattle.relay_aliasfile.specs.Items.{item_of, good_items, bad_items};
 ghost use Rattle.relay_aliasfile.specs.IncludeFiles.{bad_item_faults};
+ghost use Rattle.relay_aliasfile.specs.ItemTexts.{bytes_in};
 ghost use Rattle.relay_aliasfile.specs.Lists.{text_faults};
 
 use crate::fault::{FaultKind, LineFault};
 use crate::item::Item;
+use crate::item_text::ItemText;
 use crate::item_texts::ItemTexts;
 use crate::items::Items;
-use crate::reading::item_in;
 use std::alloc::{AllocError, Global};
 
 /// Reads the items of an entry's list. A bad item is a fault at the line, and doesn't touch the others.
@@ -35,13 +36,13 @@ pub(crate) fn read_entry_items(
 pub(crate) fn read_item(
     alloc: Global,
     line: usize,
-    text: &[u8],
+    text: ItemText<'_>,
     faults: &mut Vec<LineFault>,
 ) -> Result<Option<Item>, AllocError>
-    ensures item { IfOk result (λ item. item ≡ item_of text.now) }
-    ensures faults { OnOk result (faults.new.items ≡ faults.old.items ++ text_faults line text.now) }
+    ensures item { IfOk result (λ item. item ≡ item_of (bytes_in text.entry)) }
+    ensures faults { OnOk result (faults.new.items ≡ faults.old.items ++ text_faults line (bytes_in text.entry)) }
 {
-    let item = item_in(alloc, text)?;
+    let item = text.item(alloc)?;
     if item.is_none() {
         faults.push(LineFault {
             line,
@@ -49,4 +50,18 @@ pub(crate) fn read_item(
         })?;
     }
     Ok(item)
+}
+
+/// The texts of a list's bad items, trimmed, in their order. `Err` where memory runs out.
+pub fn bad_items<'a>(alloc: Global, list: &'a [u8]) -> Result<Vec<&'a [u8]>, AllocError>
+    ensures { IfOk result (λ bad. map (λ text. text.now) bad.items ≡ bad_items list.now) }
+{
+    let mut bad: Vec<&'a [u8]> = Vec::new(alloc);
+    let mut texts = ItemTexts::new(list);
+    while let Some(text) = texts.next_text() {
+        if text.item(alloc)?.is_none() {
+            bad.push(text.bytes())?;
+        }
+    }
+    Ok(bad)
 }

@@ -28,7 +28,7 @@ pub fn parse_mailboxes(alloc: Global, bytes: &[u8]) -> Result<MailboxFile, Alloc
     let mut lines = KeptLines::new(bytes);
     while let Some(line) = lines.next_line() {
         match folded_name(alloc, trimmed(line.text))? {
-            Some(name) => names.push(Text::of(name))?,
+            Some(name) => names.push(name)?,
             None => faults.push(LineFault {
                 line: line.number,
                 kind: FaultKind::BadLine,

@@ -1,11 +1,12 @@
 //! What the text of an item is.
-ghost use Rattle.std.specs.Prelude.{◌≡◌, ◌∷◌, ◌&&◌, [], Err, not, IfOk};
+ghost use Rattle.std.specs.Prelude.{◌≡◌, ◌∷◌, ◌&&◌, [], Err, not, IfOk, option_map};
 ghost use Rattle.std.specs.List.{list_all};
 ghost use Rattle.relay_text.specs.Bytes.{ends_with};
 ghost use Rattle.relay_text.specs.Addresses.{Fails, name_of, is_quotable, is_local_too_long, is_empty};
 ghost use Rattle.relay_text.specs.declared.fault.TextFault.TheVariants.{BadDomain};
 ghost use Rattle.relay_aliasfile.specs.Items.{item_of, is_well_quoted, is_item_byte, content_item, named_item, bracketed_item, address_item};
 ghost use Rattle.relay_aliasfile.specs.Specials.{plain_item, is_local_part};
+ghost use Rattle.relay_aliasfile.specs.ItemReasons.{in_brackets};
 
 use crate::item::Item;
 use crate::quotes::{closes_quotes, last_outside};
@@ -36,7 +37,7 @@ fn is_well_quoted(text: &[u8]) -> bool
     all_item_bytes(text) && closes_quotes(text)
 }
 
-fn all_item_bytes(text: &[u8]) -> bool
+pub(crate) fn all_item_bytes(text: &[u8]) -> bool
     ensures { result ≡ list_all is_item_byte text.now }
 {
     text.iter()
@@ -74,14 +75,14 @@ fn is_local_part(text: &[u8]) -> bool
     !text.is_empty() && all_quotable(text) && fits_local_part(text)
 }
 
-fn all_quotable(text: &[u8]) -> bool
+pub(crate) fn all_quotable(text: &[u8]) -> bool
     ensures { result ≡ list_all is_quotable text.now }
 {
     text.iter().all(|byte| *byte >= 32 && *byte <= 126)
 }
 
 /// Whether a local part has at most 64 octets as it is written.
-fn fits_local_part(local: &[u8]) -> bool
+pub(crate) fn fits_local_part(local: &[u8]) -> bool
     ensures { result ≡ not (is_local_too_long local.now) }
 {
     local.len() <= MAX_LOCAL && local_text_len(local) <= MAX_LOCAL
@@ -104,13 +105,21 @@ fn plain_item(alloc: Global, text: &[u8]) -> Result<Option<Item>, AllocError>
 fn bracketed_item(alloc: Global, text: &[u8]) -> Result<Option<Item>, AllocError>
     ensures { IfOk result (λ item. item ≡ bracketed_item text.now) }
 {
-    if !ends_with(b'>', text) {
-        return Ok(None);
-    }
-    match last_outside(b'<', text) {
-        Some(place) => address_item(alloc, &text[place + 1..text.len() - 1]),
+    match in_brackets(text) {
+        Some(address) => address_item(alloc, address),
         None => Ok(None),
     }
+}
+
+/// What stands between the last `<` outside quotes and a `>` at the end.
+pub(crate) fn in_brackets(text: &[u8]) -> Option<&[u8]>
+    ensures { option_map (λ inner. inner.now) result ≡ in_brackets text.now }
+{
+    if !ends_with(b'>', text) {
+        return None;
+    }
+    let place = last_outside(b'<', text)?;
+    Some(&text[place + 1..text.len() - 1])
 }
 
 /// Whether a text ends with this byte.

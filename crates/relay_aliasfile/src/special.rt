@@ -3,6 +3,7 @@ ghost use Rattle.std.specs.Prelude.{◌≡◌, ◌∷◌, [], IfOk, drop, option
 ghost use Rattle.relay_text.specs.Bytes.{begins_with};
 ghost use Rattle.relay_aliasfile.specs.Items.{include_path, special_item};
 ghost use Rattle.relay_aliasfile.specs.Specials.{special_as, is_include};
+ghost use Rattle.relay_aliasfile.specs.ItemReasons.{is_relative_include};
 
 use crate::item::Item;
 use relay_text::{Text, begins_with_word, trimmed_end};
@@ -77,6 +78,16 @@ fn is_include(text: &[u8]) -> bool
     ensures { result ≡ is_include text.now }
 {
     begins_with_word(b":include:", text) && begins_with(b'/', include_path(text))
+}
+
+/// Whether a text is `:include:` and a path that doesn't begin with `/`.
+pub(crate) fn is_relative_include(text: &[u8]) -> bool
+    ensures { result ≡ is_relative_include text.now }
+{
+    if !begins_with_word(b":include:", text) {
+        return false;
+    }
+    !begins_with(b'/', include_path(text))
 }
 
 /// The path in an include item.

@@ -1,5 +1,7 @@
+pub mod Interned
 pub mod Linked
+pub mod LinkNodes
 pub mod Nodes
 pub mod Places
 pub mod Texts
-pub mod TextNodes
+pub mod Under

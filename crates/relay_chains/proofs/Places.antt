@@ -1,12 +1,14 @@
 -- Lemmas on the place of a key in a list of distinct keys.
-use Rattle.std.proofs.Common.{◌≡◌, ◌≢◌, ℕ, ◌<◌, Bool, true, false, Option, Some, None, Ok, List, [], ◌∷◌, ◌++◌, length, get_or, not, sym, ap, ◌∙◌, ⊎_elim, arith}
-use Rattle.std.specs.Prelude.{AllPairs, position}
+use Rattle.std.proofs.Common.{◌≡◌, ◌≢◌, ℕ, ◌<◌, Bool, true, false, Option, Some, None, Ok, Err, List, [], ◌∷◌, ◌++◌, length, map, get_or, slice_get, not, sym, refl, ap, ◌∙◌, ⊎_elim, arith, eq-eqb}
+use Rattle.std.specs.Prelude.{AllPairs, IfSome, option_map, position, unwrap_or}
 use Rattle.std.specs.Bool.{Decides}
 use Rattle.std.specs.List.{position_or_len}
 use Rattle.std.proofs.lemmas.Bool.{ne_eqb, cond-true, cond-false, lt-ltb, le-ltb, cases_lt, not-true, false_from_ne_true, both_ways}
-use Rattle.std.proofs.lemmas.Option.{none-some}
+use Rattle.std.proofs.lemmas.Option.{none-some, same_Some, slice_get-get_or}
+use Rattle.std.proofs.lemmas.List.{get_or-map, length-map}
 use Rattle.std.proofs.lemmas.List.Sums.{position_or_len_is, prefix_len_passes}
 use Rattle.std.proofs.lemmas.List.Quantifiers.{all_pairs_push}
+use Rattle.relay_chains.specs.declared.fault.ChainFault.TheVariants.{Full}
 use Rattle.relay_chains.specs.Keys.{number_of, insertion_at, insertion}
 
 -- where no element passes, there is no place
@@ -60,3 +62,39 @@ inserts-new same keys limit key number new none count room is =
     let given = ap (λ (place : Option ℕ). insertion_at same place keys limit key) none
     ∙ cond-false _ _ _ (ne_eqb (length keys) limit (λ full. room (count ∙ full))) in
     (ap (λ i. i.answer) given ∙ ap (λ (n : ℕ). Ok (n, true)) (sym count), is ∙ sym (ap (λ i. i.keys) given))
+
+-- a new key at the limit is refused
+pub inserts-full : {X : Type 0} (same : X → X → Bool) (keys : List X) (limit : ℕ) (key : X) → number_of same keys key ≡ None → length keys ≡ limit
+    → ((insertion same keys limit key).answer ≡ Err Full) × (keys ≡ keys)
+inserts-full same keys limit key none full =
+    let given = ap (λ (place : Option ℕ). insertion_at same place keys limit key) none ∙ cond-true _ _ _ (eq-eqb (length keys) limit full) in
+    (ap (λ i. i.answer) given, refl)
+
+-- where the first number whose hash agrees and that passes is told, it's the place of the first element that passes
+pub position-found : {X : Type 0} (p : X → Bool) (xs : List X) (d : X) (h : X → ℕ) (hash : ℕ) (found : Option ℕ) (Tells : ℕ → Bool → Type 0)
+    → ((x : X) → p x ≡ true → h x ≡ hash) → ((k : ℕ) (b : Bool) → k < length xs → Tells k b → b ≡ p (get_or xs k d))
+    → IfSome found (λ k. (k < length (map h xs)) × (get_or (map h xs) k 0 ≡ hash) × Tells k true)
+    → ((k : ℕ) → k < unwrap_or found (length (map h xs)) → get_or (map h xs) k 0 ≡ hash → Tells k false)
+    → found ≡ position p xs
+position-found p xs d h hash None Tells alike told found before =
+    sym (position-none p xs d (λ k below. false_from_ne_true _ (λ t.
+    both_ways _ (sym (told k false below (before k (omega (arith, length-map xs h)) (get_or-map h xs k d 0 below ∙ alike _ t)))) t)))
+position-found p xs d h hash (Some n) Tells alike told found before =
+    let within : n < length xs = omega (arith, found.0, length-map xs h) in
+    sym (position-at p xs n d within
+    (λ k below. false_from_ne_true _ (λ t. both_ways _ (sym (told k false (omega arith) (before k below (get_or-map h xs k d 0 (omega arith) ∙ alike _ t)))) t))
+    (sym (told n true within found.2)))
+
+-- what a test of the element of a number tells
+told : {X : Type 0} (p : X → Bool) (xs : List X) (d : X) (k : ℕ) (b : Bool) → k < length xs → option_map p (slice_get xs k) ≡ Some b → b ≡ p (get_or xs k d)
+told p xs d k b below tells = sym (same_Some (p (get_or xs k d)) b (ap (option_map p) (sym (slice_get-get_or xs k d below)) ∙ tells))
+
+-- the same where the test is told of the elements themselves
+pub position-tested : {X : Type 0} (p : X → Bool) (xs : List X) (h : X → ℕ) (hash : ℕ) (found : Option ℕ) → ((x : X) → p x ≡ true → h x ≡ hash)
+    → IfSome found (λ k. (k < length (map h xs)) × (get_or (map h xs) k 0 ≡ hash) × (option_map p (slice_get xs k) ≡ Some true))
+    → ((k : ℕ) → k < unwrap_or found (length (map h xs)) → get_or (map h xs) k 0 ≡ hash → option_map p (slice_get xs k) ≡ Some false)
+    → found ≡ position p xs
+position-tested p [] h hash None alike found before = refl
+position-tested p [] h hash (Some n) alike found before = absurd (omega (arith, found.0))
+position-tested p (x ∷ xs) h hash found alike tells before =
+    position-found p (x ∷ xs) x h hash found (λ k b. option_map p (slice_get (x ∷ xs) k) ≡ Some b) alike (told p (x ∷ xs) x) tells before

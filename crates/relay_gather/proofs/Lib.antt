@@ -1,10 +1,12 @@
 pub mod Lines
 pub mod Putting
 pub mod Joining
+pub mod JoinedFiles
 pub mod Following
 pub mod NamedSections
 pub mod NamedPaths
 pub mod TextLines
+pub mod LogicalLines
 pub mod HeadingLines
 pub mod Pieces
 pub mod FilesKept

@@ -75,7 +75,7 @@ with_end-lf : (ys : List ℕ) → with_end (10 ∷ ys) ≡ 10 ∷ with_end ys
 with_end-lf [] = refl
 with_end-lf (y ∷ ys) = with_end-more 10 y ys
 
-with_end-line : (text ys : List ℕ) → with_end (text ++ 10 ∷ ys) ≡ text ++ 10 ∷ with_end ys
+pub with_end-line : (text ys : List ℕ) → with_end (text ++ 10 ∷ ys) ≡ text ++ 10 ∷ with_end ys
 with_end-line [] ys = with_end-lf ys
 with_end-line (b ∷ []) ys = with_end-more b 10 ys ∙ ap (λ t. b ∷ t) (with_end-lf ys)
 with_end-line (b ∷ c ∷ text) ys = with_end-more b c (text ++ 10 ∷ ys) ∙ ap (λ t. b ∷ t) (with_end-line (c ∷ text) ys)
@@ -83,7 +83,7 @@ with_end-line (b ∷ c ∷ text) ys = with_end-more b c (text ++ 10 ∷ ys) ∙ 
 with_end-one : (b : ℕ) → eqb b 10 ≡ false → with_end (b ∷ []) ≡ b ∷ 10 ∷ []
 with_end-one b e = rw e
 
-with_end-plain : (b : ℕ) (bs : List ℕ) → HasNoEnd (b ∷ bs) → with_end (b ∷ bs) ≡ b ∷ bs ++ 10 ∷ []
+pub with_end-plain : (b : ℕ) (bs : List ℕ) → HasNoEnd (b ∷ bs) → with_end (b ∷ bs) ≡ b ∷ bs ++ 10 ∷ []
 with_end-plain b [] h = with_end-one b h.0
 with_end-plain b (c ∷ bs) h = with_end-more b c bs ∙ ap (λ t. b ∷ t) (with_end-plain c bs h.1)
 
@@ -204,7 +204,7 @@ texts_in [] h = no_texts
 texts_in (l ∷ []) h = elim h [ inl closed ↦ one_more l [] closed no_texts | inr bare ↦ open_text l bare ]
 texts_in (l ∷ m ∷ ls) h = one_more l (m ∷ ls) h.0 (texts_in (m ∷ ls) h.1)
 
-lines_whole : (text : List ℕ) → flat_map (λ l. l) (raw_lines text) ≡ text
+pub lines_whole : (text : List ℕ) → flat_map (λ l. l) (raw_lines text) ≡ text
 lines_whole [] = refl
 lines_whole (b ∷ bs) = at (eqb b 10) (lines_whole bs) where
   onto : (ls : List (List ℕ)) → flat_map (λ l. l) (onto_first b ls) ≡ b ∷ flat_map (λ l. l) ls

@@ -7,7 +7,7 @@ use Rattle.relay_gather.specs.declared.gathered.Gathered.{Gathered}
 use Rattle.relay_gather.specs.declared.paths.Paths.{Paths}
 use Rattle.relay_gather.specs.Source.{Answer, Tells}
 use Rattle.relay_gather.specs.Sections.{joined}
-use Rattle.relay_gather.specs.Gathering.{named_in, included_in, first_names, front_sections, back_sections, sections_in, IsBreadthFirst, IsFront, IsWhole, IsCutShort, IsGathered, GatherRefuses}
+use Rattle.relay_gather.specs.Gathering.{named_in, joined_in, included_in, first_names, front_sections, back_sections, sections_in, IsBreadthFirst, IsFront, IsWhole, IsCutShort, IsGathered, GatherRefuses}
 use Rattle.relay_gather.specs.Gathered.{Adds, Stops}
 use Rattle.relay_gather.specs.Including.{AreFollowed, AreHalted, IsBegun}
 use Rattle.relay_gather.proofs.Joining.{same_answers, Refuses-weaker, joined-fault, joined-later, Adds-more}
@@ -20,27 +20,34 @@ module _ (f answer : List ℕ → Answer) (alike : (p : List ℕ) → f p ≡ an
   pub named_stops : (x : Gathered) (fault : RunFault) → Stops f (named_in f heading path) x fault → Stops answer (named_in answer heading path) x fault
   named_stops x fault h = subst (λ (a : List ℕ → Answer). Stops a (named_in a heading path) x fault) (same_answers alike) h
 
+module _ (f answer : List ℕ → Answer) (alike : (p : List ℕ) → f p ≡ answer p) (heading : List ℕ) (paths : List (List ℕ)) where
+  pub joined_adds : (x y : Gathered) → (Tells f → Adds (joined_in f heading paths) x y) → Tells answer → Adds (joined_in answer heading paths) x y
+  joined_adds x y h = subst (λ (a : List ℕ → Answer). Tells a → Adds (joined_in a heading paths) x y) (same_answers alike) h
+
+  pub joined_stops : (x : Gathered) (fault : RunFault) → Stops f (joined_in f heading paths) x fault → Stops answer (joined_in answer heading paths) x fault
+  joined_stops x fault h = subst (λ (a : List ℕ → Answer). Stops a (joined_in a heading paths) x fault) (same_answers alike) h
+
 module _ (answer : List ℕ → Answer) (files : Paths) where
-  module _ (x y z : Gathered) (by_settings : Adds (named_in answer (codes "%settings") files.settings) x y) (by_aliases : Adds (named_in answer (codes "%aliases") files.aliases) y z) where
-    both : Adds (named_in answer (codes "%settings") files.settings ++ named_in answer (codes "%aliases") files.aliases) x z
-    both = Adds-more (named_in answer (codes "%settings") files.settings) (named_in answer (codes "%aliases") files.aliases) x y z by_settings by_aliases
+  module _ (x y z : Gathered) (by_settings : Adds (named_in answer (codes "%settings") files.settings) x y) (by_aliases : Adds (joined_in answer (codes "%aliases") files.aliases) y z) where
+    both : Adds (named_in answer (codes "%settings") files.settings ++ joined_in answer (codes "%aliases") files.aliases) x z
+    both = Adds-more (named_in answer (codes "%settings") files.settings) (joined_in answer (codes "%aliases") files.aliases) x y z by_settings by_aliases
 
     pub begun : (first : List (List ℕ)) (w : Gathered) → first ≡ first_names answer files.aliases → AreFollowed answer first z w → IsBegun answer files x w
     begun first w e h = record {
       includes = h.includes;
       order = subst (λ (names : List (List ℕ)). IsBreadthFirst answer names h.includes) e h.order;
-      adds = Adds-more (named_in answer (codes "%settings") files.settings ++ named_in answer (codes "%aliases") files.aliases) (map (included_in answer) h.includes) x z w both h.adds;
+      adds = Adds-more (named_in answer (codes "%settings") files.settings ++ joined_in answer (codes "%aliases") files.aliases) (map (included_in answer) h.includes) x z w both h.adds;
     }
 
     pub cut_short : (first : List (List ℕ)) (fault : RunFault) → first ≡ first_names answer files.aliases → AreHalted answer first z fault → IsCutShort answer files x.room fault
     cut_short first fault e h = record {
       includes = h.includes;
       order = subst (λ (names : List (List ℕ)). IsFront answer names h.includes) e h.order;
-      joins = joined-later (named_in answer (codes "%settings") files.settings ++ named_in answer (codes "%aliases") files.aliases) (map (included_in answer) h.includes) x z fault both h.joins;
+      joins = joined-later (named_in answer (codes "%settings") files.settings ++ joined_in answer (codes "%aliases") files.aliases) (map (included_in answer) h.includes) x z fault both h.joins;
     }
 
   -- a fault before the include files
-  pub cut_early : (room : ℕ) (fault : RunFault) → joined (named_in answer (codes "%settings") files.settings ++ named_in answer (codes "%aliases") files.aliases) room ≡ Err fault → IsCutShort answer files room fault
+  pub cut_early : (room : ℕ) (fault : RunFault) → joined (named_in answer (codes "%settings") files.settings ++ joined_in answer (codes "%aliases") files.aliases) room ≡ Err fault → IsCutShort answer files room fault
   cut_early room fault h = record {
     includes = [];
     order = record {
@@ -48,7 +55,7 @@ module _ (answer : List ℕ → Answer) (files : Paths) where
       order = refl;
       named = λ place path none. absurd (let no : ⊥ = cc in no);
     };
-    joins = joined-fault (named_in answer (codes "%settings") files.settings ++ named_in answer (codes "%aliases") files.aliases) [] room fault h;
+    joins = joined-fault (named_in answer (codes "%settings") files.settings ++ joined_in answer (codes "%aliases") files.aliases) [] room fault h;
   }
 
   -- ---- the whole

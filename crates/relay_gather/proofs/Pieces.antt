@@ -16,7 +16,8 @@ use Rattle.relay_job.specs.declared.fault.RunFault.{RunFault}
 use Rattle.relay_job.specs.declared.fault.RunFault.TheVariants.{TooLong}
 use Rattle.relay_gather.specs.Source.{Answer, unknown, absent, failed, file}
 use Rattle.relay_gather.specs.Sections.{joined, named_section, include_section}
-use Rattle.relay_gather.specs.Gathering.{named_in, included_in, first_names, names_of, later_names, names_in_aliases, names_in_include, IsBreadthFirst, HasNamed, IsBodyOf, include_of_answer, found_include}
+use Rattle.relay_gather.specs.JoinedFiles.{joined_files}
+use Rattle.relay_gather.specs.Gathering.{named_in, joined_in, included_in, first_names, names_of, later_names, names_in_aliases, names_in_include, IsBreadthFirst, HasNamed, HasJoined, IsBodyOf, include_of_answer, found_include}
 use Rattle.relay_gather.proofs.NamedPaths.{is_path, alias_paths, include_paths, all_firsts}
 use Rattle.relay_gather.proofs.HeadingLines.{include_heading}
 use Rattle.relay_gather.proofs.TextLines.{Piece, piece_text, IsHeading, AllHeadings, first_file, file_bytes, include_of, NoRepeats}
@@ -216,6 +217,19 @@ unfolding rank
 free_paths known [] h = tt
 free_paths known (p ∷ ps) h = (h (include p) (omega arith), free_paths known ps h)
 
+-- what a named section has of include files, and its bytes
+includes_by : (word : List ℕ) (a : Answer) → filter_map include_of (by_answer (named word) a) ≡ []
+includes_by word (file text) = refl
+includes_by word absent = refl
+includes_by word failed = refl
+includes_by word unknown = refl
+
+body_by : (text word : List ℕ) (a : Answer) → section_bytes text word ≡ file_bytes (first_file (named word) (by_answer (named word) a)) → IsBodyOf (section_bytes text word) a
+body_by text word (file t) h = h ∙ ap (λ (b : Bool). file_bytes (cond b (Some t) None)) ((bytes_eq-Decides word word).1 refl)
+body_by text word absent h = tt
+body_by text word failed h = tt
+body_by text word unknown h = tt
+
 module _ (answer : List ℕ → Answer) where
   abbrev pub named_pieces : List ℕ → Option (List ℕ) → List Piece
   named_pieces word None = []
@@ -247,25 +261,42 @@ module _ (answer : List ℕ → Answer) where
 
   pub includes_named : (word : List ℕ) (path : Option (List ℕ)) → filter_map include_of (named_pieces word path) ≡ []
   includes_named word None = refl
-  includes_named word (Some path) = at (answer path) where
-    at : (a : Answer) → filter_map include_of (by_answer (named word) a) ≡ []
-    at (file text) = refl
-    at absent = refl
-    at failed = refl
-    at unknown = refl
+  includes_named word (Some path) = includes_by word (answer path)
 
   -- the bytes of a named section
   pub has_named : (text word : List ℕ) (path : Option (List ℕ)) → section_bytes text word ≡ file_bytes (first_file (named word) (named_pieces word path)) → HasNamed answer text word path
   has_named text word None h = h
-  has_named text word (Some path) h = at (answer path) h where
-    same : bytes_eq word word ≡ true
-    same = (bytes_eq-Decides word word).1 refl
+  has_named text word (Some path) h = body_by text word (answer path) h
 
-    at : (a : Answer) → section_bytes text word ≡ file_bytes (first_file (named word) (by_answer (named word) a)) → IsBodyOf (section_bytes text word) a
-    at (file t) g = g ∙ ap (λ (b : Bool). file_bytes (cond b (Some t) None)) same
-    at absent g = tt
-    at failed g = tt
-    at unknown g = tt
+  -- ---- of files that are joined
+  abbrev pub joined_pieces : List ℕ → List (List ℕ) → List Piece
+  joined_pieces word [] = []
+  joined_pieces word (path ∷ paths) = by_answer (named word) (joined_files answer (answer path) paths)
+
+  pub writes_joined : (word : List ℕ) (paths : List (List ℕ)) → Writes (joined_in answer word paths) (joined_pieces word paths)
+  writes_joined word [] = writes_none
+  writes_joined word (path ∷ paths) = writes_named word (joined_files answer (answer path) paths)
+
+  pub headings_joined : (word : List ℕ) (paths : List (List ℕ)) → IsHeading (named word) → AllHeadings (joined_pieces word paths)
+  headings_joined word [] h = tt
+  headings_joined word (path ∷ paths) h = headings_by (named word) (joined_files answer (answer path) paths) h
+
+  pub lacks_joined : (word other : List ℕ) (paths : List (List ℕ)) → bytes_eq word other ≡ false → Lacks word (joined_pieces other paths)
+  lacks_joined word other [] h = refl
+  lacks_joined word other (path ∷ paths) h = lacks_by word (named other) (joined_files answer (answer path) paths) h
+
+  pub new_joined : (known : List texts.Section) (word : List ℕ) (paths : List (List ℕ)) (least : ℕ) (ps : List Piece) → rank (named word) ≡ least → IsFree known least
+      → ((now : List texts.Section) → IsFree now (least + 1) → NoRepeats now ps) → NoRepeats known (joined_pieces word paths ++ ps)
+  new_joined known word [] least ps e free next = next known (λ s h. free s (omega (arith, h)))
+  new_joined known word (path ∷ paths) least ps e free next = new_section known (named word) (joined_files answer (answer path) paths) least ps e free next
+
+  pub includes_joined : (word : List ℕ) (paths : List (List ℕ)) → filter_map include_of (joined_pieces word paths) ≡ []
+  includes_joined word [] = refl
+  includes_joined word (path ∷ paths) = includes_by word (joined_files answer (answer path) paths)
+
+  pub has_joined : (text word : List ℕ) (paths : List (List ℕ)) → section_bytes text word ≡ file_bytes (first_file (named word) (joined_pieces word paths)) → HasJoined answer text word paths
+  has_joined text word [] h = h
+  has_joined text word (path ∷ paths) h = body_by text word (joined_files answer (answer path) paths) h
 
   -- ---- of include files
   pub writes_includes : (paths : List (List ℕ)) → Writes (map (included_in answer) paths) (include_pieces paths)
@@ -318,9 +349,9 @@ module _ (answer : List ℕ → Answer) where
   new_includes known paths ps d free next = paths_once known paths ps d (free_paths known paths free) (λ s h. free s (omega (arith, h))) next
 
   -- ---- the paths in breadth first order
-  first_pass : (path : Option (List ℕ)) → list_all is_path (first_names answer path) ≡ true
-  first_pass None = refl
-  first_pass (Some path) = at (answer path) where
+  first_pass : (files : List (List ℕ)) → list_all is_path (first_names answer files) ≡ true
+  first_pass [] = refl
+  first_pass (path ∷ later) = at (joined_files answer (answer path) later) where
     at : (a : Answer) → list_all is_path (names_in_aliases a) ≡ true
     at (file text) = alias_paths text
     at absent = refl
@@ -337,11 +368,11 @@ module _ (answer : List ℕ → Answer) where
   later_pass [] = refl
   later_pass (p ∷ ps) = list_all-append is_path (names_of answer p) (later_names answer ps) ∙ ap (λ (b : Bool). b && list_all is_path (later_names answer ps)) (names_pass (answer p)) ∙ later_pass ps
 
-  pub order_pass : (path : Option (List ℕ)) (paths : List (List ℕ)) → IsBreadthFirst answer (first_names answer path) paths → list_all is_path paths ≡ true
-  order_pass path paths h =
+  pub order_pass : (files paths : List (List ℕ)) → IsBreadthFirst answer (first_names answer files) paths → list_all is_path paths ≡ true
+  order_pass files paths h =
       ap (list_all is_path) h.order
-      ∙ all_firsts (first_names answer path ++ later_names answer paths)
-      (list_all-append is_path (first_names answer path) (later_names answer paths) ∙ ap (λ (b : Bool). b && list_all is_path (later_names answer paths)) (first_pass path) ∙ later_pass paths)
+      ∙ all_firsts (first_names answer files ++ later_names answer paths)
+      (list_all-append is_path (first_names answer files) (later_names answer paths) ∙ ap (λ (b : Bool). b && list_all is_path (later_names answer paths)) (first_pass files) ∙ later_pass paths)
 
-  pub order_distinct : (path : Option (List ℕ)) (paths : List (List ℕ)) → IsBreadthFirst answer (first_names answer path) paths → Distinct paths
-  order_distinct path paths h = subst Distinct (sym h.order) (distinct_firsts (first_names answer path ++ later_names answer paths))
+  pub order_distinct : (files paths : List (List ℕ)) → IsBreadthFirst answer (first_names answer files) paths → Distinct paths
+  order_distinct files paths h = subst Distinct (sym h.order) (distinct_firsts (first_names answer files ++ later_names answer paths))

@@ -14,17 +14,17 @@ use Rattle.relay_gather.specs.Gathered.{percent}
 use Rattle.relay_gather.proofs.Lines.{HasNoEnd, AllPlain, marked_line, closed_line, percent_plain, has_texts}
 
 -- ---- lines without their ends
-take_one : (n b : ℕ) (bs : List ℕ) → take (1 + n) (b ∷ bs) ≡ b ∷ take n bs
+pub take_one : (n b : ℕ) (bs : List ℕ) → take (1 + n) (b ∷ bs) ≡ b ∷ take n bs
 take_one n b bs = ap (λ k. take k (b ∷ bs)) (let e : 1 + n ≡ suc n = omega arith in e)
 
-before_end : (text : List ℕ) → HasNoEnd text → before_first (λ b. b == 10) (text ++ 10 ∷ []) ≡ text
+pub before_end : (text : List ℕ) → HasNoEnd text → before_first (λ b. b == 10) (text ++ 10 ∷ []) ≡ text
 before_end [] h = refl
 before_end (b ∷ bs) h = rw h.0 (take_one _ b (bs ++ 10 ∷ []) ∙ ap (λ t. b ∷ t) (before_end bs h.1))
 
 line_text-closed : (text : List ℕ) → HasNoEnd text → line_text (closed_line text) ≡ without_cr text
 line_text-closed text h = ap without_cr (before_end text h)
 
-raw_first : (text rest : List ℕ) → HasNoEnd text → raw_lines (text ++ 10 ∷ rest) ≡ closed_line text ∷ raw_lines rest
+pub raw_first : (text rest : List ℕ) → HasNoEnd text → raw_lines (text ++ 10 ∷ rest) ≡ closed_line text ∷ raw_lines rest
 raw_first [] rest h = refl
 raw_first (b ∷ bs) rest h = rw h.0 (ap (onto_first b) (raw_first bs rest h.1))
 

@@ -11,6 +11,7 @@ use Rattle.relay_job.specs.declared.fault.RunFault.{RunFault}
 use Rattle.relay_gather.specs.declared.paths.Paths.{Paths}
 use Rattle.relay_gather.specs.Source.{Answer, unknown, absent, failed, file, Refuses}
 use Rattle.relay_gather.specs.Sections.{with_end, named_section, include_section, joined}
+use Rattle.relay_gather.specs.JoinedFiles.{joined_files}
 
 -- The include files that a file names, each by its first place.
 abbrev pub names_in_aliases : Answer → List (List ℕ)
@@ -30,13 +31,18 @@ module _ (answer : List ℕ → Answer) where
   named_in heading None = []
   named_in heading (Some path) = named_section heading (answer path) ∷ []
 
+  -- Several files are one section, which has their lines in this order; of one file it has what a named file's has.
+  abbrev pub joined_in : List ℕ → List (List ℕ) → List (Result (List ℕ) RunFault)
+  joined_in heading [] = []
+  joined_in heading (path ∷ paths) = named_section heading (joined_files answer (answer path) paths) ∷ []
+
   abbrev pub included_in : List ℕ → Result (List ℕ) RunFault
   included_in path = include_section path (answer path)
 
-  -- the include files that the alias file names, and those that some include files name
-  abbrev pub first_names : Option (List ℕ) → List (List ℕ)
-  first_names None = []
-  first_names (Some path) = names_in_aliases (answer path)
+  -- the include files that the alias files name, and those that some include files name
+  abbrev pub first_names : List (List ℕ) → List (List ℕ)
+  first_names [] = []
+  first_names (path ∷ paths) = names_in_aliases (joined_files answer (answer path) paths)
 
   abbrev pub names_of : List ℕ → List (List ℕ)
   names_of path = names_in_include (answer path)
@@ -65,12 +71,12 @@ module _ (answer : List ℕ → Answer) where
 
   -- the sections up to these include files, and those behind the include files
   abbrev pub front_sections : Paths → List (List ℕ) → List (Result (List ℕ) RunFault)
-  front_sections files includes = named_in (codes "%settings") files.settings ++ named_in (codes "%aliases") files.aliases ++ map included_in includes
+  front_sections files includes = named_in (codes "%settings") files.settings ++ joined_in (codes "%aliases") files.aliases ++ map included_in includes
 
   abbrev pub back_sections : Paths → List (Result (List ℕ) RunFault)
   back_sections files =
       named_in (codes "%mailboxes") files.mailboxes
-      ++ named_in (codes "%transport") files.transport
+      ++ joined_in (codes "%transport") files.transport
       ++ named_in (codes "%mx") files.mx
       ++ named_in (codes "%envelope") files.envelope
 
@@ -110,6 +116,10 @@ abbrev pub HasNamed : (List ℕ → Answer) → List ℕ → List ℕ → Option
 HasNamed answer text heading None = section_bytes text heading ≡ []
 HasNamed answer text heading (Some path) = IsBodyOf (section_bytes text heading) (answer path)
 
+abbrev pub HasJoined : (List ℕ → Answer) → List ℕ → List ℕ → List (List ℕ) → Type 0
+HasJoined answer text heading [] = section_bytes text heading ≡ []
+HasJoined answer text heading (path ∷ paths) = IsBodyOf (section_bytes text heading) (joined_files answer (answer path) paths)
+
 -- The include file of a path, as a job has it; none where the source has no file for the path.
 abbrev pub include_of_answer : List ℕ → Answer → Option JobInclude
 include_of_answer path (file text) = Some (record { path = path; bytes = with_end text })
@@ -124,9 +134,9 @@ found_include answer path = include_of_answer path (answer path)
 pub record HasFiles (answer : List ℕ → Answer) (files : Paths) (text : List ℕ) : Type 0 where
   pub no_bad_line : bad_job text ≡ None
   pub settings : HasNamed answer text (codes "%settings") files.settings
-  pub aliases : HasNamed answer text (codes "%aliases") files.aliases
+  pub aliases : HasJoined answer text (codes "%aliases") files.aliases
   pub mailboxes : HasNamed answer text (codes "%mailboxes") files.mailboxes
-  pub transport : HasNamed answer text (codes "%transport") files.transport
+  pub transport : HasJoined answer text (codes "%transport") files.transport
   pub mx : HasNamed answer text (codes "%mx") files.mx
   pub envelope : HasNamed answer text (codes "%envelope") files.envelope
   pub paths : List (List ℕ)

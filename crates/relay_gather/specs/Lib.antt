@@ -1,5 +1,6 @@
 pub mod Source
 pub mod Sections
+pub mod JoinedFiles
 pub mod Gathering
 pub mod Gathered
 pub mod Fetching

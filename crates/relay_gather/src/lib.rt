@@ -2,18 +2,19 @@
 #![tactic(auto)]
 
 mod fetching;
+mod files;
 mod gathered;
 pub mod gathering;
 mod includes;
+mod laws;
 mod named;
 pub mod paths;
 mod queue;
 pub mod source;
 pub mod source_fault;
-#[cfg(test)]
-mod tests;
 
 pub use gathering::gathered_text;
+pub use laws::files_apart;
 pub use paths::Paths;
 pub use relay_job::RunFault;
 pub use source::Source;

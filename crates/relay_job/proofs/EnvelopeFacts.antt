@@ -77,7 +77,7 @@ broken_behind_sender origin sender earlier (x ∷ xs) = ap (λ (ns : List ℕ). 
 abbrev early : ℕ → List Line → Option ℕ
 early heading commands = cond (ltb (length commands) 2) (Some heading) None
 
-first_bad-behind : (origin : List ℕ) (heading : ℕ) (x : Line) (xs : List Line) (sender : Option AddressParts) → sender_in origin x.text ≡ Some sender → first_bad_command origin heading (x ∷ xs) ≡ first_of (slice_get (bad_recipients origin xs) 0 ∷ early heading (x ∷ xs) ∷ [])
+pub first_bad-behind : (origin : List ℕ) (heading : ℕ) (x : Line) (xs : List Line) (sender : Option AddressParts) → sender_in origin x.text ≡ Some sender → first_bad_command origin heading (x ∷ xs) ≡ first_of (slice_get (bad_recipients origin xs) 0 ∷ early heading (x ∷ xs) ∷ [])
 first_bad-behind origin heading x xs sender e = rw e (ap (λ (ns : List ℕ). first_of (slice_get ns 0 ∷ early heading (x ∷ xs) ∷ [])) (broken_behind_sender origin x [] xs))
 
 pub first_bad-none : (origin : List ℕ) (heading : ℕ) (commands : List Line) → commands ≡ [] → first_bad_command origin heading commands ≡ Some heading

@@ -9,3 +9,4 @@ pub mod SectionFacts
 pub mod SettingFacts
 pub mod SizeFacts
 pub mod JobBounds
+pub mod ReasonFacts

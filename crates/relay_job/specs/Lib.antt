@@ -6,3 +6,5 @@ pub mod SectionPlaces
 pub mod SettingValues
 pub mod JobParts
 pub mod JobSizes
+pub mod Reasons
+pub mod LocatedLines

@@ -2,6 +2,7 @@
 use crate::fault::RunFault;
 use crate::place::Place;
 use crate::raw_line::RawLine;
+use crate::reason::Reason;
 use relay_text::{Address, Seq, TextFault, begins_with_word, parse_path, trimmed_end};
 use std::alloc::{AllocError, Global};
 
@@ -12,10 +13,11 @@ pub struct Envelope {
     pub recipients: Seq<Address>,
 }
 
-ghost use Rattle.std.specs.Prelude.{◌≡◌, ◌<◌, [], ◌∷◌, None, length, drop, slice_get, option_map, IsTrue, IfOk, IfErr, IfSome, IfNone};
+ghost use Rattle.std.specs.Prelude.{◌≡◌, ◌<◌, ℕ, [], ◌∷◌, Some, None, length, drop, slice_get, option_map, IsTrue, IfOk, IfErr, IfSome, IfNone};
 ghost use Rattle.relay_text.specs.Addresses.{is_origin};
 ghost use Rattle.relay_job.specs.JobText.{command_path, sender_in, recipient_in};
 ghost use Rattle.relay_job.specs.Places.{line_of};
+ghost use Rattle.relay_job.specs.Reasons.{BreaksEnvelope};
 ghost use Rattle.relay_job.specs.JobParts.{command_of, commands_at, recipients_of, bad_recipients, first_bad_command, sender_of, Stops};
 
 /// The next line of a section that isn't of white space alone, and the place behind it.
@@ -113,5 +115,23 @@ impl Envelope {
             sender,
             recipients: Seq::of(recipients),
         })
+    }
+
+    /// The rule of envelopes that the one behind a heading breaks, where it breaks one.
+    pub fn reason(alloc: Global, section: Place<'_>, origin: &[u8]) -> Result<Reason, AllocError>
+        requires { IsTrue (is_origin origin.now) }
+        ensures { IfOk result (λ reason. (number : ℕ) → first_bad_command origin.now section.entry.line (commands_at section.entry) ≡ Some number → BreaksEnvelope origin.now number section.entry.line (commands_at section.entry) reason) }
+    {
+        let Some((line, after)) = split_command(&section) else {
+            return Ok(Reason::TooFewCommands);
+        };
+        let path = command_path(alloc, b"mail from:", origin, line.content_text())?;
+        let Some(_sender) = path else {
+            return Ok(Reason::NotSender);
+        };
+        match split_command(&after) {
+            Some(_) => Ok(Reason::NotRecipient),
+            None => Ok(Reason::TooFewCommands),
+        }
     }
 }

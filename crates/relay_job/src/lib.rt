@@ -9,24 +9,26 @@ pub mod fault;
 mod heading;
 mod include_place;
 pub mod job;
+pub mod located;
 pub mod parsed;
 pub mod parsing;
 mod parts;
 mod place;
 mod raw_line;
+pub mod reason;
+pub mod reasons;
 mod section;
 mod sections;
 mod setting;
 mod setting_values;
 pub mod settings;
-#[cfg(test)]
-mod tests_includes;
-#[cfg(test)]
-mod tests_parsing;
 mod value;
 
 pub use fault::RunFault;
 pub use job::{Job, JobInclude};
+pub use located::LocatedLine;
 pub use parsed::parsed_jobs;
 pub use parsing::parse_job;
+pub use reason::Reason;
+pub use reasons::{envelope_reason, job_line_reason, setting_reason};
 pub use settings::Settings;

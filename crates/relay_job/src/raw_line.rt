@@ -23,10 +23,14 @@ impl<'a> RawLine<'a> {
         line_text(self.raw)
     }
 
-    /// Whether the line is a heading: its first byte is `%` and its second isn't.
+    /// Whether the line is a heading: its first byte is `%` and its second isn't. Few lines begin with `%`, and the end of no other is
+    /// looked for.
     pub fn is_heading(&self) -> bool
         ensures { result ≡ is_heading (line_of self.now) }
     {
+        if !self.raw.starts_with(b"%") {
+            return false;
+        }
         let text = self.text();
         text.starts_with(b"%") && !text.starts_with(b"%%")
     }

@@ -30,6 +30,7 @@ pub struct SettingValues {
 
 ghost use Rattle.std.specs.Prelude.{◌≡◌, true, not, ◌&&◌, ℕ, List, Option, is_some, option_map, IfOk, IfErr};
 ghost use Rattle.relay_job.specs.Places.{content_at};
+ghost use Rattle.relay_job.specs.Settings.{is_good_setting};
 ghost use Rattle.relay_job.specs.SettingValues.{setting_in, settings_with, AreRead, HasSet, AreValuesOf};
 ghost use Rattle.relay_job.specs.JobParts.{lines_of, first_bad_setting, Stops};
 
@@ -79,6 +80,15 @@ impl SettingValues {
         } else {
             Ok(false)
         }
+    }
+
+    /// Whether a setting has a known key and a good value.
+    pub fn takes(alloc: Global, setting: Setting<'_>) -> Result<bool, AllocError>
+        ensures { IfOk result (λ good. good ≡ is_good_setting (setting_in setting.entry)) }
+    {
+        let mut values = SettingValues::default();
+        let good = values.set(alloc, setting)?;
+        Ok(good)
     }
 
     /// The values of the settings section behind a place. BadSetting has the first line that isn't ignored and has no `=`, an

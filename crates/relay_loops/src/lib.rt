@@ -30,8 +30,6 @@ mod place;
 mod settling;
 mod spreading;
 mod steps;
-#[cfg(test)]
-mod tests;
 
 ghost use Rattle.std.specs.Prelude.{◌≤◌, [], IfOk};
 ghost use Rattle.relay_loops.specs.declared.place.Place.TheVariants.{Left};

@@ -10,8 +10,6 @@ mod nodes;
 mod reached;
 mod reaching;
 mod steps;
-#[cfg(test)]
-mod tests;
 
 pub use laws::{pairs_are_counted, pairs_by_numbers};
 pub use nodes::reached_nodes;

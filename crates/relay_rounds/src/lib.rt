@@ -17,8 +17,6 @@ mod settled;
 mod settling;
 mod shard;
 mod steps;
-#[cfg(test)]
-mod tests;
 mod winning;
 mod worker;
 mod workers;

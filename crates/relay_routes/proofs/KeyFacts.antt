@@ -1,14 +1,18 @@
 -- What a table gives at the first of several keys.
-use Rattle.std.proofs.Common.{◌≡◌, ◌≢◌, ℕ, ◌+◌, ◌<◌, ◌≤◌, Bool, true, false, cond, List, [], ◌∷◌, ◌++◌, length, take, drop, get_or, map, filter, refl, sym, ap, ◌∙◌, codes, append_assoc, drop-cons, add-one, eq-eqb, ne_eqb}
+use Rattle.std.proofs.Common.{◌≡◌, ◌≢◌, ℕ, ◌+◌, ◌<◌, ◌≤◌, ◌==◌, ◌||◌, Bool, true, false, cond, List, [], ◌∷◌, ◌++◌, length, take, drop, get_or, map, filter, refl, sym, ap, ◌∙◌, codes, append_assoc, drop-cons, add-one, eq-eqb, ne_eqb}
 use Rattle.std.specs.Prelude.{Option, Some, None, option_map}
-use Rattle.std.specs.List.{enumerate_from}
+use Rattle.std.specs.List.{enumerate_from, list_any}
+use Rattle.std.specs.Str.{bytes_eq}
+use Rattle.std.proofs.lemmas.Bool.{true≢false}
+use Rattle.std.proofs.lemmas.List.Folds.{list_any-append}
+use Rattle.std.proofs.lemmas.Slice.Eq.{bytes_eq-Decides}
 use Rattle.std.proofs.lemmas.List.{drop-drop, drop_all}
-use Rattle.relay_text.specs.Bytes.{first_of}
+use Rattle.relay_text.specs.Bytes.{first_of, folded}
 use Rattle.relay_text.specs.AddressParts.{AddressParts}
-use Rattle.relay_text.specs.Addresses.{is_dot, is_literal, base_of, split_place_of}
+use Rattle.relay_text.specs.Addresses.{is_dot, is_literal, base_of, split_place_of, local_text_of}
 use Rattle.relay_routes.specs.declared.transport_line.TransportLine.{TransportLine}
 use Rattle.relay_routes.specs.Transports.{address_key, result_at, found_result, parent_keys, base_keys, keys_of}
-use Rattle.relay_routes.specs.TableSteps.{domain_keys, later_keys, dot_ends}
+use Rattle.relay_routes.specs.TableSteps.{domain_keys, later_keys, dot_ends, has_at, has_address}
 
 pub found_first : (es : List TransportLine) (key : List ℕ) (keys : List (List ℕ)) (r : List ℕ) → Some r ≡ result_at es key → Some r ≡ found_result es (key ∷ keys)
 found_first es key keys r h = ap (λ o. first_of (o ∷ map (result_at es) keys)) h
@@ -94,3 +98,41 @@ found_at_address es a delimiter r h = found_first es (address_key a.local a.doma
 
 pub found_past_address : (es : List TransportLine) (a : AddressParts) (delimiter : Option ℕ) → None ≡ result_at es (address_key a.local a.domain) → found_result es (later_keys a delimiter) ≡ found_result es (keys_of a delimiter)
 found_past_address es a delimiter none = found_next es (address_key a.local a.domain) (later_keys a delimiter) none ∙ ap (found_result es) (sym (keys_later a delimiter))
+
+-- ---- a table without an `@`
+either_true : (x : Bool) → (x || true) ≡ true
+either_true true = refl
+either_true false = refl
+
+key_has_at : (local domain : List ℕ) → has_at (address_key local domain) ≡ true
+key_has_at local domain =
+    let name = local_text_of (folded local) in
+    list_any-append (λ (b : ℕ). b == 64) (name ++ codes "@") (folded domain)
+    ∙ ap (λ t. t || has_at (folded domain)) (list_any-append (λ (b : ℕ). b == 64) name (codes "@") ∙ either_true (has_at name))
+
+-- no entry stands at a key that has an `@`, where no pattern has one
+pub missing_at : (es : List TransportLine) (key : List ℕ) → has_address es ≡ false → has_at key ≡ true → None ≡ result_at es key
+missing_at [] key none there = refl
+missing_at (e ∷ es) key none there = at (has_at e.pattern) refl (bytes_eq e.pattern key) refl none (λ rest. missing_at es key rest there) where
+  at : (h : Bool) → has_at e.pattern ≡ h → (t : Bool) → bytes_eq e.pattern key ≡ t → (h || has_address es) ≡ false → (has_address es ≡ false → None ≡ result_at es key) → None ≡ result_at (e ∷ es) key
+  at true is t same none rest = absurd (true≢false none)
+  at false is true same none rest = absurd (true≢false (sym there ∙ ap has_at (sym ((bytes_eq-Decides e.pattern key).0 same)) ∙ is))
+  at false is false same none rest = rw same (rest none)
+
+-- so only the domain's keys are looked for
+pub keys_of_domain : (es : List TransportLine) (a : AddressParts) (delimiter : Option ℕ) → has_address es ≡ false → found_result es (domain_keys a.domain) ≡ found_result es (keys_of a delimiter)
+keys_of_domain es a delimiter none =
+    later (base_of a.local delimiter)
+    ∙ found_next es (address_key a.local a.domain) (later_keys a delimiter) (missing_at es (address_key a.local a.domain) none (key_has_at a.local a.domain))
+    ∙ ap (found_result es) (sym (keys_later a delimiter))
+  where
+    later : (o : Option (List ℕ)) → found_result es (domain_keys a.domain) ≡ found_result es (base_keys a o ++ domain_keys a.domain)
+    later None = refl
+    later (Some base) = found_next es (address_key base a.domain) (domain_keys a.domain) (missing_at es (address_key base a.domain) none (key_has_at base a.domain))
+
+-- one more entry
+pub address_more : (es : List TransportLine) (e : TransportLine) → (has_address es || has_at e.pattern) ≡ has_address (es ++ e ∷ [])
+address_more es e = sym (list_any-append (λ (e : TransportLine). has_at e.pattern) es (e ∷ []) ∙ ap (λ b. has_address es || b) (or_false (has_at e.pattern))) where
+  or_false : (x : Bool) → (x || false) ≡ x
+  or_false true = refl
+  or_false false = refl

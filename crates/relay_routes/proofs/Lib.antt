@@ -7,13 +7,13 @@ pub mod RouteFacts
 pub mod DestinationFacts
 pub mod OwnNames
 pub mod StableSorts
+pub mod Numbering
 pub mod MxPlaces
 pub mod MxLookups
 pub mod MxFields
 pub mod FirstHosts
 pub mod Runs
 pub mod HostChoices
-pub mod PlaceFacts
 pub mod PatternFacts
 pub mod TableFacts
 pub mod KeyFacts

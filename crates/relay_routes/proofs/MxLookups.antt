@@ -1,10 +1,10 @@
 -- What a look-up finds among a domain's own records.
-use Rattle.std.proofs.Common.{◌≡◌, ℕ, Bool, true, false, ◌||◌, cond, List, [], ◌∷◌, ◌++◌, ◌+◌, ◌<◌, length, take, get_or, map, refl, sym, ap, ◌∙◌, filter, Option, Some, None, Bor}
+use Rattle.std.proofs.Common.{◌≡◌, ℕ, Bool, true, false, ◌||◌, cond, List, [], ◌∷◌, ◌++◌, map, refl, sym, ap, ◌∙◌, filter, Option, Some, None, Bor}
 use Rattle.std.specs.Prelude.{filter_map, is_some, option_and_then}
 use Rattle.std.specs.List.{slice_get, list_any, cons_option}
 use Rattle.std.specs.Str.{bytes_eq}
 use Rattle.std.proofs.lemmas.Bool.{true≢false}
-use Rattle.std.proofs.lemmas.List.{append-nil, map_push, take_more}
+use Rattle.std.proofs.lemmas.List.{append-nil, map_push}
 use Rattle.std.proofs.lemmas.List.Elements.{filter_map-append}
 use Rattle.std.proofs.lemmas.Slice.Eq.{bytes_eq-Decides}
 use Rattle.relay_text.specs.Bytes.{has_text}
@@ -67,16 +67,16 @@ pub address_found : (rs : List MxRecord) (d : List ℕ) (places : List ℕ) → 
 address_found rs d places own = found_in_turn (slice_get rs) address_in places ∙ ap (list_any (λ r. is_some (address_in r))) own ∙ own_addresses d rs
 
 -- one more place, where there is an exchanger and where there is none
-pub exchanger_more : (h : ℕ → Option Exchange) (places : List ℕ) (i : ℕ) (found : List (Bor Exchange)) (x : Bor Exchange) → i < length places → h (get_or places i 0) ≡ Some x.now
-    → map (λ e. e.now) found ≡ filter_map h (take i places) → map (λ e. e.now) (found ++ x ∷ []) ≡ filter_map h (take (i + 1) places)
-exchanger_more h places i found x inside here was =
+pub exchanger_more : (h : ℕ → Option Exchange) (before : List ℕ) (place : ℕ) (found : List (Bor Exchange)) (x : Bor Exchange) → h place ≡ Some x.now
+    → map (λ e. e.now) found ≡ filter_map h before → map (λ e. e.now) (found ++ x ∷ []) ≡ filter_map h (before ++ place ∷ [])
+exchanger_more h before place found x here was =
     map_push (λ (e : Bor Exchange). e.now) found x ∙ ap (λ t. t ++ x.now ∷ []) was
-    ∙ ap (λ o. filter_map h (take i places) ++ cons_option o []) (sym here)
-    ∙ sym (ap (filter_map h) (take_more places i 0 inside) ∙ filter_map-append h (take i places) (get_or places i 0 ∷ []))
+    ∙ ap (λ o. filter_map h before ++ cons_option o []) (sym here)
+    ∙ sym (filter_map-append h before (place ∷ []))
 
-pub exchanger_none : (h : ℕ → Option Exchange) (places : List ℕ) (i : ℕ) (found : List Exchange) → i < length places → h (get_or places i 0) ≡ None
-    → found ≡ filter_map h (take i places) → found ≡ filter_map h (take (i + 1) places)
-exchanger_none h places i found inside here was =
-    was ∙ sym (append-nil (filter_map h (take i places)))
-    ∙ ap (λ o. filter_map h (take i places) ++ cons_option o []) (sym here)
-    ∙ sym (ap (filter_map h) (take_more places i 0 inside) ∙ filter_map-append h (take i places) (get_or places i 0 ∷ []))
+pub exchanger_none : (h : ℕ → Option Exchange) (before : List ℕ) (place : ℕ) (found : List Exchange) → h place ≡ None
+    → found ≡ filter_map h before → found ≡ filter_map h (before ++ place ∷ [])
+exchanger_none h before place found here was =
+    was ∙ sym (append-nil (filter_map h before))
+    ∙ ap (λ o. filter_map h before ++ cons_option o []) (sym here)
+    ∙ sym (filter_map-append h before (place ∷ []))

@@ -1,184 +1,179 @@
 -- The places of a domain's records among those of all.
-use Rattle.std.proofs.Common.{◌≡◌, ℕ, suc, zero, ◌+◌, ◌-◌, ◌<◌, ◌≤◌, Bool, true, false, not, ◌&&◌, cond, List, [], ◌∷◌, ◌++◌, length, take, drop, get_or, refl, sym, ap, ◌∙◌, subst, filter, arith, Option, Some, ◌⊎◌, inl, inr}
-use Rattle.std.specs.Prelude.{filter_map, unwrap_or, option_map}
+use Rattle.std.proofs.Common.{◌≡◌, ℕ, suc, zero, ◌+◌, ◌<◌, Bool, true, false, cond, eqb, List, [], ◌∷◌, ◌++◌, length, map, take, drop, set, get_or, refl, sym, ap, ◌∙◌, filter, arith, Option, Some, None, eq-eqb, ◌⊎◌, inl, inr}
+use Rattle.std.specs.Prelude.{filter_map}
 use Rattle.std.specs.List.{slice_get, All, cons_option}
-use Rattle.std.specs.List.Sorted.{IsPermutation, IsStableBy, IsSortedBy, IsPartitionedBy, IsPartitionPoint, ties}
-use Rattle.std.specs.Cmp.{IsStrictWeakOrder}
-use Rattle.std.specs.declared.cmp.Ordering.{Ordering}
-use Rattle.std.specs.declared.cmp.Ordering.TheVariants.{Less, Equal, Greater}
-use Rattle.std.specs.Ordering.{is_lt, is_le, is_eq, ordering_index, ordering_reverse}
 use Rattle.std.specs.Str.{bytes_eq}
-use Rattle.std.proofs.lemmas.Bool.{true≢false, cases_lt}
-use Rattle.std.proofs.lemmas.Cmp.{nat_list_cmp_total, tied_itself}
-use Rattle.std.proofs.lemmas.List.{append-nil, take-append-drop, get_or-take, get_or-drop, length-take, length-drop}
-use Rattle.std.proofs.lemmas.List.Elements.{filter-append, filter_map-append, filter_agree}
-use Rattle.std.proofs.lemmas.List.Sorted.{ranks_by, searchable_from_sorted}
-use Rattle.std.proofs.lemmas.Map.Lookups.{exact_bytes}
+use Rattle.std.proofs.lemmas.Bool.{cases_eq, ne_eqb, cond-true, cond-false, true≢false}
+use Rattle.std.proofs.lemmas.Option.{none-some, same_Some}
+use Rattle.std.proofs.lemmas.List.{get_or-set_same, get_or-set_other, length-set, map_push, take_more, length-take, append-nil}
+use Rattle.std.proofs.lemmas.List.Quantifiers.{position-Some}
 use Rattle.std.proofs.lemmas.Slice.Eq.{bytes_eq-Decides}
-use Rattle.relay_text.specs.TextSets.{text_cmp}
+use Rattle.relay_chains.specs.Keys.{number_of}
+use Rattle.relay_rings.specs.RingLists.{RingLists, list_at, appended}
 use Rattle.relay_routes.specs.declared.mx_record.MxRecord.{MxRecord}
 use Rattle.relay_routes.specs.Exchanges.{domain_of}
-use Rattle.relay_routes.specs.MxRecords.{domain_at, is_at, is_of, comes_before, order_at, IsIndex, IsStart, IsEnd}
-use Rattle.relay_routes.proofs.StableSorts.{none_pass, all_pass, stable_filter}
+use Rattle.relay_routes.specs.MxRecords.{is_of, places_from, places_at, AreNumbered, ArePlaces, IsIndex}
 
--- Texts are the same exactly where their order ties.
-tied : (a b : List ℕ) → bytes_eq a b ≡ is_eq (text_cmp a b)
-tied a b = at (text_cmp a b) refl (bytes_eq a b) refl where
-  at : (o : Ordering) → text_cmp a b ≡ o → (t : Bool) → bytes_eq a b ≡ t → t ≡ is_eq o
-  at Equal e true h = refl
-  at Equal e false h = absurd (true≢false (sym ((bytes_eq-Decides a b).1 (exact_bytes a b e)) ∙ h))
-  at Less e false h = refl
-  at Less e true h = let same : text_cmp a b ≡ Equal = ap (text_cmp a) (sym ((bytes_eq-Decides a b).0 h)) ∙ tied_itself nat_list_cmp_total a in absurd (let no : ⊥ = cc in no)
-  at Greater e false h = refl
-  at Greater e true h = let same : text_cmp a b ≡ Equal = ap (text_cmp a) (sym ((bytes_eq-Decides a b).0 h)) ∙ tied_itself nat_list_cmp_total a in absurd (let no : ⊥ = cc in no)
+-- a domain that has a number stands there
+domain_there : (ds : List (List ℕ)) (d : List ℕ) (n : ℕ) → number_of bytes_eq ds d ≡ Some n → (n < length ds) × (d ≡ get_or ds n [])
+domain_there ds d n h = let at = position-Some (bytes_eq d) ds n [] h in (at.0, (bytes_eq-Decides d (get_or ds n [])).0 at.1)
 
-neither_first : (o : Ordering) → (not (is_lt (ordering_reverse o)) && not (is_lt o)) ≡ is_eq o
-neither_first Less = refl
-neither_first Equal = refl
-neither_first Greater = refl
+pub number_below : (ds : List (List ℕ)) (d : List ℕ) (n : ℕ) → number_of bytes_eq ds d ≡ Some n → n < length ds
+number_below ds d n h = (domain_there ds d n h).0
 
-neither_before : (a b : List ℕ) → (not (is_lt (text_cmp a b)) && not (is_lt (text_cmp b a))) ≡ bytes_eq b a
-neither_before a b =
-    ap (λ o. not (is_lt o) && not (is_lt (text_cmp b a))) (nat_list_cmp_total.antisymm a b)
-    ∙ neither_first (text_cmp b a) ∙ sym (tied b a)
+-- Two domains have one number where they are one.
+same_number : (ds : List (List ℕ)) (c d : List ℕ) (m n : ℕ) → number_of bytes_eq ds c ≡ Some m → number_of bytes_eq ds d ≡ Some n → eqb m n ≡ bytes_eq c d
+same_number ds c d m n first second = at (bytes_eq c d) refl where
+  at : (t : Bool) → bytes_eq c d ≡ t → eqb m n ≡ t
+  at true e =
+      let same : c ≡ d = (bytes_eq-Decides c d).0 e in
+      eq-eqb m n (same_Some m n (sym first ∙ ap (number_of bytes_eq ds) same ∙ second))
+  at false e =
+      ne_eqb m n (λ one. true≢false (sym ((bytes_eq-Decides c d).1 ((domain_there ds c m first).1 ∙ ap (λ i. get_or ds i []) one ∙ sym (domain_there ds d n second).1)) ∙ e))
 
--- Places that tie are those of one domain.
-place_ties : (rs : List MxRecord) (d : List ℕ) (p q : ℕ) → is_at rs d p ≡ true → ties (comes_before rs) p q ≡ is_at rs d q
-place_ties rs d p q h =
-    let same : domain_at rs p ≡ d = (bytes_eq-Decides (domain_at rs p) d).0 h in
-    neither_before (domain_at rs p) (domain_at rs q) ∙ ap (bytes_eq (domain_at rs q)) same
+first_Some : (n : ℕ) (ns : List ℕ) (o : Option ℕ) (os : List (Option ℕ)) → map Some (n ∷ ns) ≡ o ∷ os → (Some n ≡ o) × (map Some ns ≡ os)
+first_Some n ns o os h = (cc, cc)
 
-pub comes_before_ranks : (rs : List MxRecord) → IsStrictWeakOrder (comes_before rs)
-comes_before_ranks rs = ranks_by nat_list_cmp_total (domain_at rs)
+-- the records from a place on
+rest_there : (all : List MxRecord) (i : ℕ) (r : MxRecord) (rs : List MxRecord) → drop i all ≡ r ∷ rs → (slice_get all i ≡ Some r) × (drop (suc i) all ≡ rs)
+rest_there [] zero r rs h = absurd (let no : ⊥ = cc in no)
+rest_there [] (suc i) r rs h = absurd (let no : ⊥ = cc in no)
+rest_there (x ∷ all) zero r rs h = (cc, cc)
+rest_there (x ∷ all) (suc i) r rs h = rest_there all i r rs h
 
--- All places, sorted stably, are an index.
-pub index_made : (rs : List MxRecord) (places sorted : List ℕ) → IsPermutation places sorted → IsStableBy (comes_before rs) places sorted → IsSortedBy (comes_before rs) sorted
-    → ((d : List ℕ) → filter_map (slice_get rs) (filter (is_at rs d) places) ≡ filter (is_of d) rs) → IsIndex rs sorted
-index_made rs places sorted moved stable up own = record {
-  rising = up;
-  own = λ d. ap (filter_map (slice_get rs)) (stable_filter (comes_before rs) (is_at rs d) places sorted moved stable (place_ties rs d)) ∙ own d;
-}
-
--- the record at a place, which ends the records up to it
-record_there : (rs : List MxRecord) (i : ℕ) → i < length rs → (r : MxRecord) × (slice_get rs i ≡ Some r) × (take (suc i) rs ≡ take i rs ++ r ∷ [])
-record_there [] i h = absurd (omega arith)
-record_there (r ∷ rs) zero h = (r, refl, refl)
-record_there (r ∷ rs) (suc i) h =
-    let later = record_there rs i (omega arith) in
-    (later.0, later.1, ap (λ t. r ∷ t) later.2)
-
--- one more place, and one more record
-pub place_more : (rs : List MxRecord) (d : List ℕ) (places more : List ℕ) (i : ℕ) → i < length rs → more ≡ places ++ i ∷ []
-    → filter_map (slice_get rs) (filter (is_at rs d) places) ≡ filter (is_of d) (take i rs)
-    → filter_map (slice_get rs) (filter (is_at rs d) more) ≡ filter (is_of d) (take (i + 1) rs)
-place_more rs d places more i inside e was =
-    let there = record_there rs i inside in
-    let r = there.0 in
-    let found : slice_get rs i ≡ Some r = there.1 in
-    let at_place : filter_map (slice_get rs) (filter (is_at rs d) (i ∷ [])) ≡ filter (is_of d) (r ∷ []) = last r found in
-    let up : take (i + 1) rs ≡ take i rs ++ r ∷ [] = (let e1 : i + 1 ≡ suc i = omega arith in ap (λ n. take n rs) e1) ∙ there.2 in
-    ap (λ ps. filter_map (slice_get rs) (filter (is_at rs d) ps)) e
-    ∙ ap (filter_map (slice_get rs)) (filter-append (is_at rs d) places (i ∷ []))
-    ∙ filter_map-append (slice_get rs) (filter (is_at rs d) places) (filter (is_at rs d) (i ∷ []))
-    ∙ ap (λ t. t ++ filter_map (slice_get rs) (filter (is_at rs d) (i ∷ []))) was
-    ∙ ap (λ t. filter (is_of d) (take i rs) ++ t) at_place
-    ∙ sym (filter-append (is_of d) (take i rs) (r ∷ []))
-    ∙ ap (filter (is_of d)) (sym up)
+own_from : (ds : List (List ℕ)) (d : List ℕ) (n : ℕ) (all : List MxRecord) (i : ℕ) (rs : List MxRecord) (ns : List ℕ) → number_of bytes_eq ds d ≡ Some n → drop i all ≡ rs → AreNumbered ds rs ns
+    → filter_map (slice_get all) (places_from i n ns) ≡ filter (is_of d) rs
+own_from ds d n all i [] [] has here numbered = refl
+own_from ds d n all i [] (m ∷ ns) has here numbered = absurd (let no : ⊥ = cc in no)
+own_from ds d n all i (r ∷ rs) [] has here numbered = absurd (let no : ⊥ = cc in no)
+own_from ds d n all i (r ∷ rs) (m ∷ ns) has here numbered =
+    let parts = first_Some m ns (number_of bytes_eq ds (domain_of r)) (map (λ (r : MxRecord). number_of bytes_eq ds (domain_of r)) rs) numbered in
+    let there = rest_there all i r rs here in
+    let next : i + 1 ≡ suc i = omega arith in
+    at (eqb m n) (bytes_eq (domain_of r) d) (same_number ds (domain_of r) d m n (sym parts.0) has) there.0 (own_from ds d n all (i + 1) rs ns has (ap (λ k. drop k all) next ∙ there.1) parts.1)
   where
-    last : (r : MxRecord) → slice_get rs i ≡ Some r → filter_map (slice_get rs) (filter (is_at rs d) (i ∷ [])) ≡ filter (is_of d) (r ∷ [])
-    last r found = ap (λ t. filter_map (slice_get rs) (cond t (i ∷ []) [])) shown ∙ at (is_of d r) where
-      shown : is_at rs d i ≡ is_of d r
-      shown = ap (λ (o : Option MxRecord). bytes_eq (unwrap_or (option_map domain_of o) []) d) found
+    at : (s t : Bool) → s ≡ t → slice_get all i ≡ Some r → filter_map (slice_get all) (places_from (i + 1) n ns) ≡ filter (is_of d) rs
+        → filter_map (slice_get all) (cond s (i ∷ places_from (i + 1) n ns) (places_from (i + 1) n ns)) ≡ cond t (r ∷ filter (is_of d) rs) (filter (is_of d) rs)
+    at true true e found later = ap (λ (o : Option MxRecord). cons_option o (filter_map (slice_get all) (places_from (i + 1) n ns))) found ∙ ap (λ t. r ∷ t) later
+    at true false e found later = absurd (true≢false e)
+    at false true e found later = absurd (true≢false (sym e))
+    at false false e found later = later
 
-      at : (t : Bool) → filter_map (slice_get rs) (cond t (i ∷ []) []) ≡ cond t (r ∷ []) []
-      at true = ap (λ (o : Option MxRecord). cons_option o []) found
-      at false = refl
+none_from : (ds : List (List ℕ)) (d : List ℕ) (rs : List MxRecord) (ns : List ℕ) → number_of bytes_eq ds d ≡ None → AreNumbered ds rs ns → [] ≡ filter (is_of d) rs
+none_from ds d [] ns none numbered = refl
+none_from ds d (r ∷ rs) [] none numbered = absurd (let no : ⊥ = cc in no)
+none_from ds d (r ∷ rs) (m ∷ ns) none numbered =
+    let parts = first_Some m ns (number_of bytes_eq ds (domain_of r)) (map (λ (r : MxRecord). number_of bytes_eq ds (domain_of r)) rs) numbered in
+    at (bytes_eq (domain_of r) d) refl parts.0 (none_from ds d rs ns none parts.1)
+  where
+    at : (t : Bool) → bytes_eq (domain_of r) d ≡ t → Some m ≡ number_of bytes_eq ds (domain_of r) → [] ≡ filter (is_of d) rs → [] ≡ cond t (r ∷ filter (is_of d) rs) (filter (is_of d) rs)
+    at true e has later = absurd (none-some m (sym none ∙ ap (number_of bytes_eq ds) (sym ((bytes_eq-Decides (domain_of r) d).0 e)) ∙ sym has))
+    at false e has later = later
 
-lt_index : (o r : Ordering) → ordering_index o ≤ ordering_index r → is_lt r ≡ true → is_lt o ≡ true
-lt_index Less r le h = refl
-lt_index Equal Less le h = absurd (omega arith)
-lt_index Greater Less le h = absurd (omega arith)
-lt_index Equal Equal le h = h
-lt_index Equal Greater le h = h
-lt_index Greater Equal le h = h
-lt_index Greater Greater le h = h
+-- The places of the numbers of the records' domains are an index.
+pub index_made : (rs : List MxRecord) (ds : List (List ℕ)) (ns : List ℕ) (places : RingLists) (count : ℕ) → count ≡ length ds → AreNumbered ds rs ns → ArePlaces count ns places → IsIndex rs ds places
+index_made rs ds ns places count is numbered own = record {
+  one_each = own.one_each ∙ is;
+  own = λ d. at d (number_of bytes_eq ds d) refl;
+} where
+  at : (d : List ℕ) (o : Option ℕ) → number_of bytes_eq ds d ≡ o → filter_map (slice_get rs) (places_at places o) ≡ filter (is_of d) rs
+  at d None e = none_from ds d rs ns e numbered
+  at d (Some n) e = ap (filter_map (slice_get rs)) (own.own n) ∙ own_from ds d n rs 0 rs ns e refl numbered
 
-le_index : (o r : Ordering) → ordering_index o ≤ ordering_index r → is_le r ≡ true → is_le o ≡ true
-le_index Less r le h = refl
-le_index Equal r le h = refl
-le_index Greater Less le h = absurd (omega arith)
-le_index Greater Equal le h = absurd (omega arith)
-le_index Greater Greater le h = h
+-- Numbers of domains are below their count.
+pub numbers_below : (ds : List (List ℕ)) (rs : List MxRecord) (ns : List ℕ) → AreNumbered ds rs ns → All (λ n. n < length ds) ns
+numbers_below ds [] [] numbered k z below = absurd (omega arith)
+numbers_below ds [] (n ∷ ns) numbered k z below = absurd (let no : ⊥ = cc in no)
+numbers_below ds (r ∷ rs) [] numbered k z below = absurd (omega arith)
+numbers_below ds (r ∷ rs) (n ∷ ns) numbered k z below =
+    let parts = first_Some n ns (number_of bytes_eq ds (domain_of r)) (map (λ (r : MxRecord). number_of bytes_eq ds (domain_of r)) rs) numbered in
+    at k below (number_below ds (domain_of r) n (sym parts.0)) (λ j inside. numbers_below ds rs ns parts.1 j z inside)
+  where
+    at : (k : ℕ) → k < suc (length ns) → n < length ds → ((j : ℕ) → j < length ns → get_or ns j z < length ds) → get_or (n ∷ ns) k z < length ds
+    at zero below first later = first
+    at (suc k) below first later = later k (omega arith)
 
-pub before_partitioned : (rs : List MxRecord) (d : List ℕ) (places : List ℕ) → IsSortedBy (comes_before rs) places → IsPartitionedBy (λ p. is_lt (order_at rs d p)) places
-before_partitioned rs d places up i j z le below h =
-    lt_index _ _ (searchable_from_sorted nat_list_cmp_total (domain_at rs) places d up i j z le below) h
+-- one more number
+places_push : (i n : ℕ) (ns : List ℕ) (m : ℕ) → places_from i n (ns ++ m ∷ []) ≡ places_from i n ns ++ cond (eqb m n) ((i + length ns) ∷ []) []
+places_push i n [] m = at (eqb m n) where
+  here : i ≡ i + 0
+  here = omega arith
 
-pub upto_partitioned : (rs : List MxRecord) (d : List ℕ) (places : List ℕ) → IsSortedBy (comes_before rs) places → IsPartitionedBy (λ p. is_le (order_at rs d p)) places
-upto_partitioned rs d places up i j z le below h =
-    le_index _ _ (searchable_from_sorted nat_list_cmp_total (domain_at rs) places d up i j z le below) h
+  at : (t : Bool) → cond t (i ∷ []) [] ≡ cond t ((i + 0) ∷ []) []
+  at true = ap (λ j. j ∷ []) here
+  at false = refl
+places_push i n (x ∷ ns) m = at (eqb x n) (places_push (i + 1) n ns m ∙ ap (λ j. places_from (i + 1) n ns ++ cond (eqb m n) (j ∷ []) []) further) where
+  further : i + 1 + length ns ≡ i + suc (length ns)
+  further = omega arith
 
-not_both : (o : Ordering) → is_lt o ≡ true → is_le o ≡ false → ⊥
-not_both Less f g = true≢false g
-not_both Equal f g = true≢false (sym f)
-not_both Greater f g = true≢false (sym f)
+  at : (t : Bool) → places_from (i + 1) n (ns ++ m ∷ []) ≡ places_from (i + 1) n ns ++ cond (eqb m n) ((i + suc (length ns)) ∷ []) []
+      → cond t (i ∷ places_from (i + 1) n (ns ++ m ∷ [])) (places_from (i + 1) n (ns ++ m ∷ [])) ≡ cond t (i ∷ places_from (i + 1) n ns) (places_from (i + 1) n ns) ++ cond (eqb m n) ((i + suc (length ns)) ∷ []) []
+  at true later = ap (λ t. i ∷ t) later
+  at false later = later
 
--- what comes before a domain ends no later than what doesn't come after it
-start-le-end : (o : ℕ → Ordering) (xs : List ℕ) (s e : ℕ) → s ≤ length xs
-    → IsPartitionPoint (λ y. is_lt (o y) ≡ true) (λ y. is_lt (o y) ≡ false) xs s → IsPartitionPoint (λ y. is_le (o y) ≡ true) (λ y. is_le (o y) ≡ false) xs e → s ≤ e
-start-le-end o xs s e inside first last = at (cases_lt e s) where
-  at : (e < s) ⊎ (s ≤ e) → s ≤ e
-  at (inl h) = absurd (not_both (o (get_or xs e 0)) (first.0 e 0 (omega arith) h) (last.1 e 0 (omega arith) (omega arith)))
-  at (inr h) = h
+stays_all : (ds new : List (List ℕ)) (rs : List MxRecord) (ns : List ℕ) → ((d : List ℕ) (n : ℕ) → number_of bytes_eq ds d ≡ Some n → number_of bytes_eq new d ≡ Some n) → AreNumbered ds rs ns → AreNumbered new rs ns
+stays_all ds new [] [] stays numbered = refl
+stays_all ds new [] (n ∷ ns) stays numbered = absurd (let no : ⊥ = cc in no)
+stays_all ds new (r ∷ rs) [] stays numbered = absurd (let no : ⊥ = cc in no)
+stays_all ds new (r ∷ rs) (n ∷ ns) stays numbered =
+    let parts = first_Some n ns (number_of bytes_eq ds (domain_of r)) (map (λ (r : MxRecord). number_of bytes_eq ds (domain_of r)) rs) numbered in
+    ap (λ (o : Option ℕ). o ∷ map Some ns) (sym (stays (domain_of r) n (sym parts.0)))
+    ∙ ap (λ os. number_of bytes_eq new (domain_of r) ∷ os) (stays_all ds new rs ns stays parts.1)
 
-eq_after : (o : Ordering) → is_lt o ≡ false → is_le o ≡ true → is_eq o ≡ true
-eq_after Less f g = absurd (true≢false f)
-eq_after Equal f g = refl
-eq_after Greater f g = g
+-- one more record has its number
+pub numbers_more : (ds new : List (List ℕ)) (rs : List MxRecord) (i : ℕ) (r : MxRecord) (ns more : List ℕ) (n : ℕ) → i < length rs → r ≡ get_or rs i r → more ≡ ns ++ n ∷ []
+    → number_of bytes_eq new (domain_of r) ≡ Some n → ((d : List ℕ) (n : ℕ) → number_of bytes_eq ds d ≡ Some n → number_of bytes_eq new d ≡ Some n)
+    → AreNumbered ds (take i rs) ns → AreNumbered new (take (i + 1) rs) more
+numbers_more ds new rs i r ns more n inside is made has stays numbered =
+    let number = λ (r : MxRecord). number_of bytes_eq new (domain_of r) in
+    ap (map Some) made
+    ∙ map_push Some ns n
+    ∙ ap (λ os. os ++ Some n ∷ []) (stays_all ds new (take i rs) ns stays numbered)
+    ∙ ap (λ (o : Option ℕ). map number (take i rs) ++ o ∷ []) (sym has)
+    ∙ sym (map_push number (take i rs) r)
+    ∙ ap (λ (x : MxRecord). map number (take i rs ++ x ∷ [])) is
+    ∙ ap (map number) (sym (take_more rs i r inside))
 
-before_no : (o : Ordering) → is_lt o ≡ true → is_eq o ≡ false
-before_no Less f = refl
-before_no Equal f = absurd (true≢false (sym f))
-before_no Greater f = refl
+-- One more number has one more place.
+pub placed_more : (count : ℕ) (ns : List ℕ) (i m : ℕ) (places more : RingLists) → i < length ns → m ≡ get_or ns i 0 → m < count → more ≡ appended places m i
+    → ArePlaces count (take i ns) places → ArePlaces count (take (i + 1) ns) more
+placed_more count ns i m places more inside is below made own = record {
+  one_each = ap (λ (r : RingLists). length r.lists) made ∙ length-set places.lists m (list_at places m ++ i ∷ []) ∙ own.one_each;
+  own = λ n. at n (cases_eq m n);
+} where
+  count_is : length places.lists ≡ count
+  count_is = own.one_each
 
-after_no : (o : Ordering) → is_le o ≡ false → is_eq o ≡ false
-after_no Less f = refl
-after_no Equal f = f
-after_no Greater f = refl
+  part : (n : ℕ) → places_from 0 n (take (i + 1) ns) ≡ places_from 0 n (take i ns) ++ cond (eqb m n) (i ∷ []) []
+  part n =
+      let so_far : 0 + length (take i ns) ≡ i = omega (arith, length-take i ns) in
+      ap (places_from 0 n) (take_more ns i 0 inside ∙ ap (λ x. take i ns ++ x ∷ []) (sym is))
+      ∙ places_push 0 n (take i ns) m ∙ ap (λ j. places_from 0 n (take i ns) ++ cond (eqb m n) (j ∷ []) []) so_far
 
--- In a list in order, what ties stands between those two places.
-tied_part : (o : ℕ → Ordering) (xs : List ℕ) (s e : ℕ) → s ≤ e → e ≤ length xs
-    → IsPartitionPoint (λ y. is_lt (o y) ≡ true) (λ y. is_lt (o y) ≡ false) xs s → IsPartitionPoint (λ y. is_le (o y) ≡ true) (λ y. is_le (o y) ≡ false) xs e
-    → filter (λ y. is_eq (o y)) xs ≡ take (e - s) (drop s xs)
-tied_part o xs s e rising inside first last =
-    let front : All (λ y. is_eq (o y) ≡ false) (take s xs) =
-    λ k z lt. let n : k < s = omega (arith, length-take s xs) in
-    subst (λ y. is_eq (o y) ≡ false) (sym (get_or-take s xs k z n)) (before_no (o (get_or xs k z)) (first.0 k z (omega arith) n)) in
-    let middle : All (λ y. is_eq (o y) ≡ true) (take (e - s) (drop s xs)) =
-    λ k z lt. let n : k < e - s = omega (arith, length-take (e - s) (drop s xs)) in
-    subst (λ y. is_eq (o y) ≡ true) (sym (get_or-take (e - s) (drop s xs) k z n ∙ get_or-drop s xs k z))
-    (eq_after (o (get_or xs (s + k) z)) (first.1 (s + k) z (omega arith) (omega arith)) (last.0 (s + k) z (omega arith) (omega arith))) in
-    let back : All (λ y. is_eq (o y) ≡ false) (drop (e - s) (drop s xs)) =
-    λ k z lt. let n : e + k < length xs = omega (arith, length-drop (e - s) (drop s xs), length-drop s xs) in
-    let place : s + (e - s + k) ≡ e + k = omega arith in
-    subst (λ y. is_eq (o y) ≡ false) (sym (get_or-drop (e - s) (drop s xs) k z ∙ get_or-drop s xs (e - s + k) z ∙ ap (λ m. get_or xs m z) place))
-    (after_no (o (get_or xs (e + k) z)) (last.1 (e + k) z (omega arith) n)) in
-    let t = λ (y : ℕ). is_eq (o y) in
-    sym (ap (filter t) (take-append-drop s xs)) ∙ filter-append t (take s xs) (drop s xs)
-    ∙ ap (λ f. f ++ filter t (drop s xs)) (none_pass t (take s xs) front)
-    ∙ sym (ap (filter t) (take-append-drop (e - s) (drop s xs))) ∙ filter-append t (take (e - s) (drop s xs)) (drop (e - s) (drop s xs))
-    ∙ ap (λ f. f ++ filter t (drop (e - s) (drop s xs))) (all_pass t (take (e - s) (drop s xs)) middle)
-    ∙ ap (λ f. take (e - s) (drop s xs) ++ f) (none_pass t (drop (e - s) (drop s xs)) back)
-    ∙ append-nil (take (e - s) (drop s xs))
+  at : (n : ℕ) → (m ≡ n) ⊎ (m ≡ n → ⊥) → list_at more n ≡ places_from 0 n (take (i + 1) ns)
+  at n (inl same) =
+      ap (λ (r : RingLists). get_or r.lists n []) made
+      ∙ ap (λ k. get_or (set places.lists m (list_at places m ++ i ∷ [])) k []) (sym same)
+      ∙ get_or-set_same places.lists m (list_at places m ++ i ∷ []) [] (omega (arith, count_is))
+      ∙ ap (λ t. t ++ i ∷ []) (ap (list_at places) same ∙ own.own n)
+      ∙ ap (λ t. places_from 0 n (take i ns) ++ t) (sym (cond-true (eqb m n) (i ∷ []) [] (eq-eqb m n same)))
+      ∙ sym (part n)
+  at n (inr other) =
+      ap (λ (r : RingLists). get_or r.lists n []) made
+      ∙ get_or-set_other places.lists m n (list_at places m ++ i ∷ []) [] (λ e. other (sym e))
+      ∙ own.own n
+      ∙ sym (append-nil (places_from 0 n (take i ns)))
+      ∙ ap (λ t. places_from 0 n (take i ns) ++ t) (sym (cond-false (eqb m n) (i ∷ []) [] (ne_eqb m n other)))
+      ∙ sym (part n)
 
--- The part of an index between those two places has a domain's own records.
-pub own_part : (rs : List MxRecord) (d : List ℕ) (places : List ℕ) (s e : ℕ) → IsIndex rs places → s ≤ length places → e ≤ length places → IsStart rs d places s → IsEnd rs d places e
-    → filter_map (slice_get rs) (take (e - s) (drop s places)) ≡ filter (is_of d) rs
-own_part rs d places s e index inside_s inside_e first last =
-    ap (filter_map (slice_get rs))
-    (sym (tied_part (order_at rs d) places s e (start-le-end (order_at rs d) places s e inside_s first last) inside_e first last)
-    ∙ filter_agree (λ p. is_eq (order_at rs d p)) (is_at rs d) (λ p. sym (tied (domain_at rs p) d)) places)
-    ∙ index.own d
+-- a domain's own places, by its number
+pub own_places : (rs : List MxRecord) (ds : List (List ℕ)) (places : RingLists) (d : List ℕ) (n : ℕ) (own : List ℕ) → IsIndex rs ds places → number_of bytes_eq ds d ≡ Some n → own ≡ list_at places n
+    → filter_map (slice_get rs) own ≡ filter (is_of d) rs
+own_places rs ds places d n own index has is =
+    ap (filter_map (slice_get rs)) is ∙ ap (λ (o : Option ℕ). filter_map (slice_get rs) (places_at places o)) (sym has) ∙ index.own d
 
-pub own_order : (rs : List MxRecord) (d : List ℕ) (places : List ℕ) (s e : ℕ) → s ≤ length places → IsStart rs d places s → IsEnd rs d places e → s ≤ e
-own_order rs d places s e inside first last = start-le-end (order_at rs d) places s e inside first last
+pub no_places : (rs : List MxRecord) (ds : List (List ℕ)) (places : RingLists) (d : List ℕ) → IsIndex rs ds places → number_of bytes_eq ds d ≡ None → filter_map (slice_get rs) [] ≡ filter (is_of d) rs
+no_places rs ds places d index none = ap (λ (o : Option ℕ). filter_map (slice_get rs) (places_at places o)) (sym none) ∙ index.own d
+
+pub ring_there : (rs : List MxRecord) (ds : List (List ℕ)) (places : RingLists) (d : List ℕ) (n : ℕ) → IsIndex rs ds places → number_of bytes_eq ds d ≡ Some n → n < length places.lists
+ring_there rs ds places d n index has = rw index.one_each (number_below ds d n has)

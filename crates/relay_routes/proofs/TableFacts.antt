@@ -1,13 +1,16 @@
 -- What a transport table holds as it is read, and what it gives at a key.
-use Rattle.std.proofs.Common.{◌≡◌, ℕ, ◌+◌, ◌-◌, ◌<◌, ◌≤◌, suc, Bool, true, false, cond, ◌||◌, List, [], ◌∷◌, ◌++◌, length, drop, get_or, map, refl, sym, ap, ◌∙◌, arith, append_assoc, append-nil, drop-cons, add-one}
+use Rattle.std.proofs.Common.{◌≡◌, ℕ, ◌+◌, ◌-◌, ◌<◌, ◌≤◌, suc, Bool, true, false, cond, ◌||◌, List, [], ◌∷◌, ◌++◌, length, drop, get_or, map, refl, sym, ap, ◌∙◌, arith, append_assoc, append-nil, drop-cons, add-one, Ok, Result, inl, inr}
 use Rattle.std.specs.Prelude.{Option, Some, None, option_map, is_some, filter_map}
-use Rattle.std.specs.List.{list_any, enumerate_from}
+use Rattle.std.specs.List.{list_any, position_from}
 use Rattle.std.specs.Str.{bytes_eq}
 use Rattle.std.proofs.lemmas.Bool.{true≢false}
 use Rattle.std.proofs.lemmas.List.{map-append, drop_all}
 use Rattle.std.proofs.lemmas.List.Folds.{list_any-append}
 use Rattle.std.proofs.lemmas.List.Elements.{filter_map-append}
 use Rattle.std.proofs.lemmas.Slice.Eq.{bytes_eq-Decides}
+use Rattle.std.proofs.lemmas.Iterator.Adapters.{position_from-zero}
+use Rattle.relay_chains.specs.declared.fault.ChainFault.{ChainFault}
+use Rattle.relay_chains.specs.Keys.{number_of, insertion, Inserts}
 use Rattle.relay_text.specs.Bytes.{has_text, each_after, first_of}
 use Rattle.relay_text.specs.Lines.{logical_lines_of}
 use Rattle.relay_text.specs.declared.lines.Line.{Line}
@@ -17,7 +20,8 @@ use Rattle.relay_routes.specs.declared.fault.FaultKind.TheVariants.{BadLine, Dup
 use Rattle.relay_routes.specs.declared.transport_line.TransportLine.{TransportLine}
 use Rattle.relay_routes.specs.TransportLines.{TransportLines}
 use Rattle.relay_routes.specs.Transports.{line_of, fault, has_pattern, entry_in, faults_in, transport_table_of, result_at}
-use Rattle.relay_routes.specs.TableSteps.{has_entry, place_from, with_line, with_lines}
+use Rattle.relay_routes.specs.TableSteps.{has_entry, with_line, with_lines}
+use Rattle.relay_routes.proofs.Numbering.{put_in}
 
 bytes_eq_swap : (xs ys : List ℕ) → bytes_eq xs ys ≡ bytes_eq ys xs
 bytes_eq_swap xs ys = at (bytes_eq xs ys) refl (bytes_eq ys xs) refl where
@@ -27,8 +31,13 @@ bytes_eq_swap xs ys = at (bytes_eq xs ys) refl (bytes_eq ys xs) refl where
   at true e false f = absurd (true≢false (sym ((bytes_eq-Decides ys xs).1 (sym ((bytes_eq-Decides xs ys).0 e))) ∙ f))
   at false e true f = absurd (true≢false (sym ((bytes_eq-Decides xs ys).1 (sym ((bytes_eq-Decides ys xs).0 f))) ∙ e))
 
+-- the place of the entry of a pattern, where the first one has this place
+abbrev place_from : ℕ → List TransportLine → List ℕ → Option ℕ
+place_from first [] pattern = None
+place_from first (e ∷ entries) pattern = cond (bytes_eq pattern e.pattern) (Some first) (place_from (first + 1) entries pattern)
+
 -- An entry stands at its place, and no pattern without one has an entry.
-pub place_found : (first : ℕ) (es : List TransportLine) (q : List ℕ) (place : ℕ) (d : TransportLine) → place_from first es q ≡ Some place → (first ≤ place) × (place < first + length es) × (result_at es q ≡ Some ((get_or es (place - first) d).result))
+place_found : (first : ℕ) (es : List TransportLine) (q : List ℕ) (place : ℕ) (d : TransportLine) → place_from first es q ≡ Some place → (first ≤ place) × (place < first + length es) × (result_at es q ≡ Some ((get_or es (place - first) d).result))
 place_found first [] q place d h = absurd (let bad : ⊥ = cc in bad)
 place_found first (e ∷ es) q place d h = at (bytes_eq q e.pattern) (bytes_eq_swap e.pattern q) (place_found (first + 1) es q place d) h where
   at : (t : Bool) → bytes_eq e.pattern q ≡ t
@@ -44,38 +53,42 @@ place_found first (e ∷ es) q place d h = at (bytes_eq q e.pattern) (bytes_eq_s
       let next : place - first ≡ suc (place - (first + 1)) = omega (arith, later.0) in
       (omega (arith, later.0), omega (arith, later.1), rw (same, next) later.2)
 
-pub place_missing : (first : ℕ) (es : List TransportLine) (q : List ℕ) → place_from first es q ≡ None → result_at es q ≡ None
+place_missing : (first : ℕ) (es : List TransportLine) (q : List ℕ) → place_from first es q ≡ None → result_at es q ≡ None
 place_missing first [] q h = refl
 place_missing first (e ∷ es) q h = at (bytes_eq q e.pattern) (bytes_eq_swap e.pattern q) (place_missing (first + 1) es q) h where
   at : (t : Bool) → bytes_eq e.pattern q ≡ t → (place_from (first + 1) es q ≡ None → result_at es q ≡ None) → cond t (Some first) (place_from (first + 1) es q) ≡ None → result_at (e ∷ es) q ≡ None
   at true same more h = absurd (let bad : ⊥ = cc in bad)
   at false same more h = rw same (more h)
 
-pub place_some : (first : ℕ) (es : List TransportLine) (q : List ℕ) → is_some (place_from first es q) ≡ has_entry es q
+place_some : (first : ℕ) (es : List TransportLine) (q : List ℕ) → is_some (place_from first es q) ≡ has_entry es q
 place_some first [] q = refl
 place_some first (e ∷ es) q = at (bytes_eq q e.pattern) (place_some (first + 1) es q) where
   at : (t : Bool) → is_some (place_from (first + 1) es q) ≡ has_entry es q → is_some (cond t (Some first) (place_from (first + 1) es q)) ≡ (t || has_entry es q)
   at true later = refl
   at false later = later
 
-cond_swap : (s t : Bool) (v w u : Option ℕ) → (s ≡ true → t ≡ true → ⊥) → cond t v (cond s w u) ≡ cond s w (cond t v u)
-cond_swap true true v w u h = absurd (h refl refl)
-cond_swap true false v w u h = refl
-cond_swap false t v w u h = refl
+place_is : (first : ℕ) (es : List TransportLine) (q : List ℕ) → place_from first es q ≡ position_from (bytes_eq q) first (map (λ (e : TransportLine). e.pattern) es)
+place_is first [] q = refl
+place_is first (e ∷ es) q = ap (λ t. cond (bytes_eq q e.pattern) (Some first) t) (place_is (first + 1) es q)
 
-or_parts : (a b : Bool) → (a || b) ≡ false → (a ≡ false) × (b ≡ false)
-or_parts false false h = (refl, refl)
-or_parts false true h = absurd (true≢false h)
-or_parts true b h = absurd (true≢false h)
+-- A pattern's number is its entry's place.
+numbered : (es : List TransportLine) (patterns : List (List ℕ)) (q : List ℕ) → patterns ≡ map (λ (e : TransportLine). e.pattern) es → place_from 0 es q ≡ number_of bytes_eq patterns q
+numbered es patterns q is =
+    place_is 0 es q ∙ sym (position_from-zero (bytes_eq q) (map (λ (e : TransportLine). e.pattern) es)) ∙ ap (λ ps. number_of bytes_eq ps q) (sym is)
 
--- One more entry, of a new pattern, stands behind the others.
-pub place_more : (first n : ℕ) (es : List TransportLine) (e : TransportLine) (q : List ℕ) → n ≡ first + length es → has_entry es e.pattern ≡ false → cond (bytes_eq q e.pattern) (Some n) (place_from first es q) ≡ place_from first (es ++ e ∷ []) q
-place_more first n [] e q n_is new = let here : n ≡ first = omega (arith, n_is) in ap (λ m. cond (bytes_eq q e.pattern) (Some m) None) here
-place_more first n (x ∷ es) e q n_is new =
-    let apart = or_parts (bytes_eq e.pattern x.pattern) (has_entry es e.pattern) new in
-    cond_swap (bytes_eq q x.pattern) (bytes_eq q e.pattern) (Some n) (Some first) (place_from (first + 1) es q)
-    (λ s t. true≢false (sym ((bytes_eq-Decides e.pattern x.pattern).1 (sym ((bytes_eq-Decides q e.pattern).0 t) ∙ (bytes_eq-Decides q x.pattern).0 s)) ∙ apart.0))
-    ∙ ap (λ t. cond (bytes_eq q x.pattern) (Some first) t) (place_more (first + 1) n es e q (omega (arith, n_is)) apart.1)
+pub entry_found : (es : List TransportLine) (patterns : List (List ℕ)) (q : List ℕ) (n : ℕ) (d : TransportLine) → patterns ≡ map (λ (e : TransportLine). e.pattern) es → number_of bytes_eq patterns q ≡ Some n
+    → (n < length es) × (result_at es q ≡ Some ((get_or es n d).result))
+entry_found es patterns q n d is has =
+    let found = place_found 0 es q n d (numbered es patterns q is ∙ has) in
+    let here : n - 0 ≡ n = omega arith in
+    let within : n < length es = omega (arith, found.1) in
+    (within, found.2 ∙ ap (λ i. Some ((get_or es i d).result)) here)
+
+pub entry_missing : (es : List TransportLine) (patterns : List (List ℕ)) (q : List ℕ) → patterns ≡ map (λ (e : TransportLine). e.pattern) es → number_of bytes_eq patterns q ≡ None → result_at es q ≡ None
+entry_missing es patterns q is none = place_missing 0 es q (numbered es patterns q is ∙ none)
+
+pub entry_there : (es : List TransportLine) (patterns : List (List ℕ)) (q : List ℕ) (o : Option ℕ) → patterns ≡ map (λ (e : TransportLine). e.pattern) es → number_of bytes_eq patterns q ≡ o → has_entry es q ≡ is_some o
+entry_there es patterns q o is e = sym (place_some 0 es q) ∙ ap is_some (numbered es patterns q is ∙ e)
 
 -- the pattern of a line
 abbrev pattern_in : Option TransportLine → List (List ℕ)
@@ -179,3 +192,19 @@ lines_done text cut table start orphans lines i is o l s none all =
     ∙ ap (λ (t : TransportLines). with_lines t lines) (s ∙ ap table_of_orphans o)
     ∙ ap (with_lines (table_of_orphans cut.orphans)) l
     ∙ table_made text cut is
+
+-- What the numbers of patterns say once an entry's pattern is put in: a pattern that was there has an entry, and a new one has none.
+pub entry_put : (es : List TransportLine) (patterns new : List (List ℕ)) (limit : ℕ) (e : TransportLine) (key : List ℕ) (number : ℕ) (is_new : Bool) (result : Result (ℕ × Bool) ChainFault)
+    → patterns ≡ map (λ (e : TransportLine). e.pattern) es → key ≡ e.pattern → result ≡ Ok (number, is_new) → Inserts (insertion bytes_eq patterns limit key) patterns result new
+    → ((is_new ≡ false → (has_entry es e.pattern ≡ true) × (new ≡ map (λ (e : TransportLine). e.pattern) es))
+    × (is_new ≡ true → (has_entry es e.pattern ≡ false) × (new ≡ map (λ (e : TransportLine). e.pattern) (es ++ e ∷ []))))
+entry_put es patterns new limit e key number is_new result is same was put = elim (put_in patterns limit key number is_new result new was put) [
+  | inl old ↦ ((λ f. (ap (has_entry es) (sym same) ∙ entry_there es patterns key (Some number) is old.2, old.1 ∙ is)), (λ t. absurd (true≢false (sym t ∙ old.0))))
+  | inr fresh ↦ (
+    (λ f. absurd (true≢false (sym fresh.0 ∙ f))),
+    (λ t. (
+      ap (has_entry es) (sym same) ∙ entry_there es patterns key None is fresh.2,
+      fresh.1 ∙ ap (λ ps. ps ++ key ∷ []) is ∙ ap (λ k. map (λ (e : TransportLine). e.pattern) es ++ k ∷ []) same ∙ sym (map-append (λ (e : TransportLine). e.pattern) es (e ∷ [])),
+    )),
+  )
+]

@@ -7,7 +7,6 @@ pub mod MxRecords
 pub mod Preferences
 pub mod Nexthops
 pub mod Forms
-pub mod TextPlaces
 pub mod TableSteps
 pub mod Routes
 pub mod Destinations

@@ -1,6 +1,6 @@
 -- A transport table while it is read, line after line, and where its entries stand.
-use Rattle.std.specs.Prelude.{ℕ, ◌+◌, Bool, true, false, List, [], ◌∷◌, ◌++◌, map, codes, Option, Some, None, Result, Err, if◌then◌else◌}
-use Rattle.std.specs.Str.{bytes_eq}
+use Rattle.std.specs.Prelude.{ℕ, Bool, true, false, ◌==◌, List, [], ◌∷◌, ◌++◌, map, codes, Option, Some, None, Result, Err, if◌then◌else◌}
+use Rattle.std.specs.List.{list_any}
 use Rattle.relay_text.specs.Bytes.{has_text}
 use Rattle.relay_text.specs.AddressParts.{AddressParts}
 use Rattle.relay_text.specs.Addresses.{name_of, base_of, is_dot}
@@ -24,10 +24,12 @@ names_domain text = is_domain_fault (name_of text)
 abbrev pub has_entry : List TransportLine → List ℕ → Bool
 has_entry entries pattern = has_text (map (λ e. e.pattern) entries) pattern
 
--- the place of the entry of a pattern, where the first one has this place
-abbrev pub place_from : ℕ → List TransportLine → List ℕ → Option ℕ
-place_from first [] pattern = None
-place_from first (e ∷ entries) pattern = if bytes_eq pattern e.pattern then Some first else place_from (first + 1) entries pattern
+-- whether a pattern has an `@`, as that of an address has
+abbrev pub has_at : List ℕ → Bool
+has_at text = list_any (λ b. b == 64) text
+
+abbrev pub has_address : List TransportLine → Bool
+has_address entries = list_any (λ e. has_at e.pattern) entries
 
 -- a table with one more line, which has this number
 abbrev pub with_line : TransportLines → ℕ → Option TransportLine → TransportLines

@@ -66,7 +66,7 @@ impl Hosts {
         let mut hosts = Hosts::new(alloc);
         for host in bare {
             let mut longer = host;
-            longer.append(more)?;
+            longer.append(alloc, more)?;
             hosts.push(longer)?;
         }
         Ok(hosts)
@@ -77,6 +77,17 @@ impl Hosts {
         ensures { result ≡ (length self.now == 0) }
     {
         self.hosts.is_empty()
+    }
+
+    /// Copies of the hosts.
+    pub fn copy(&self, alloc: Global) -> Result<Hosts, AllocError>
+        ensures { IfOk result (λ hosts. hosts ≡ self.now) }
+    {
+        let mut hosts = Hosts::new(alloc);
+        for host in self.as_slice() {
+            hosts.push(Text::copy_of(alloc, host.as_bytes())?)?;
+        }
+        Ok(hosts)
     }
 
     /// The hosts in place.

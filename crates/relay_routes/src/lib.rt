@@ -18,13 +18,7 @@ mod pattern;
 mod preferences;
 pub mod route;
 pub mod router;
-#[cfg(test)]
-mod tests;
-#[cfg(test)]
-mod tests_mx;
-#[cfg(test)]
-mod tests_table;
-mod text_places;
+mod text_key;
 pub mod transport;
 pub mod transport_line;
 pub mod transport_table;

@@ -5,6 +5,7 @@ use crate::hosts::Hosts;
 use crate::mx_line::record_in;
 use crate::mx_records::MxRecords;
 use crate::preferences::{before_relay, hosts_in_order, without_null};
+use crate::text_key::key_of;
 use crate::unrouted::Unrouted;
 use relay_text::{KeptLines, Seq, Text, TextSet};
 use std::alloc::{AllocError, Global};
@@ -53,7 +54,7 @@ impl MxTable {
             }
         }
         Ok(MxTable {
-            records: MxRecords::of(alloc, records)?,
+            records: MxRecords::of(alloc, key_of(bytes), records)?,
             faults: Seq::of(faults),
         })
     }

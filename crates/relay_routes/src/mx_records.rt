@@ -1,23 +1,27 @@
 //! The records of an MX table and the places of each domain's own.
-ghost use Rattle.std.specs.Prelude.{◌≡◌, ◌≤◌, length, List, ℕ, map, filter, filter_map, option_copied, IfOk};
-ghost use Rattle.std.specs.List.{slice_get};
+ghost use Rattle.std.specs.Prelude.{◌≡◌, ◌≤◌, ◌<◌, ◌^◌, ◌-◌, List, map, filter, filter_map, option_copied, All, IfOk};
+ghost use Rattle.std.specs.List.{list_any};
 ghost use Rattle.std.specs.Str.{bytes_eq};
 ghost use Rattle.relay_text.specs.Bytes.{has_text};
+ghost use Rattle.relay_rings.specs.Walks.{walk_rest};
 ghost use Rattle.relay_routes.specs.Exchanges.{exchange_in, address_in};
-ghost use Rattle.relay_routes.specs.MxRecords.{domain_at, exchange_at, is_address_at, is_at, is_of, order_at, IsIndex, IsStart, IsEnd};
+ghost use Rattle.relay_routes.specs.MxRecords.{exchange_at, is_address_at, AreNumbered, ArePlaces};
 
 use crate::exchange::Exchange;
 use crate::mx_record::MxRecord;
+use crate::text_key::MOST_TEXTS;
+use relay_chains::Interner;
+use relay_rings::{Rings, Walk};
 use std::alloc::{AllocError, Global};
-use std::cmp::Ordering;
 use std::marker::Model;
 
-/// Records in table order, which contracts see as their list. Beside them stand their places in the order of their domains, so that a
-/// look-up costs its domain's own records and the logarithm of all.
+/// Records in table order, which contracts see as their list. Their domains are numbered, and each has a ring of its records' places,
+/// so that a look-up costs one hash and its domain's own records.
 #[derive(Drop)]
 pub(crate) struct MxRecords {
     records: Vec<MxRecord>,
-    by_domain: Vec<usize>,
+    domains: Interner,
+    places: Rings,
 }
 
 impl Model for MxRecords {
@@ -29,16 +33,26 @@ impl Model for MxRecords {
 
     ghost view = { λ a. a.records.items };
 
-    ghost invariant = { λ a. IsIndex a.records.items a.by_domain.items };
+    ghost invariant = { λ a. IsIndex a.records.items a.domains.keys a.places };
 }
 
 impl MxRecords {
-    /// The records with their index. `Err` where memory runs out.
-    pub(crate) fn of(alloc: Global, records: Vec<MxRecord>) -> Result<MxRecords, AllocError>
+    /// The records with their index. The key is that of the hashes of their domains. `Err` where memory runs out.
+    pub(crate) fn of(
+        alloc: Global,
+        key: u64,
+        records: Vec<MxRecord>,
+    ) -> Result<MxRecords, AllocError>
         ensures { IfOk result (λ r. r ≡ records.items) }
     {
-        let by_domain = places_by_domain(alloc, &records)?;
-        Ok(MxRecords { records, by_domain })
+        let mut domains = Interner::with_key(alloc, key, records.len().max(1), MOST_TEXTS)?;
+        let numbers = numbers_of(alloc, &records, &mut domains)?;
+        let places = places_by_number(alloc, domains.len(), &numbers)?;
+        Ok(MxRecords {
+            records,
+            domains,
+            places,
+        })
     }
 
     /// Whether a domain has an address.
@@ -46,9 +60,10 @@ impl MxRecords {
         ensures { result ≡ has_text (filter_map address_in self.now) domain.now }
     {
         let records = self.records.as_slice();
-        own_places(records, &self.by_domain, domain)
-            .iter()
-            .any(|place| is_address_at(records, *place))
+        match self.domains.find(domain) {
+            Some(number) => has_address_at(records, self.places.walk(number as usize)),
+            None => false,
+        }
     }
 
     /// The mail exchangers of a domain, in table order. `Err` where memory runs out.
@@ -59,8 +74,12 @@ impl MxRecords {
     ) -> Result<Vec<&Exchange>, AllocError>
         ensures { IfOk result (λ es. map (λ e. e.now) es.items ≡ filter (λ e. bytes_eq e.domain domain.now) (filter_map exchange_in self.now)) }
     {
-        let places = own_places(&self.records, &self.by_domain, domain);
-        exchangers_at(alloc, &self.records, places)
+        match self.domains.find(domain) {
+            Some(number) => {
+                exchangers_at(alloc, &self.records, self.places.walk(number as usize))
+            }
+            None => Ok(Vec::new(alloc)),
+        }
     }
 }
 
@@ -68,13 +87,13 @@ impl MxRecords {
 fn exchangers_at<'a>(
     alloc: Global,
     records: &'a [MxRecord],
-    places: &[usize],
+    places: Walk<'_>,
 ) -> Result<Vec<&'a Exchange>, AllocError>
-    ensures { IfOk result (λ es. map (λ e. e.now) es.items ≡ filter_map (exchange_at records.now) places.now) }
+    ensures { IfOk result (λ es. map (λ e. e.now) es.items ≡ filter_map (exchange_at records.now) (walk_rest places.entry)) }
 {
     let mut exchangers = Vec::new(alloc);
     for place in places {
-        if let Some(exchange) = exchange_at(records, *place) {
+        if let Some(exchange) = exchange_at(records, place as usize) {
             exchangers.push(exchange)?;
         }
     }
@@ -91,6 +110,18 @@ fn exchange_at(records: &[MxRecord], place: usize) -> Option<&Exchange>
     }
 }
 
+/// Whether a record at one of these places says that its domain has an address.
+fn has_address_at(records: &[MxRecord], places: Walk<'_>) -> bool
+    ensures { result ≡ list_any (is_address_at records.now) (walk_rest places.entry) }
+{
+    for place in places {
+        if is_address_at(records, place as usize) {
+            return true;
+        }
+    }
+    false
+}
+
 /// Whether the record at a place says that its domain has an address.
 fn is_address_at(records: &[MxRecord], place: usize) -> bool
     ensures { result ≡ is_address_at records.now place }
@@ -101,67 +132,39 @@ fn is_address_at(records: &[MxRecord], place: usize) -> bool
     }
 }
 
-/// The places of the records in the order of their domains; those of one domain in table order.
-fn places_by_domain(alloc: Global, records: &[MxRecord]) -> Result<Vec<usize>, AllocError>
-    ensures { IfOk result (λ places. IsIndex records.now places.items) }
+/// The number of each record's domain. New domains get the next numbers.
+fn numbers_of(
+    alloc: Global,
+    records: &[MxRecord],
+    domains: &mut Interner,
+) -> Result<Vec<u32>, AllocError>
+    ensures numbered { IfOk result (λ numbers. AreNumbered domains.new.keys records.now numbers.items) }
+    ensures limit { domains.new.limit ≡ domains.old.limit }
 {
-    let mut places = all_places(alloc, records)?;
-    places.sort_by(|first, second| order_at(records, *first, domain_at(records, *second)))?;
-    Ok(places)
+    let mut numbers = Vec::with_capacity(alloc, records.len())?;
+    for record in records {
+        let Ok((number, _)) = domains.intern(record.domain()) else {
+            return Err(AllocError);
+        };
+        numbers.push(number)?;
+    }
+    Ok(numbers)
 }
 
-/// The places of the records, ascending.
-fn all_places(alloc: Global, records: &[MxRecord]) -> Result<Vec<usize>, AllocError>
-    ensures { IfOk result (λ places. (d : List ℕ) → filter_map (slice_get records.now) (filter (is_at records.now d) places.items) ≡ filter (is_of d) records.now) }
+/// The places of each number below a count, ascending.
+fn places_by_number(alloc: Global, count: usize, numbers: &[u32]) -> Result<Rings, AllocError>
+    requires few { count ≤ 2 ^ 32 - 2 }
+    requires below { All (λ number. number < count) numbers.now }
+    ensures { IfOk result (λ places. ArePlaces count numbers.now places) }
 {
-    let mut places = Vec::with_capacity(alloc, records.len())?;
-    for place in 0..records.len() {
-        places.push(place)?;
+    let mut places = Rings::new(alloc, count, MOST_TEXTS)?;
+    for (place, number) in numbers.iter().enumerate() {
+        let Ok(item) = u32::try_from(place) else {
+            return Err(AllocError);
+        };
+        let Ok(()) = places.append(*number as usize, item) else {
+            return Err(AllocError);
+        };
     }
     Ok(places)
-}
-
-/// The places of a domain's records, among places in the order of their domains.
-fn own_places<'a>(records: &[MxRecord], by_domain: &'a [usize], domain: &[u8]) -> &'a [usize]
-    requires { IsIndex records.now by_domain.now }
-    ensures { filter_map (slice_get records.now) result.now ≡ filter (is_of domain.now) records.now }
-{
-    let start = own_start(records, by_domain, domain);
-    let end = own_end(records, by_domain, domain);
-    &by_domain[start..end]
-}
-
-/// Where those places begin.
-fn own_start(records: &[MxRecord], by_domain: &[usize], domain: &[u8]) -> usize
-    requires { IsIndex records.now by_domain.now }
-    ensures within { result ≤ length by_domain.now }
-    ensures start { IsStart records.now domain.now by_domain.now result }
-{
-    by_domain.partition_point(|place| order_at(records, *place, domain).is_lt())
-}
-
-/// Where they end.
-fn own_end(records: &[MxRecord], by_domain: &[usize], domain: &[u8]) -> usize
-    requires { IsIndex records.now by_domain.now }
-    ensures within { result ≤ length by_domain.now }
-    ensures end { IsEnd records.now domain.now by_domain.now result }
-{
-    by_domain.partition_point(|place| order_at(records, *place, domain).is_le())
-}
-
-/// How the domain of the record at a place compares with a domain, by their bytes.
-fn order_at(records: &[MxRecord], place: usize, domain: &[u8]) -> Ordering
-    ensures { result ≡ order_at records.now domain.now place }
-{
-    domain_at(records, place).cmp(domain)
-}
-
-/// The domain of the record at a place, and nothing where there is none.
-fn domain_at(records: &[MxRecord], place: usize) -> &[u8]
-    ensures { result.now ≡ domain_at records.now place }
-{
-    match records.get(place) {
-        Some(record) => record.domain(),
-        None => &[],
-    }
 }

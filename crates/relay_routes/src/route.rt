@@ -24,6 +24,19 @@ pub struct Route {
     pub hosts: Hosts,
 }
 
+impl Route {
+    /// A copy of its own.
+    pub fn copy(&self, alloc: Global) -> Result<Route, AllocError>
+        ensures { IfOk result (λ route. route ≡ self.now) }
+    {
+        Ok(Route {
+            transport: self.transport,
+            nexthop: Text::copy_of(alloc, self.nexthop.as_bytes())?,
+            hosts: self.hosts.copy(alloc)?,
+        })
+    }
+}
+
 /// What routes go by.
 #[derive(Drop)]
 pub struct RouteSettings {

@@ -1,28 +1,29 @@
 //! The transport table.
 use crate::fault::LineFault;
-use crate::text_places::TextPlaces;
 use crate::transport_line::TransportLine;
+use relay_chains::Interner;
 use std::marker::Model;
 
 /// A transport table (transport(5)): patterns, each with what it says of the addresses that it fits, and the lines at fault.
 #[derive(Drop)]
 pub struct TransportTable {
     entries: Vec<TransportLine>,
-    places: TextPlaces,
+    patterns: Interner,
     faults: Vec<LineFault>,
+    /// Whether a pattern has an `@`, as that of an address has. Most tables have none, and then no address is written as a key.
+    has_addresses: bool,
 }
 
 impl Model for TransportTable {
-    ghost use Rattle.std.specs.Prelude.{◌≡◌, List, ℕ};
+    ghost use Rattle.std.specs.Prelude.{◌≡◌, map};
+    ghost use Rattle.relay_routes.specs.TableSteps.{has_address};
     ghost use Rattle.relay_routes.specs.TransportLines.{TransportLines};
-    ghost use Rattle.relay_routes.specs.TextPlaces.{place_in};
-    ghost use Rattle.relay_routes.specs.TableSteps.{place_from};
 
     ghost Value = { TransportLines };
 
     ghost view = { λ a. record { entries = a.entries.items; faults = a.faults.items } };
 
-    ghost invariant = { λ a. (q : List ℕ) → place_in a.places q ≡ place_from 0 a.entries.items q };
+    ghost invariant = { λ a. (a.patterns.keys ≡ map (λ e. e.pattern) a.entries.items) × (a.has_addresses ≡ has_address a.entries.items) };
 }
 
 ghost use Rattle.std.specs.Prelude.{◌≡◌, ◌∷◌, [], ◌++◌, codes, map, Some, option_map, IfOk, OnOk};
@@ -33,6 +34,7 @@ ghost use Rattle.relay_routes.specs.TableSteps.{with_line, domain_keys, later_ke
 use crate::choice::Choice;
 use crate::fault::FaultKind;
 use crate::pattern::{address_key, is_literal};
+use crate::text_key::{MOST_TEXTS, key_of};
 use crate::transport_line::line_of;
 use relay_text::{Address, Line, logical_lines, split_place};
 use std::alloc::{AllocError, Global};
@@ -44,7 +46,8 @@ impl TransportTable {
         ensures { IfOk result (λ table. table ≡ transport_table_of bytes.now) }
     {
         let lines = logical_lines(alloc, bytes)?;
-        let mut table = TransportTable::without_lines(alloc, lines.orphans.as_slice())?;
+        let orphans = lines.orphans.as_slice();
+        let mut table = TransportTable::without_lines(alloc, key_of(bytes), orphans)?;
         for line in lines.lines.as_slice() {
             table.add(alloc, line)?;
         }
@@ -86,6 +89,9 @@ impl TransportTable {
     ) -> Result<Option<&[u8]>, AllocError>
         ensures { IfOk result (λ found. option_map (λ text. text.now) found ≡ found_result self.now.entries (keys_of address.now delimiter)) }
     {
+        if !self.has_addresses {
+            return Ok(self.found_at_domain(address.domain()));
+        }
         let key = address_key(alloc, address.local(), address.domain())?;
         match self.result_at(key.as_bytes()) {
             Some(result) => Ok(Some(result)),
@@ -146,12 +152,16 @@ impl TransportTable {
     fn result_at(&self, pattern: &[u8]) -> Option<&[u8]>
         ensures { option_map (λ text. text.now) result ≡ result_at self.now.entries pattern.now }
     {
-        let place = self.places.find(pattern)?;
-        Some(self.entries[place].result.as_bytes())
+        let number = self.patterns.find(pattern)?;
+        Some(self.entries[number as usize].result.as_bytes())
     }
 
-    /// A table without entries, at fault where lines continue none.
-    fn without_lines(alloc: Global, orphans: &[usize]) -> Result<TransportTable, AllocError>
+    /// A table without entries, at fault where lines continue none. The key is that of the hashes of its patterns.
+    fn without_lines(
+        alloc: Global,
+        key: u64,
+        orphans: &[usize],
+    ) -> Result<TransportTable, AllocError>
         ensures { IfOk result (λ table. table ≡ record { entries = []; faults = map (λ number. fault number BadLine) orphans.now }) }
     {
         let mut faults = Vec::with_capacity(alloc, orphans.len())?;
@@ -163,8 +173,9 @@ impl TransportTable {
         }
         Ok(TransportTable {
             entries: Vec::new(alloc),
-            places: TextPlaces::new(alloc),
+            patterns: Interner::with_key(alloc, key, 1, MOST_TEXTS)?,
             faults,
+            has_addresses: false,
         })
     }
 
@@ -173,26 +184,23 @@ impl TransportTable {
         ensures { OnOk result (self.new ≡ with_line self.old line.now.number (line_of line.now.text)) }
     {
         match line_of(alloc, line.text.as_bytes())? {
-            Some(entry) => self.add_entry(alloc, line.number, entry),
+            Some(entry) => self.add_entry(line.number, entry),
             None => self.add_fault(line.number, FaultKind::BadLine),
         }
     }
 
     /// Adds the pattern and result of a line.
-    fn add_entry(
-        &mut self,
-        alloc: Global,
-        number: usize,
-        entry: TransportLine,
-    ) -> Result<(), AllocError>
+    fn add_entry(&mut self, number: usize, entry: TransportLine) -> Result<(), AllocError>
         ensures { OnOk result (self.new ≡ with_line self.old number (Some entry)) }
     {
-        if self.places.find(entry.pattern.as_bytes()).is_some() {
+        self.entries.reserve(1)?;
+        let Ok((_, is_new)) = self.patterns.intern(entry.pattern.as_bytes()) else {
+            return Err(AllocError);
+        };
+        if !is_new {
             return self.add_fault(number, FaultKind::Duplicate);
         }
-        let pattern = Vec::from_slice(alloc, entry.pattern.as_bytes())?;
-        self.entries.reserve(1)?;
-        self.places.insert(pattern, self.entries.len())?;
+        self.has_addresses = self.has_addresses || entry.pattern.as_bytes().contains(&b'@');
         self.entries.push_reserved(entry);
         Ok(())
     }

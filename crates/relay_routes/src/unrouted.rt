@@ -1,9 +1,9 @@
 //! Why an address has no route.
-ghost use Rattle.std.specs.Prelude.{◌≡◌};
+ghost use Rattle.std.specs.Prelude.{◌≡◌, IfOk};
 ghost use Rattle.relay_routes.specs.declared.unrouted.Unrouted.TheVariants.{Memory};
 
 use relay_text::Text;
-use std::alloc::AllocError;
+use std::alloc::{AllocError, Global};
 
 /// Why an address has no route.
 #[derive(Drop)]
@@ -20,6 +20,22 @@ pub enum Unrouted {
     NullMx,
     /// Memory ran out.
     Memory,
+}
+
+impl Unrouted {
+    /// A copy of its own.
+    pub fn copy(&self, alloc: Global) -> Result<Unrouted, AllocError>
+        ensures { IfOk result (λ reason. reason ≡ self.now) }
+    {
+        Ok(match self {
+            Unrouted::Domain => Unrouted::Domain,
+            Unrouted::MxSelf => Unrouted::MxSelf,
+            Unrouted::Transport => Unrouted::Transport,
+            Unrouted::Refused(text) => Unrouted::Refused(Text::copy_of(alloc, text.as_bytes())?),
+            Unrouted::NullMx => Unrouted::NullMx,
+            Unrouted::Memory => Unrouted::Memory,
+        })
+    }
 }
 
 impl From<AllocError> for Unrouted {

@@ -1,5 +1,4 @@
 pub mod Rows
-pub mod Places
 pub mod LocalParts
 pub mod Resolving
 pub mod Cuts
@@ -8,6 +7,7 @@ pub mod Placing
 pub mod Turning
 pub mod Runs
 pub mod NodeKeys
+pub mod Owned
 pub mod Firsts
 pub mod Numbers
 pub mod Resolved

@@ -1,9 +1,9 @@
 -- Lemmas on nodes: which are the same, and that a node's key tells it.
-use Rattle.std.proofs.Common.{◌≡◌, ℕ, zero, suc, ◌+◌, ◌<◌, Bool, true, false, ◌||◌, cond, eqb, ltb, Some, None, List, [], ◌∷◌, length, map, take, drop, slice_get, position, refl, sym, ap, ◌∙◌, subst, arith}
+use Rattle.std.proofs.Common.{◌≡◌, ℕ, zero, suc, ◌+◌, ◌<◌, Bool, true, false, ◌||◌, cond, ltb, Some, None, List, [], ◌∷◌, length, take, drop, slice_get, position, refl, sym, ap, ◌∙◌, subst, arith}
 use Rattle.std.specs.Prelude.{not}
 use Rattle.std.specs.List.{list_any, position_or_len}
 use Rattle.std.specs.Str.{bytes_eq}
-use Rattle.std.proofs.lemmas.Bool.{false≢true, true≢false, eqb-true, eq-eqb, and_parts, and_from, or_left, or_right, or_parts, or_from, false_from_ne_true, lt-ltb, cond-true}
+use Rattle.std.proofs.lemmas.Bool.{false≢true, eqb-true, eq-eqb, and_parts, and_from, or_left, or_right, false_from_ne_true, lt-ltb, cond-true}
 use Rattle.std.proofs.lemmas.List.{drop_at, take_at}
 use Rattle.std.proofs.lemmas.Option.{none-some, same_Some}
 use Rattle.std.proofs.lemmas.Slice.Eq.{bytes_eq-Decides}
@@ -11,7 +11,7 @@ use Rattle.relay_text.specs.AddressParts.{AddressParts}
 use Rattle.relay_tables.specs.declared.node.Node.{Node}
 use Rattle.relay_tables.specs.declared.node.Node.TheVariants.{Alias, Include, Mailbox, Remote, Missing, NoInclude, Command, File}
 use Rattle.relay_tables.specs.Graphs.{same_address, same_node}
-use Rattle.relay_tables.specs.Numbering.{is_final, key_of, address_key}
+use Rattle.relay_tables.specs.Numbering.{is_final, address_key}
 
 bytes_true : (xs ys : List ℕ) → bytes_eq xs ys ≡ true → xs ≡ ys
 bytes_true xs ys e = (bytes_eq-Decides xs ys).0 e
@@ -58,33 +58,14 @@ itself (File t) = bytes_same t t refl
 pub node_same : (m n : Node) → m ≡ n → same_node m n ≡ true
 node_same m n e = subst (λ (x : Node). same_node m x ≡ true) e (itself m)
 
--- A final node is told by its key.
+-- An address is told by its key.
 pub address_from : List ℕ → AddressParts
 address_from [] = address_at [] []
 address_from (n ∷ text) = address_at (drop n text) (take n text)
 
-node_from : List ℕ → Node
-node_from [] = Alias 0
-node_from (k ∷ rest) =
-    cond (eqb k 1) (Mailbox (address_from rest)) (cond (eqb k 2) (Remote (address_from rest)) (cond (eqb k 3) (Missing rest) (cond (eqb k 4) (NoInclude rest) (cond (eqb k 5) (Command rest) (File rest)))))
-
 pub address_back : (a : AddressParts) → address_from (address_key a) ≡ a
 unfolding address_from
 address_back a = same_parts (address_from (address_key a)) a (drop_at a.domain a.local (length a.domain) refl) (take_at a.domain a.local (length a.domain) refl)
-
-node_back : (n : Node) → is_final n ≡ true → node_from (key_of n) ≡ n
-unfolding node_from key_of
-node_back (Alias n) e = absurd (false≢true e)
-node_back (Include n) e = absurd (false≢true e)
-node_back (Mailbox a) e = ap Mailbox (address_back a)
-node_back (Remote a) e = ap Remote (address_back a)
-node_back (Missing t) e = refl
-node_back (NoInclude t) e = refl
-node_back (Command t) e = refl
-node_back (File t) e = refl
-
-pub key_tells : (m n : Node) → is_final m ≡ true → is_final n ≡ true → key_of m ≡ key_of n → m ≡ n
-key_tells m n fm fn e = sym (node_back m fm) ∙ ap node_from e ∙ node_back n fn
 
 -- a final node is no entry
 pub final_alias : (n : Node) → is_final n ≡ true → (k : ℕ) → same_node n (Alias k) ≡ false
@@ -112,13 +93,6 @@ pub any_at : (nodes : List Node) (k : ℕ) (n : Node) → slice_get nodes k ≡ 
 any_at [] k n e = absurd (none-some n e)
 any_at (x ∷ xs) zero n e = or_left (same_node n x) (list_any (same_node n) xs) (node_same n x (sym (same_Some x n e)))
 any_at (x ∷ xs) (suc k) n e = or_right (same_node n x) (list_any (same_node n) xs) (any_at xs k n e)
-
--- where no key is this one, no node is
-pub none_by_key : {X : Type 0} (p : X → Bool) (q : List ℕ → Bool) (key : X → List ℕ) → (xs : List X) → ((x : X) → p x ≡ true → q (key x) ≡ true) → list_any q (map key xs) ≡ false → list_any p xs ≡ false
-none_by_key p q key [] tells none = refl
-none_by_key p q key (x ∷ xs) tells none =
-    let parts = or_parts (q (key x)) (list_any q (map key xs)) none in
-    or_from (p x) (list_any p xs) (false_from_ne_true (p x) (λ e. absurd (true≢false (sym (tells x e) ∙ parts.0)))) (none_by_key p q key xs tells parts.1)
 
 first_within : {X : Type 0} (p : X → Bool) (xs : List X) → list_any p xs ≡ true → position_or_len p xs < length xs
 first_within p [] e = absurd (false≢true e)

@@ -1,5 +1,5 @@
 -- What a name stands for, step by step.
-use Rattle.std.proofs.Common.{◌≡◌, ℕ, suc, ◌+◌, arith, not, Bool, true, false, cond, ◌||◌, ltb, Option, Some, None, is_some, List, [], ◌∷◌, length, position, refl, sym, ap, ◌∙◌}
+use Rattle.std.proofs.Common.{◌≡◌, ℕ, zero, suc, ◌+◌, ◌<◌, get_or, map, slice_get, arith, not, Bool, true, false, cond, ◌||◌, ltb, Option, Some, None, is_some, List, [], ◌∷◌, length, position, refl, sym, ap, ◌∙◌}
 use Rattle.std.specs.Prelude.{option_map, option_and_then, option_to_list}
 use Rattle.std.specs.List.{list_any, position_or_len}
 use Rattle.std.proofs.lemmas.Bool.{lt-ltb}
@@ -23,6 +23,12 @@ is_some-position p xs = at (ltb (position_or_len p xs) (length xs)) (position_or
   at : (b : Bool) (first : ℕ) → is_some (cond b (Some first) None) ≡ b
   at true first = refl
   at false first = refl
+
+-- what is kept of an element of a list, by its place
+pub mapped_at : {X : Type 0} (f : X → Option ℕ) (xs : List X) (k : ℕ) (d : Option ℕ) → k < length xs → get_or (map f xs) k d ≡ option_and_then f (slice_get xs k)
+mapped_at f [] k d below = absurd (omega arith)
+mapped_at f (x ∷ xs) zero d below = refl
+mapped_at f (x ∷ xs) (suc k) d below = mapped_at f xs k d (omega arith)
 
 module _ (d : Directory) (name : List ℕ) (parent : Option ℕ) where
   -- the alias of the name or of a base, and whether one of them has a mailbox

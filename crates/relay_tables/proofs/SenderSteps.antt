@@ -1,16 +1,18 @@
 -- Lemmas on senders by their numbers.
-use Rattle.std.proofs.Common.{◌≡◌, ◌≢◌, ℕ, zero, suc, ◌+◌, ◌<◌, ◌≤◌, Bool, true, false, Option, Some, None, List, [], ◌∷◌, ◌++◌, length, map, get_or, slice_get, refl, sym, ap, ◌∙◌, subst, arith, inl, inr}
-use Rattle.std.specs.Prelude.{count_by, option_map, option_and_then, is_some}
+use Rattle.std.proofs.Common.{◌≡◌, ◌≢◌, ℕ, zero, suc, ◌+◌, ◌<◌, ◌≤◌, Bool, true, false, eqb, Option, Some, None, Ok, Err, Result, List, [], ◌∷◌, ◌++◌, length, map, get_or, slice_get, refl, sym, ap, ◌∙◌, subst, arith, inl, inr}
+use Rattle.std.specs.Prelude.{count_by, is_err, option_map, option_and_then, is_some}
 use Rattle.std.specs.List.{list_any, range_with_len}
 use Rattle.std.specs.Str.{bytes_eq}
-use Rattle.std.proofs.lemmas.Bool.{cases_Bool, cases_lt, cases_eq, or_left, or_right, both_ways, true≢false}
+use Rattle.std.proofs.lemmas.Bool.{cases_Bool, cond-true, cond-false, cases_lt, cases_eq, or_left, or_right, both_ways, true≢false}
 use Rattle.std.proofs.lemmas.List.{length-map, length_push, get_or-map, get_or_append_left, get_or_push, map_push}
 use Rattle.std.proofs.lemmas.List.Quantifiers.{position-Some, all_pairs_push}
 use Rattle.std.proofs.lemmas.Option.{none-some, same_Some, slice_get_within, slice_get-get_or, get_or_from_slice_get}
 use Rattle.std.proofs.lemmas.Slice.Eq.{bytes_eq-Decides}
 use Rattle.relay_text.specs.AddressParts.{AddressParts}
 use Rattle.relay_aliasfile.specs.declared.entry.Entry.{Entry}
-use Rattle.relay_chains.specs.Keys.{number_of}
+use Rattle.relay_chains.specs.declared.fault.ChainFault.{ChainFault}
+use Rattle.relay_chains.specs.declared.fault.ChainFault.TheVariants.{Full, Memory}
+use Rattle.relay_chains.specs.Keys.{Insertion, number_of, insertion, insertion_at, Inserts}
 use Rattle.relay_tables.specs.Directory.{Directory}
 use Rattle.relay_tables.specs.Senders.{Sender, owner_number, owner_entry, sender_by}
 use Rattle.relay_tables.specs.Graphs.{IsOwnerSender}
@@ -18,6 +20,24 @@ use Rattle.relay_tables.specs.Sending.{sender_key, AreSenders, IsOwnedBy, AreOf,
 use Rattle.relay_tables.proofs.NodeKeys.{address_from, address_back, bytes_same, none_by_place}
 use Rattle.relay_tables.proofs.Firsts.{get-append}
 use Rattle.relay_tables.proofs.Runs.{counted_yes, counted_no}
+
+-- what an interner has after a new text
+pub interned : (keys : List (List ℕ)) (limit : ℕ) (key : List ℕ) (result : Result (ℕ × Bool) ChainFault) (new : List (List ℕ))
+    → number_of bytes_eq keys key ≡ None → is_err result ≡ false → Inserts (insertion bytes_eq keys limit key) keys result new → new ≡ keys ++ key ∷ []
+interned keys limit key (Err Full) new none ok h = absurd (true≢false ok)
+interned keys limit key (Err Memory) new none ok h = absurd (true≢false ok)
+interned keys limit key (Ok found) new none ok h =
+    let given : insertion bytes_eq keys limit key ≡ insertion_at bytes_eq None keys limit key = ap (λ place. insertion_at bytes_eq place keys limit key) none in
+    elim (cases_Bool (eqb (length keys) limit)) [
+      | inl full ↦
+          let refused = given ∙ cond-true (eqb (length keys) limit) _ _ full in
+          let answer : (insertion bytes_eq keys limit key).answer ≡ Err Full = ap (λ (i : Insertion (List ℕ)). i.answer) refused in
+          let other = sym answer ∙ h.0 in
+          cc
+      | inr room ↦
+          let pushed = given ∙ cond-false (eqb (length keys) limit) _ _ room in
+          h.1 ∙ ap (λ (i : Insertion (List ℕ)). i.keys) pushed
+    ]
 
 sender_from : List ℕ → Sender
 sender_from [] = None

@@ -2,8 +2,9 @@ pub mod Directory
 pub mod Parts
 pub mod Targets
 pub mod Senders
-pub mod FirstPlaces
+pub mod Indices
 pub mod Tables
+pub mod Owning
 pub mod GraphParts
 pub mod Graphs
 pub mod Adjacency

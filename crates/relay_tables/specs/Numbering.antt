@@ -1,6 +1,7 @@
 -- Nodes that come one by one, each numbered by its first place.
-use Rattle.std.specs.Prelude.{◌≡◌, ℕ, ◌+◌, ◌<◌, ◌≤◌, ◌^◌, Bool, true, false, List, [], ◌∷◌, ◌++◌, length, map, drop, All, IsTrue, Result, Ok, Err, ⊤, if◌then◌else◌}
+use Rattle.std.specs.Prelude.{◌≡◌, ℕ, ◌+◌, ◌<◌, ◌≤◌, ◌^◌, Bool, true, false, List, [], ◌∷◌, ◌++◌, length, map, drop, bit_xor, All, IsTrue, Result, Ok, Err, ⊤, if◌then◌else◌}
 use Rattle.std.specs.List.{list_any, range_with_len}
+use Rattle.relay_chains.specs.TextHash.{text_hash}
 use Rattle.relay_text.specs.AddressParts.{AddressParts}
 use Rattle.relay_text.specs.Addresses.{is_address}
 use Rattle.relay_tables.specs.declared.node.Node.{Node}
@@ -89,29 +90,33 @@ is_final (NoInclude path) = true
 is_final (Command text) = true
 is_final (File path) = true
 
--- The text by which a node is found: a byte for its kind, and then its bytes. An address's domain comes first, after its length.
+-- the text by which an address is told: its domain comes first, after its length
 abbrev pub address_key : AddressParts → List ℕ
 address_key a = length a.domain ∷ (a.domain ++ a.local)
 
-unfoldable pub key_of : Node → List ℕ
-key_of (Alias number) = []
-key_of (Include number) = []
-key_of (Mailbox a) = 1 ∷ address_key a
-key_of (Remote a) = 2 ∷ address_key a
-key_of (Missing name) = 3 ∷ name
-key_of (NoInclude path) = 4 ∷ path
-key_of (Command text) = 5 ∷ text
-key_of (File path) = 6 ∷ path
+-- The hash by which a node is found. A mailbox is found as its name is.
+abbrev pub address_hash : ℕ → AddressParts → ℕ
+address_hash key a = text_hash (bit_xor key (text_hash key a.domain)) a.local
+
+unfoldable pub node_hash : ℕ → Node → ℕ
+node_hash key (Alias number) = 0
+node_hash key (Include number) = 0
+node_hash key (Mailbox a) = text_hash key a.local
+node_hash key (Remote a) = address_hash key a
+node_hash key (Missing name) = text_hash key name
+node_hash key (NoInclude path) = text_hash key path
+node_hash key (Command text) = text_hash key text
+node_hash key (File path) = text_hash key path
 
 -- the nodes behind the aliases and the include files
 abbrev pub finals_of : ℕ → ℕ → List Node → List Node
 finals_of aliases includes nodes = drop (aliases + includes) nodes
 
--- The entries stand first, and the keys are those of the nodes behind them.
-pub record AreNumbered (nodes : List Node) (aliases includes limit : ℕ) (keys : List (List ℕ)) (key_limit : ℕ) : Type 0 where
+-- The entries stand first, and the hashes are those of the nodes behind them.
+pub record AreNumbered (nodes : List Node) (aliases includes limit key : ℕ) (hashes : List ℕ) : Type 0 where
   pub front : nodes ≡ entries_of aliases includes ++ finals_of aliases includes nodes
   pub final : All (λ n. is_final n ≡ true) (finals_of aliases includes nodes)
-  pub keys_are : keys ≡ map key_of (finals_of aliases includes nodes)
-  pub room : key_limit + (aliases + includes) ≡ limit
+  pub hashed : hashes ≡ map (node_hash key) (finals_of aliases includes nodes)
+  pub fits : aliases + includes ≤ limit
   pub small : limit ≤ 2 ^ 24
   pub within : length nodes ≤ limit

@@ -6,9 +6,9 @@ use Rattle.relay_text.specs.Bytes.{has_text}
 use Rattle.relay_text.specs.Addresses.{is_origin}
 use Rattle.relay_aliasfile.specs.declared.entry.Entry.{Entry}
 use Rattle.relay_tables.specs.Parts.{is_good_entry, is_good_include}
-use Rattle.relay_tables.specs.FirstPlaces.{PlaceParts, found_place}
 use Rattle.relay_tables.specs.Directory.{Directory}
-use Rattle.relay_tables.specs.Targets.{alias_number, include_number}
+use Rattle.relay_chains.specs.TextHash.{text_hash}
+use Rattle.relay_tables.specs.Indices.{name_hash, path_hash}
 
 -- the origin is one, names and bare items are local parts, and the lists are short enough to be numbered by 32 bits
 pub record IsLawful (d : Directory) : Type 0 where
@@ -18,18 +18,18 @@ pub record IsLawful (d : Directory) : Type 0 where
   pub few_entries : length d.aliases < 2 ^ 32 - 2
   pub few_includes : length d.includes < 2 ^ 32 - 2
 
--- what each index finds is what stands first in its list
-pub record AreIndices (d : Directory) (domains : List (List ℕ)) (aliases includes mailboxes : PlaceParts) : Type 0 where
+-- the hashes of what is named, in the order of the lists
+pub record AreIndices (d : Directory) (key : ℕ) (domains : List (List ℕ)) (aliases includes mailboxes : List ℕ) : Type 0 where
   pub domain : (text : List ℕ) → has_text domains text ≡ has_text d.local.domains text
-  pub alias : (text : List ℕ) → found_place aliases text ≡ alias_number d text
-  pub include : (text : List ℕ) → found_place includes text ≡ include_number d text
-  pub mailbox : (text : List ℕ) → found_place mailboxes text ≡ position (bytes_eq text) d.mailboxes
+  pub alias : aliases ≡ map (name_hash key) d.aliases
+  pub include : includes ≡ map (path_hash key) d.includes
+  pub mailbox : mailboxes ≡ map (text_hash key) d.mailboxes
 
--- the owner of an entry, if it has one, by the places of the entries' names
-abbrev pub owner_place : PlaceParts → Entry → Option ℕ
-owner_place places e = found_place places (codes "owner-" ++ e.name)
+-- the owner of an entry, if it has one
+abbrev pub owner_place : List Entry → Entry → Option ℕ
+owner_place entries e = position (λ (o : Entry). bytes_eq (codes "owner-" ++ e.name) o.name) entries
 
-pub record AreTables (d : Directory) (domains : List (List ℕ)) (aliases includes mailboxes : PlaceParts) (found : List (Option ℕ)) : Type 0 where
+pub record AreTables (d : Directory) (key : ℕ) (domains : List (List ℕ)) (aliases includes mailboxes : List ℕ) (found : List (Option ℕ)) : Type 0 where
   pub lawful : IsLawful d
-  pub indices : AreIndices d domains aliases includes mailboxes
-  pub owners : found ≡ map (owner_place aliases) d.aliases
+  pub indices : AreIndices d key domains aliases includes mailboxes
+  pub owners : found ≡ map (owner_place d.aliases) d.aliases

@@ -1,5 +1,5 @@
 //! Rows of numbers, one row after another in one vector.
-ghost use Rattle.std.specs.Prelude.{◌≡◌, ◌<◌, ◌++◌, ◌∷◌, [], length, slice_index, slice_get, Some, OnOk, OnErr};
+ghost use Rattle.std.specs.Prelude.{◌≡◌, ◌<◌, ◌++◌, ◌∷◌, [], length, slice_index, slice_get, Some, IfOk, OnOk, OnErr};
 ghost use Rattle.std.specs.List.{concat};
 ghost use Rattle.relay_chains.specs.Interner.{AreCut};
 ghost use Rattle.relay_tables.specs.Adjacency.{lists_of, row_of};
@@ -27,14 +27,18 @@ impl Model for Adjacency {
 }
 
 impl Adjacency {
-    /// No rows, without taking memory.
-    pub(crate) fn new(alloc: Global) -> Adjacency
-        ensures { result ≡ [] }
+    /// No rows, and room for so many of them with so many numbers in all.
+    pub(crate) fn with_capacity(
+        alloc: Global,
+        rows: usize,
+        numbers: usize,
+    ) -> Result<Adjacency, AllocError>
+        ensures { IfOk result (λ made. made ≡ []) }
     {
-        Adjacency {
-            numbers: Vec::new(alloc),
-            ends: Vec::new(alloc),
-        }
+        Ok(Adjacency {
+            numbers: Vec::with_capacity(alloc, numbers)?,
+            ends: Vec::with_capacity(alloc, rows)?,
+        })
     }
 
     /// The rows that these ends cut the numbers into, without taking memory.

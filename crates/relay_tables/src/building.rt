@@ -39,14 +39,10 @@ fn include_items(tables: &Tables) -> usize {
 }
 
 // How many targets are expected: as many as there are items and recipients, but no more than `most`, and at least 1.
-fn expected(tables: &Tables, recipients: &[Address], most: usize) -> usize
+fn expected(items: usize, recipients: usize, most: usize) -> usize
     ensures { 1 ≤ result }
 {
-    alias_items(tables)
-        .saturating_add(include_items(tables))
-        .saturating_add(recipients.len())
-        .min(most)
-        .max(1)
+    items.saturating_add(recipients).min(most).max(1)
 }
 
 /// The rows of the tables and recipients, where there are at most `names` nodes.
@@ -63,15 +59,17 @@ pub(crate) fn number_all(
     ensures full { result ≡ Err TableFault.TooManyNames → names < length (nodes_of tables.now recipients.now) }
     ensures owners { result ≡ Err TableFault.TooManyOwners → ⊥ }
 {
-    let heads = expected(tables, recipients, names);
+    let items = alias_items(tables).saturating_add(include_items(tables));
+    let heads = expected(items, recipients.len(), names);
     let aliases = tables.aliases().len();
     let includes = tables.includes().len();
-    let mut numbering = Numbering::new(alloc, aliases, includes, heads, names)?;
+    let mut numbering = Numbering::new(alloc, tables.key(), aliases, includes, heads, names)?;
     let mut scratch = Scratch {
         name: Vec::new(alloc),
         row: Vec::new(alloc),
     };
-    let mut children = Adjacency::new(alloc);
+    let entries = aliases.saturating_add(includes);
+    let mut children = Adjacency::with_capacity(alloc, entries, items)?;
     number_aliases(alloc, tables, &mut numbering, &mut scratch, &mut children)?;
     number_includes(alloc, tables, &mut numbering, &mut scratch, &mut children)?;
     let roots = number_recipients(alloc, tables, recipients, &mut numbering, &mut scratch)?;

@@ -1,69 +1,127 @@
-//! The indices of tables.
-ghost use Rattle.std.specs.Prelude.{◌≡◌, ℕ, ◌<◌, ◌-◌, ◌^◌, ◌++◌, List, length, map, position, codes, IfOk};
+//! The indices of tables: the hashes of what is named, and look-ups over them.
+ghost use Rattle.std.specs.Prelude.{◌≡◌, ℕ, ◌<◌, ◌-◌, ◌^◌, length, map, position, slice_get, option_map, Some, IfOk};
 ghost use Rattle.std.specs.Str.{bytes_eq};
-ghost use Rattle.relay_tables.specs.FirstPlaces.{found_place};
-ghost use Rattle.relay_tables.specs.Tables.{owner_place};
+ghost use Rattle.relay_chains.specs.TextHash.{text_hash};
+ghost use Rattle.relay_tables.specs.Indices.{name_hash, path_hash};
 
-use crate::first_places::FirstPlaces;
 use crate::include_entry::IncludeEntry;
 use relay_aliasfile::Entry;
-use relay_text::Text;
+use relay_chains::{Links, hash_text};
+use relay_text::{Text, same_bytes};
 use std::alloc::{AllocError, Global};
 
-/// The entries by their names.
-pub(crate) fn entry_places(alloc: Global, entries: &[Entry]) -> Result<FirstPlaces, AllocError>
+// An odd number whose bits look drawn at random, another than that of the hashes themselves: the first 64 bits of the root of 3.
+const MULTIPLIER: u64 = 0xbb67_ae85_84ca_a73b;
+
+/// A key for the hashes of a job, from the names that are looked up in it.
+///
+/// Texts that have one hash under this key have as many as any others under the key of a job with other names.
+pub(crate) fn key_of(entries: &[Entry], mailboxes: &[Text]) -> u64 {
+    let names = entries.iter().map(|entry| &entry.name);
+    names.chain(mailboxes).fold(MULTIPLIER, |key, name| {
+        key.wrapping_mul(MULTIPLIER) ^ u64::from(hash_text(key, name.as_bytes()))
+    })
+}
+
+/// The hashes of the entries' names.
+pub(crate) fn entry_links(alloc: Global, key: u64, entries: &[Entry]) -> Result<Links, AllocError>
     requires { length entries.now < 2 ^ 32 - 2 }
-    ensures { IfOk result (λ places. (text : List ℕ) → found_place places text ≡ position (λ e. bytes_eq text e.name) entries.now) }
+    ensures { IfOk result (λ links. links ≡ map (name_hash key) entries.now) }
 {
-    let mut places = FirstPlaces::new(alloc, entries.len())?;
-    for (place, entry) in entries.iter().enumerate() {
-        places.put(entry.name.as_bytes(), place as u32)?;
-    }
-    Ok(places)
-}
-
-/// The include files by their paths.
-pub(crate) fn include_places(
-    alloc: Global,
-    includes: &[IncludeEntry],
-) -> Result<FirstPlaces, AllocError>
-    requires { length includes.now < 2 ^ 32 - 2 }
-    ensures { IfOk result (λ places. (text : List ℕ) → found_place places text ≡ position (λ e. bytes_eq text e.path) includes.now) }
-{
-    let mut places = FirstPlaces::new(alloc, includes.len())?;
-    for (place, include) in includes.iter().enumerate() {
-        places.put(include.path.as_bytes(), place as u32)?;
-    }
-    Ok(places)
-}
-
-/// The mailboxes by their names.
-pub(crate) fn mailbox_places(alloc: Global, names: &[Text]) -> Result<FirstPlaces, AllocError>
-    requires { length names.now < 2 ^ 32 - 2 }
-    ensures { IfOk result (λ places. (text : List ℕ) → found_place places text ≡ position (bytes_eq text) names.now) }
-{
-    let mut places = FirstPlaces::new(alloc, names.len())?;
-    for (place, name) in names.iter().enumerate() {
-        places.put(name.as_bytes(), place as u32)?;
-    }
-    Ok(places)
-}
-
-/// The owner of each entry, the place of `owner-` and its name, if it has one.
-pub(crate) fn entry_owners(
-    alloc: Global,
-    entries: &[Entry],
-    places: &FirstPlaces,
-) -> Result<Vec<Option<u32>>, AllocError>
-    ensures { IfOk result (λ owners. owners.items ≡ map (owner_place places.now) entries.now) }
-{
-    let mut owners = Vec::with_capacity(alloc, entries.len())?;
-    let mut text = Vec::new(alloc);
+    let mut links = Links::new(alloc, 2 * entries.len() + 1)?;
     for entry in entries {
-        text.clear();
-        text.extend_from_slice(b"owner-")?;
-        text.extend_from_slice(entry.name.as_bytes())?;
-        owners.push(places.find(&text))?;
+        links.push(hash_text(key, entry.name.as_bytes()))?;
     }
-    Ok(owners)
+    Ok(links)
+}
+
+/// The hashes of the include files' paths.
+pub(crate) fn include_links(
+    alloc: Global,
+    key: u64,
+    includes: &[IncludeEntry],
+) -> Result<Links, AllocError>
+    requires { length includes.now < 2 ^ 32 - 2 }
+    ensures { IfOk result (λ links. links ≡ map (path_hash key) includes.now) }
+{
+    let mut links = Links::new(alloc, 2 * includes.len() + 1)?;
+    for include in includes {
+        links.push(hash_text(key, include.path.as_bytes()))?;
+    }
+    Ok(links)
+}
+
+/// The hashes of the mailboxes' names.
+pub(crate) fn mailbox_links(alloc: Global, key: u64, names: &[Text]) -> Result<Links, AllocError>
+    requires { length names.now < 2 ^ 32 - 2 }
+    ensures { IfOk result (λ links. links ≡ map (text_hash key) names.now) }
+{
+    let mut links = Links::new(alloc, 2 * names.len() + 1)?;
+    for name in names {
+        links.push(hash_text(key, name.as_bytes()))?;
+    }
+    Ok(links)
+}
+
+/// The place of the first entry of a name with this hash.
+pub(crate) fn entry_named(
+    entries: &[Entry],
+    links: &Links,
+    key: u64,
+    hash: u32,
+    name: &[u8],
+) -> Option<u32>
+    requires hashed { links.now ≡ map (name_hash key) entries.now }
+    requires hash { hash ≡ text_hash key name.now }
+    ensures { result ≡ position (λ e. bytes_eq name.now e.name) entries.now }
+{
+    links.find(
+        hash,
+        |number: u32| -> bool
+            requires { number < length entries.now }
+            ensures { option_map (λ e. bytes_eq name.entry.now e.name) (slice_get entries.entry.now number) ≡ Some result }
+        { same_bytes(name, entries[number as usize].name.as_bytes()) },
+    )
+}
+
+/// The place of the first include file of a path with this hash.
+pub(crate) fn include_at(
+    includes: &[IncludeEntry],
+    links: &Links,
+    key: u64,
+    hash: u32,
+    path: &[u8],
+) -> Option<u32>
+    requires hashed { links.now ≡ map (path_hash key) includes.now }
+    requires hash { hash ≡ text_hash key path.now }
+    ensures { result ≡ position (λ e. bytes_eq path.now e.path) includes.now }
+{
+    links.find(
+        hash,
+        |number: u32| -> bool
+            requires { number < length includes.now }
+            ensures { option_map (λ e. bytes_eq path.entry.now e.path) (slice_get includes.entry.now number) ≡ Some result }
+        { same_bytes(path, includes[number as usize].path.as_bytes()) },
+    )
+}
+
+/// The place of the first mailbox of a name with this hash.
+pub(crate) fn mailbox_named(
+    names: &[Text],
+    links: &Links,
+    key: u64,
+    hash: u32,
+    name: &[u8],
+) -> Option<u32>
+    requires hashed { links.now ≡ map (text_hash key) names.now }
+    requires hash { hash ≡ text_hash key name.now }
+    ensures { result ≡ position (bytes_eq name.now) names.now }
+{
+    links.find(
+        hash,
+        |number: u32| -> bool
+            requires { number < length names.now }
+            ensures { option_map (bytes_eq name.entry.now) (slice_get names.entry.now number) ≡ Some result }
+        { same_bytes(name, names[number as usize].as_bytes()) },
+    )
 }

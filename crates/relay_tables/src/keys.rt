@@ -1,21 +1,12 @@
-//! The texts by which nodes and senders are found, and what they stand for in memory of its own.
+//! The texts by which senders are found, and what leads stand for in memory of its own.
 ghost use Rattle.std.specs.Prelude.{◌≡◌, ◌<◌, ◌∷◌, ◌++◌, length, IfOk, OnOk, IsTrue};
 ghost use Rattle.relay_text.specs.Addresses.{is_address};
-ghost use Rattle.relay_tables.specs.Numbering.{node_of, key_of, HasGoodAddress};
+ghost use Rattle.relay_tables.specs.Numbering.{node_of, HasGoodAddress};
 
 use crate::lead::Lead;
 use crate::node::Node;
 use relay_text::{Address, Text};
 use std::alloc::{AllocError, Global};
-
-// A byte for the kind, and a text.
-fn put_text(kind: u8, text: &[u8], key: &mut Vec<u8>) -> Result<(), AllocError>
-    ensures { OnOk result (key.new.items ≡ kind ∷ text.now) }
-{
-    key.clear();
-    key.push(kind)?;
-    key.extend_from_slice(text)
-}
 
 // A byte for the kind, the length of the domain, the domain and the local part.
 pub(crate) fn put_address(
@@ -32,30 +23,6 @@ pub(crate) fn put_address(
     key.push(domain.len() as u8)?;
     key.extend_from_slice(domain)?;
     key.extend_from_slice(local)
-}
-
-/// Writes the text by which a node is found.
-#[tactic(auto, unfolding(crate::specs::Numbering::key_of))]
-pub(crate) fn put_key(lead: Lead<'_>, key: &mut Vec<u8>) -> Result<(), AllocError>
-    requires { HasGoodAddress (node_of lead) }
-    ensures { OnOk result (key.new.items ≡ key_of (node_of lead.entry)) }
-{
-    match lead {
-        Lead::Alias(_) => {
-            key.clear();
-            Ok(())
-        }
-        Lead::Include(_) => {
-            key.clear();
-            Ok(())
-        }
-        Lead::Mailbox(local, domain) => put_address(1, local, domain, key),
-        Lead::Remote(local, domain) => put_address(2, local, domain, key),
-        Lead::Missing(name) => put_text(3, name, key),
-        Lead::NoInclude(path) => put_text(4, path, key),
-        Lead::Command(text) => put_text(5, text, key),
-        Lead::File(path) => put_text(6, path, key),
-    }
 }
 
 /// The node that a lead leads to, in memory of its own.

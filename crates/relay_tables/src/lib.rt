@@ -4,7 +4,7 @@
 mod adjacency;
 mod building;
 pub mod fault;
-mod first_places;
+mod finding;
 pub mod graph;
 pub mod include_entry;
 mod indexing;
@@ -14,15 +14,12 @@ mod leading;
 pub mod local;
 pub mod node;
 mod numbering;
+mod owning;
 pub mod parsed;
 mod rowing;
 mod sending;
 pub mod tables;
 pub mod target;
-#[cfg(test)]
-mod tests_graph;
-#[cfg(test)]
-mod tests_tables;
 mod transpose;
 
 pub use fault::TableFault;

@@ -5,21 +5,22 @@ ghost use Rattle.relay_tables.specs.declared.node.Node.TheVariants.{Alias, Inclu
 ghost use Rattle.relay_tables.specs.Numbering.{node_of, entries_of, with_all, with_nodes, is_final, Numbers, IsGood};
 
 use crate::fault::TableFault;
-use crate::keys::{make_node, put_key};
+use crate::finding::{lead_hash, place_of};
+use crate::keys::make_node;
 use crate::lead::Lead;
 use crate::node::Node;
-use relay_chains::Interner;
+use relay_chains::Links;
 use std::alloc::{AllocError, Global};
 use std::marker::Model;
 
 /// Nodes in the order of their numbers, each once: the aliases first, then the include files, and then all others as they come.
 ///
-/// An alias or include file has its number by its place; any other node is found by its kind and its bytes.
+/// An alias or include file has its number by its place; any other node is found by the hash of its text, which is read in the node itself.
 #[derive(Drop)]
 pub(crate) struct Numbering {
     nodes: Vec<Node>,
-    texts: Interner,
-    key: Vec<u8>,
+    links: Links,
+    key: u64,
     aliases: usize,
     includes: usize,
     limit: usize,
@@ -32,14 +33,15 @@ impl Model for Numbering {
 
     ghost view = { λ a. record { nodes = a.nodes.items; aliases = a.aliases; includes = a.includes; limit = a.limit } };
 
-    ghost invariant = { λ a. AreNumbered a.nodes.items a.aliases a.includes a.limit a.texts.keys a.texts.limit };
+    ghost invariant = { λ a. AreNumbered a.nodes.items a.aliases a.includes a.limit a.key a.links };
 }
 
 impl Numbering {
-    /// The aliases and include files, where there are so many, and at most `limit` nodes ever. Take about as many heads as other
-    /// nodes are expected.
+    /// The aliases and include files, where there are so many, and at most `limit` nodes ever, found under a key. Take about as many
+    /// heads as other nodes are expected.
     pub(crate) fn new(
         alloc: Global,
+        key: u64,
         aliases: usize,
         includes: usize,
         heads: usize,
@@ -54,14 +56,14 @@ impl Numbering {
         if limit < aliases || limit - aliases < includes {
             return Err(TableFault::TooManyNames);
         }
-        let texts = Interner::new(alloc, heads, limit - aliases - includes)?;
+        let links = Links::new(alloc, heads)?;
         let mut nodes = Vec::with_capacity(alloc, aliases + includes)?;
         push_aliases(aliases, &mut nodes)?;
         push_includes(includes, &mut nodes)?;
         Ok(Numbering {
             nodes,
-            texts,
-            key: Vec::new(alloc),
+            links,
+            key,
             aliases,
             includes,
             limit,
@@ -89,9 +91,11 @@ impl Numbering {
         ensures number { IfOk result (λ number. slice_get self.new.nodes number ≡ Some (node_of lead.entry)) }
         ensures numbers { Numbers self.old (node_of lead.entry ∷ []) result self.new }
     {
-        put_key(lead, &mut self.key)?;
-        if let Some(number) = self.texts.find(&self.key) {
-            return Ok((self.aliases + self.includes) as u32 + number);
+        let hash = lead_hash(self.key, lead);
+        let entries = self.aliases + self.includes;
+        let finals = &self.nodes[entries..];
+        if let Some(place) = place_of(finals, &self.links, self.key, hash, lead) {
+            return Ok(entries as u32 + place);
         }
         let number = self.nodes.len();
         if number == self.limit {
@@ -100,9 +104,7 @@ impl Numbering {
         // What can fail comes first, and changes nothing that is seen.
         let node = make_node(alloc, lead)?;
         self.nodes.reserve(1)?;
-        if self.texts.intern(&self.key).is_err() {
-            return Err(TableFault::Memory);
-        }
+        self.links.push(hash)?;
         self.nodes.push_reserved(node);
         Ok(number as u32)
     }
@@ -121,7 +123,7 @@ impl Numbering {
     {
         let Numbering {
             nodes,
-            texts: _,
+            links: _,
             key: _,
             aliases: _,
             includes: _,

@@ -1,18 +1,21 @@
 //! The tables by which names are resolved.
-use crate::first_places::FirstPlaces;
 use crate::include_entry::IncludeEntry;
-use crate::indexing::{entry_owners, entry_places, include_places, mailbox_places};
+use crate::indexing::{
+    entry_links, entry_named, include_at, include_links, key_of, mailbox_links, mailbox_named,
+};
 use crate::local::Local;
+use crate::owning::entry_owners;
 use crate::target::Target;
 use relay_aliasfile::{AliasFile, Entry, Item, MailboxFile};
-use relay_text::{Address, Seq, Text, TextSet, split_place};
+use relay_chains::{Links, hash_text};
+use relay_text::{Address, Seq, Text, TextSet, same_bytes, split_place};
 use std::alloc::{AllocError, Global};
 use std::marker::Model;
 
 /// The local domains, the alias table, the job's include files and the mailboxes, with indices by which a name is found.
 ///
-/// Each index holds a copy of its texts. Look-ups take no memory and need about one comparison, whatever the size of the tables;
-/// a domain takes as many as the logarithm of their number.
+/// An index holds the hashes of its texts alone, under a key that depends on all names of entries and mailboxes. Look-ups take no memory
+/// and need about one comparison, whatever the size of the tables; a domain takes as many as the logarithm of their number.
 #[derive(Drop)]
 pub struct Tables {
     local: Local,
@@ -20,9 +23,10 @@ pub struct Tables {
     includes: Seq<IncludeEntry>,
     mailboxes: Seq<Text>,
     domains: TextSet,
-    alias_places: FirstPlaces,
-    include_places: FirstPlaces,
-    mailbox_places: FirstPlaces,
+    key: u64,
+    alias_links: Links,
+    include_links: Links,
+    mailbox_links: Links,
     owners: Vec<Option<u32>>,
 }
 
@@ -34,7 +38,7 @@ impl Model for Tables {
 
     ghost view = { λ a. record { local = a.local; aliases = a.aliases; includes = a.includes; mailboxes = a.mailboxes } };
 
-    ghost invariant = { λ a. AreTables (record { local = a.local; aliases = a.aliases; includes = a.includes; mailboxes = a.mailboxes }) a.domains a.alias_places a.include_places a.mailbox_places a.owners.items };
+    ghost invariant = { λ a. AreTables (record { local = a.local; aliases = a.aliases; includes = a.includes; mailboxes = a.mailboxes }) a.key a.domains a.alias_links a.include_links a.mailbox_links a.owners.items };
 }
 
 ghost use Rattle.std.specs.Prelude.{◌≡◌, ◌≢◌, ◌<◌, ◌-◌, ◌^◌, ◌||◌, [], ◌∷◌, length, Some, option_map, option_and_then, option_to_list, IsTrue, IsSome, IfOk, IfSome, All, AllPairs};
@@ -72,19 +76,21 @@ impl Tables {
         let AliasFile { entries, faults: _ } = aliases;
         let MailboxFile { names, faults: _ } = mailboxes;
         let domains = TextSet::of(alloc, local.domains.as_slice())?;
-        let alias_places = entry_places(alloc, entries.as_slice())?;
-        let include_places = include_places(alloc, &includes)?;
-        let mailbox_places = mailbox_places(alloc, names.as_slice())?;
-        let owners = entry_owners(alloc, entries.as_slice(), &alias_places)?;
+        let key = key_of(entries.as_slice(), names.as_slice());
+        let alias_links = entry_links(alloc, key, entries.as_slice())?;
+        let include_links = include_links(alloc, key, &includes)?;
+        let mailbox_links = mailbox_links(alloc, key, names.as_slice())?;
+        let owners = entry_owners(alloc, key, entries.as_slice(), &alias_links)?;
         Ok(Tables {
             local,
             aliases: entries,
             includes: Seq::of(includes),
             mailboxes: names,
             domains,
-            alias_places,
-            include_places,
-            mailbox_places,
+            key,
+            alias_links,
+            include_links,
+            mailbox_links,
             owners,
         })
     }
@@ -112,7 +118,7 @@ impl Tables {
         ensures { result ≡ is_local_address self.now.local address.now }
     {
         let domain = address.domain();
-        domain == self.local.origin.as_bytes() || self.domains.contains(domain)
+        same_bytes(domain, self.local.origin.as_bytes()) || self.domains.contains(domain)
     }
 
     /// The alias `owner-NAME` of an alias NAME, or `None` where there is none (local(8), "delivery status notifications").
@@ -158,11 +164,23 @@ impl Tables {
         self.includes.as_slice()
     }
 
+    // The key of the hashes, which depends on all names of entries and mailboxes.
+    pub(crate) fn key(&self) -> u64 {
+        self.key
+    }
+
     // The number of the include file of a path.
     pub(crate) fn include_of(&self, path: &[u8]) -> Option<u32>
         ensures { result ≡ include_number self.now path.now }
     {
-        self.include_places.find(path)
+        let hash = hash_text(self.key, path);
+        include_at(
+            self.includes.as_slice(),
+            &self.include_links,
+            self.key,
+            hash,
+            path,
+        )
     }
 
     // The domain of a name that has none.
@@ -211,7 +229,9 @@ impl Tables {
     fn alias_beside(&self, name: &[u8], parent: Option<u32>) -> Option<u32>
         ensures { result ≡ alias_beside self.now parent name.now }
     {
-        let number = self.alias_places.find(name)?;
+        let hash = hash_text(self.key, name);
+        let entries = self.aliases.as_slice();
+        let number = entry_named(entries, &self.alias_links, self.key, hash, name)?;
         if parent == Some(number) {
             None
         } else {
@@ -234,7 +254,9 @@ impl Tables {
     fn has_mailbox(&self, name: &[u8]) -> bool
         ensures { result ≡ has_mailbox self.now name.now }
     {
-        self.mailbox_places.find(name).is_some()
+        let hash = hash_text(self.key, name);
+        let names = self.mailboxes.as_slice();
+        mailbox_named(names, &self.mailbox_links, self.key, hash, name).is_some()
     }
 
     // Whether there is one of a name or of its base.

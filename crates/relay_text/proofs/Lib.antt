@@ -1,5 +1,8 @@
 pub mod Rows
+pub mod ByteTables
+pub mod LineEnds
 pub mod Scans
+pub mod SameBytes
 pub mod KeptWalks
 pub mod LogicalLines
 pub mod QuoteMarks
@@ -10,9 +13,13 @@ pub mod Faults
 pub mod Limits
 pub mod PathFaults
 pub mod Paths
+pub mod InlineBytes
 pub mod Writing
+pub mod JoinedAddresses
+pub mod Runs
 pub mod Splits
 pub mod Numbers
 pub mod TextSets
 pub mod Firsts
 pub mod Sizes
+pub mod PlainTexts

@@ -108,7 +108,7 @@ dot_quotable b h = grind (arith, nat_tests)
 atext_quotable : (b : ℕ) → is_atext b ≡ true → is_quotable b ≡ true
 atext_quotable b h = elim (or_cases (is_ascii_alphanumeric b) _ h) [ inl e ↦ alphanumeric_quotable b e | inr e ↦ list_any-among b is_quotable (codes "!#$%&'*+-/=?^_`{|}~") refl e ]
 
-plain_quotable : (b : ℕ) → (is_atext b || is_dot b) ≡ true → is_quotable b ≡ true
+pub plain_quotable : (b : ℕ) → (is_atext b || is_dot b) ≡ true → is_quotable b ≡ true
 plain_quotable b h = elim (or_cases (is_atext b) (is_dot b) h) [ inl e ↦ atext_quotable b e | inr e ↦ dot_quotable b e ]
 
 kept_all : (q : ℕ → Bool) (t : Bool) (b : ℕ) (K : Bool → List ℕ) → q b ≡ true → ((e : Bool) → list_all q (K e) ≡ true) → list_all q (cond t (K true) (b ∷ K false)) ≡ true

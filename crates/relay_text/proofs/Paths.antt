@@ -158,11 +158,11 @@ cuts_quoted l r some good = record {
 abbrev pub is_plain : ℕ → Bool
 is_plain b = is_atext b || is_dot b
 
-run_bytes : (p : ℕ → Bool) (run : List ℕ) → is_run_of p run ≡ true → list_all p run ≡ true
+pub run_bytes : (p : ℕ → Bool) (run : List ℕ) → is_run_of p run ≡ true → list_all p run ≡ true
 run_bytes p [] good = refl
 run_bytes p (b ∷ bs) good = good
 
-runs_bytes : (p : ℕ → Bool) (runs : List (List ℕ)) → list_all (is_run_of p) runs ≡ true → list_all (list_all p) runs ≡ true
+pub runs_bytes : (p : ℕ → Bool) (runs : List (List ℕ)) → list_all (is_run_of p) runs ≡ true → list_all (list_all p) runs ≡ true
 runs_bytes p [] good = refl
 runs_bytes p (run ∷ runs) good =
     let parts : (is_run_of p run ≡ true) × (list_all (is_run_of p) runs ≡ true) = and_parts (is_run_of p run) (list_all (is_run_of p) runs) good in
@@ -175,7 +175,7 @@ first_bytes p b (run ∷ runs) good =
     let front : (p b ≡ true) × (list_all p run ≡ true) = and_parts (p b) (list_all p run) parts.0 in
     (front.0, and_from (list_all p run) (list_all (list_all p) runs) front.1 parts.1)
 
-split_bytes : (p d : ℕ → Bool) (text : List ℕ) → list_all (list_all p) (slice_split d text) ≡ true → list_all (λ b. p b || d b) text ≡ true
+pub split_bytes : (p d : ℕ → Bool) (text : List ℕ) → list_all (list_all p) (slice_split d text) ≡ true → list_all (λ b. p b || d b) text ≡ true
 split_bytes p d [] good = refl
 split_bytes p d (b ∷ bs) good = elim (cases_Bool (d b)) [
   | inl e ↦
@@ -190,7 +190,7 @@ split_bytes p d (b ∷ bs) good = elim (cases_Bool (d b)) [
 plain_bytes : (l : List ℕ) → is_dot_string l ≡ true → list_all is_plain l ≡ true
 plain_bytes l dots = split_bytes is_atext is_dot l (runs_bytes is_atext (slice_split is_dot l) dots)
 
-not_at : (c : ℕ) → is_plain c ≡ false → (b : ℕ) → is_plain b ≡ true → (b == c) ≡ false
+pub not_at : (c : ℕ) → is_plain c ≡ false → (b : ℕ) → is_plain b ≡ true → (b == c) ≡ false
 not_at c bad b good = elim (cases_Bool (b == c)) [
   | inl e ↦ absurd (both_ways (is_plain c) bad (ap is_plain (sym (eqb-true b c e)) ∙ good))
   | inr e ↦ e
@@ -207,6 +207,12 @@ pub data Behind : List ℕ → Type 0 where
   nothing : Behind []
   domain : (text : List ℕ) → Behind (64 ∷ text)
 
+pub behind_nothing : Behind []
+behind_nothing = nothing
+
+pub behind_domain : (text : List ℕ) → Behind (64 ∷ text)
+behind_domain text = domain text
+
 before_none : {X : Type 0} (p : X → Bool) (xs : List X) → list_any p xs ≡ false → position_or_len p xs ≡ length xs
 before_none p [] none = refl
 before_none p (x ∷ xs) none =
@@ -219,10 +225,9 @@ plain_raw l r nothing none = ap (before_first (λ (b : ℕ). b == 64)) (append-n
     ∙ ap (λ n. take n l) (before_none (λ (b : ℕ). b == 64) l none) ∙ take_all (length l) l (omega arith)
 plain_raw l r (domain text) none = before_behind (λ (b : ℕ). b == 64) l 64 text none refl
 
-cuts_plain : (l r : List ℕ) → Behind r → is_dot_string l ≡ true → CutsTo (l ++ r) l r
-cuts_plain [] r behind dots = absurd (both_ways false refl dots)
-cuts_plain (b ∷ bs) r behind dots =
-    let good : list_all is_plain (b ∷ bs) ≡ true = plain_bytes (b ∷ bs) dots in
+pub cuts_open : (l r : List ℕ) → Behind r → is_empty l ≡ false → list_all is_plain l ≡ true → CutsTo (l ++ r) l r
+cuts_open [] r behind some good = absurd (both_ways true some refl)
+cuts_open (b ∷ bs) r behind some good =
     let cut : local_cut (b ∷ bs ++ r) ≡ plain_cut (b ∷ bs ++ r) = rw (not_at 34 refl b ((and_parts (is_plain b) (list_all is_plain bs) good).0)) refl in
     let raw : (plain_cut (b ∷ bs ++ r)).raw ≡ b ∷ bs = plain_raw (b ∷ bs) r behind (no_at (b ∷ bs) good) in
     subst (λ (c : LocalCut). HasCut c (b ∷ bs) r) (sym cut) (record {
@@ -232,6 +237,13 @@ cuts_plain (b ∷ bs) r behind dots =
       bytes = ap (list_all is_plain) raw ∙ good;
       closed = refl;
     })
+
+some_dots : (l : List ℕ) → is_dot_string l ≡ true → is_empty l ≡ false
+some_dots [] dots = absurd (both_ways false refl dots)
+some_dots (b ∷ bs) dots = refl
+
+cuts_plain : (l r : List ℕ) → Behind r → is_dot_string l ≡ true → CutsTo (l ++ r) l r
+cuts_plain l r behind dots = cuts_open l r behind (some_dots l dots) (plain_bytes l dots)
 
 -- A local part that may stand in an address or a name, and the text that spells it.
 pub cuts_text : (l r : List ℕ) → Behind r → is_empty l ≡ false → list_all is_quotable l ≡ true → CutsTo (local_text_of l ++ r) l r
@@ -294,7 +306,7 @@ address_reads origin a good =
 pub inside_path : (body : List ℕ) → inside (60 ∷ (body ++ 62 ∷ [])) ≡ body
 inside_path body = take_at body (62 ∷ []) (length (60 ∷ (body ++ 62 ∷ [])) - 1 - 1) (omega (arith, length-append body (62 ∷ [])))
 
-bytes_same : (text : List ℕ) → bytes_eq text text ≡ true
+pub bytes_same : (text : List ℕ) → bytes_eq text text ≡ true
 bytes_same text = (bytes_eq-Decides text text).1 refl
 
 pub path_reads : (origin body : List ℕ) → is_empty body ≡ false → path_of origin (60 ∷ (body ++ 62 ∷ [])) ≡ result_map (λ a. Some a) (address_of origin body)

@@ -1,14 +1,15 @@
 -- Where a text is trimmed, and where it's cut into physical lines.
-use Rattle.std.proofs.Common.{◌≡◌, ◌<◌, ◌≤◌, ◌≢◌, ℕ, suc, ◌+◌, ◌-◌, Bool, true, false, not, cond, ◌&&◌, List, [], ◌∷◌, length, take, drop, get_or, Option, Some, None, Bor, refl, sym, ap, ◌∙◌, arith, eqb}
+use Rattle.std.proofs.Common.{◌≡◌, ◌<◌, ◌≤◌, ◌≢◌, ℕ, suc, ◌+◌, ◌-◌, Bool, true, false, not, cond, ◌&&◌, List, [], ◌∷◌, length, take, drop, get_or, map, Some, None, refl, sym, ap, ◌∙◌, arith, eqb}
 use Rattle.std.specs.List.{prefix_len, position_or_len, before_first, onto_first, slice_get, list_all, zip}
-use Rattle.std.specs.Option.{unwrap_or, MatchOption}
 use Rattle.std.specs.Char.{to_ascii_lowercase}
 use Rattle.std.specs.Str.{bytes_eq}
 use Rattle.std.proofs.lemmas.List.Sums.{position_or_len_is}
-use Rattle.std.proofs.lemmas.List.{take_all, drop_all}
+use Rattle.std.proofs.lemmas.Bool.{eq-eqb, ne_eqb}
+use Rattle.std.proofs.lemmas.List.{take_all, drop_all, take-take, length-take, get_or-take}
 use Rattle.bstr.specs.Find.{IsFirstByte}
+use Rattle.relay_text.proofs.LineEnds.{is_line_feed}
 use Rattle.relay_text.specs.Bytes.{is_white, trimmed_start, folded}
-use Rattle.relay_text.specs.Lines.{raw_lines, without_cr, is_ignored}
+use Rattle.relay_text.specs.Lines.{raw_lines, physical_lines, line_text, without_cr, is_ignored}
 
 not_true : (b : Bool) → b ≢ true → b ≡ false
 not_true true h = absurd (h refl)
@@ -19,10 +20,6 @@ place_found test hay k h = position_or_len_is test hay k 0 (omega arith) (λ j l
 
 pub place_missing : (test : ℕ → Bool) (hay : List ℕ) → IsFirstByte test hay None → position_or_len test hay ≡ length hay
 place_missing test hay h = position_or_len_is test hay (length hay) 0 (omega arith) (λ j lt. not_true (test (get_or hay j 0)) (h j (omega arith) lt)) (λ lt. absurd (omega arith))
-
--- the end of a line
-abbrev pub is_line_feed : ℕ → Bool
-is_line_feed b = eqb b 10
 
 -- A text is its first line, up to its first LF, and the lines of the rest.
 pub raw_lines-found : (bs : List ℕ) → position_or_len is_line_feed bs < length bs → raw_lines bs ≡ take (position_or_len is_line_feed bs + 1) bs ∷ raw_lines (drop (position_or_len is_line_feed bs + 1) bs)
@@ -68,26 +65,49 @@ before_first-found bs place h = rw (place_found is_line_feed bs place h)
 pub before_first-missing : (bs : List ℕ) → IsFirstByte is_line_feed bs None → before_first is_line_feed bs ≡ bs
 before_first-missing bs h = rw (place_missing is_line_feed bs h) (take_all (length bs) bs (omega arith))
 
--- whether a line ends in a CR
-abbrev pub ends_in_cr : List ℕ → Bool
-ends_in_cr line = bytes_eq (drop (length line - 1) line) (13 ∷ [])
-
-without_cr-is : (line : List ℕ) → without_cr line ≡ cond (ends_in_cr line) (take (length line - 1) line) line
-without_cr-is [] = refl
-without_cr-is (b ∷ []) = at (eqb b 13) where
-  at : (t : Bool) → cond t [] (b ∷ []) ≡ cond (t && true) [] (b ∷ [])
+-- One CR at the end of a line is dropped.
+without_cr-is : (b : ℕ) (bs : List ℕ) → without_cr (b ∷ bs) ≡ cond (eqb (get_or (b ∷ bs) (length bs) 0) 13) (take (length bs) (b ∷ bs)) (b ∷ bs)
+without_cr-is b [] = refl
+without_cr-is b (d ∷ ds) = ap (λ (rest : List ℕ). b ∷ rest) (without_cr-is d ds) ∙ at (eqb (get_or (d ∷ ds) (length ds) 0) 13) where
+  at : (t : Bool) → b ∷ cond t (take (length ds) (d ∷ ds)) (d ∷ ds) ≡ cond t (b ∷ take (length ds) (d ∷ ds)) (b ∷ d ∷ ds)
   at true = refl
   at false = refl
-without_cr-is (b ∷ d ∷ bs) = let one : suc (suc (length bs)) - 1 ≡ suc (suc (length bs) - 1) = omega arith in rw one (ap (λ (rest : List ℕ). b ∷ rest) (without_cr-is (d ∷ bs)) ∙ at (ends_in_cr (d ∷ bs)) (take (suc (length bs) - 1) (d ∷ bs)) (d ∷ bs)) where
-  at : (t : Bool) (xs ys : List ℕ) → b ∷ cond t xs ys ≡ cond t (b ∷ xs) (b ∷ ys)
-  at true xs ys = refl
-  at false xs ys = refl
 
-pub without_cr-stripped : (line : Bor (List ℕ)) (r : Option (Bor (List ℕ)))
-    → MatchOption r (ends_in_cr line.now ≡ false) (λ x. (ends_in_cr line.now ≡ true) × (x.now ≡ take (length line.now - 1) line.now) × (length x.now + 1 ≡ length line.now))
-    → (unwrap_or r line).now ≡ without_cr line.now
-without_cr-stripped line None h = sym (rw (without_cr-is line.now) (rw h))
-without_cr-stripped line (Some x) h = h.1 ∙ sym (rw (without_cr-is line.now) (rw h.0))
+pub without_cr-cut : (line : List ℕ) → 0 < length line → get_or line (length line - 1) 0 ≡ 13 → take (length line - 1) line ≡ without_cr line
+without_cr-cut [] some h = absurd (omega arith)
+without_cr-cut (b ∷ bs) some h =
+    let one : suc (length bs) - 1 ≡ length bs = omega arith in
+    let last : get_or (b ∷ bs) (length bs) 0 ≡ 13 = ap (λ k. get_or (b ∷ bs) k 0) (sym one) ∙ h in
+    rw one (sym (without_cr-is b bs ∙ ap (λ t. cond t (take (length bs) (b ∷ bs)) (b ∷ bs)) (eq-eqb _ _ last)))
+
+pub without_cr-kept : (line : List ℕ) → (0 < length line → get_or line (length line - 1) 0 ≢ 13) → line ≡ without_cr line
+without_cr-kept [] h = refl
+without_cr-kept (b ∷ bs) h =
+    let one : suc (length bs) - 1 ≡ length bs = omega arith in
+    let other : get_or (b ∷ bs) (length bs) 0 ≢ 13 = λ e. h (omega arith) (ap (λ k. get_or (b ∷ bs) k 0) one ∙ e) in
+    sym (without_cr-is b bs ∙ ap (λ t. cond t (take (length bs) (b ∷ bs)) (b ∷ bs)) (ne_eqb _ _ other))
+
+-- The line before an LF, and behind it the rest.
+physical-cut : (bs : List ℕ) (place : ℕ) → IsFirstByte is_line_feed bs (Some place) → line_text (take (place + 1) bs) ≡ without_cr (take place bs)
+physical-cut bs place h =
+    let within : place < length bs = h.0.high in
+    let read : (j : ℕ) → j < place + 1 → get_or (take (place + 1) bs) j 0 ≡ get_or bs j 0 = λ j lt. get_or-take (place + 1) bs j 0 lt in
+    let first : position_or_len is_line_feed (take (place + 1) bs) ≡ place =
+    position_or_len_is is_line_feed (take (place + 1) bs) place 0 (omega (arith, length-take (place + 1) bs))
+    (λ j lt. ap is_line_feed (read j (omega arith)) ∙ not_true (is_line_feed (get_or bs j 0)) (h.0.before j (omega arith) lt))
+    (λ _. ap is_line_feed (read place (omega arith)) ∙ h.1) in
+    ap (λ k. without_cr (take k (take (place + 1) bs))) first ∙ ap without_cr (take-take place (place + 1) bs (omega arith))
+
+pub physical-cut_at : (bs : List ℕ) (place : ℕ) (line rest : List ℕ) → IsFirstByte is_line_feed bs (Some place) → line ≡ without_cr (take place bs) → rest ≡ drop (place + 1) bs
+    → physical_lines bs ≡ line ∷ physical_lines rest
+physical-cut_at bs place line rest h e f =
+    ap (map line_text) (raw_lines-cut_at bs place (take (place + 1) bs) rest h refl f)
+    ∙ ap (λ (l : List ℕ). l ∷ physical_lines rest) (physical-cut bs place h ∙ sym e)
+
+pub physical-whole : (bs line rest : List ℕ) → 0 < length bs → IsFirstByte is_line_feed bs None → line ≡ without_cr bs → rest ≡ drop (length bs) bs → physical_lines bs ≡ line ∷ physical_lines rest
+physical-whole bs line rest some h e f =
+    ap (map line_text) (raw_lines-whole bs (take (length bs) bs) rest some h refl f)
+    ∙ ap (λ (l : List ℕ). l ∷ physical_lines rest) (ap line_text (take_all (length bs) bs (omega arith)) ∙ ap without_cr (before_first-missing bs h) ∙ sym e)
 
 -- whether a line is ignored, by what follows its white space
 abbrev pub is_ignored_at : List ℕ → Bool

@@ -20,7 +20,7 @@ abbrev pub goes_on : (ℕ → Bool) → List (List ℕ) → Bool
 goes_on p [] = true
 goes_on p (run ∷ runs) = list_all p run && list_all (is_run_of p) runs
 
-and_assoc : (x y z : Bool) → ((x && y) && z) ≡ (x && (y && z))
+pub and_assoc : (x y z : Bool) → ((x && y) && z) ≡ (x && (y && z))
 and_assoc x y z = elim x as (λ v. ((v && y) && z) ≡ (v && (y && z))) [ true ↦ refl | false ↦ refl ]
 
 onto_run : (p : ℕ → Bool) (b : ℕ) (runs : List (List ℕ)) → list_all (is_run_of p) (onto_first b runs) ≡ (p b && goes_on p runs)

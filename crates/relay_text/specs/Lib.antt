@@ -2,6 +2,9 @@ pub mod Bytes
 pub mod Lines
 pub mod Quotes
 pub mod AddressParts
+pub mod JoinedAddresses
+pub mod HeadedBytes
+pub mod InlineBytes
 pub mod Addresses
 pub mod KeptLines
 pub mod Gathered
@@ -10,3 +13,5 @@ pub mod TextSets
 pub mod HashedTexts
 pub mod FirstPlaces
 pub mod QuotedStrings
+pub mod Runs
+pub mod PlainTexts

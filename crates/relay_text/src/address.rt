@@ -1,14 +1,24 @@
 //! Addresses.
 
+use crate::inline_bytes::InlineBytes;
+use crate::local::is_dot_string;
 use std::alloc::{AllocError, Global};
 use std::marker::Model;
 
+/// What is known of the bytes of an address.
+#[derive(Clone, Copy, Debug)]
+struct AddressHead {
+    local_len: u8,
+    /// Whether the local part is a Dot-string.
+    is_plain: bool,
+}
+
 /// A mailbox: a local part without quotes and escapes, in the case as spelled, and a domain in lower case (RFC 5321 section 4.1.2,
-/// Mailbox). Each address is within the limits of RFC 5321 section 4.5.3.1 as it is written. Both parts lie in one buffer.
+/// Mailbox). Each address is within the limits of RFC 5321 section 4.5.3.1 as it is written. Both parts lie in a row with an `@` between
+/// them, up to 44 bytes of it in the value itself, more in memory of their own.
 #[derive(Drop)]
 pub struct Address {
-    text: Vec<u8>,
-    local_len: usize,
+    text: InlineBytes<AddressHead, 44>,
 }
 
 impl Model for Address {
@@ -16,16 +26,22 @@ impl Model for Address {
 
     ghost Value = { AddressParts };
 
-    ghost use Rattle.std.specs.Prelude.{IsTrue, take, drop, length, ◌≤◌};
-    ghost use Rattle.relay_text.specs.Addresses.{is_address};
+    ghost use Rattle.std.specs.Prelude.{◌≡◌, IsTrue};
+    ghost use Rattle.relay_text.specs.Addresses.{is_address, is_dot_string};
+    ghost use Rattle.relay_text.specs.JoinedAddresses.{joined_text_of, parts_at};
 
-    ghost view = { λ a. record { local = take a.local_len a.text.items; domain = drop a.local_len a.text.items } };
+    ghost view = { λ a. parts_at a.text.head.local_len a.text.bytes };
 
-    ghost invariant = { λ a. (a.local_len ≤ length a.text.items) × IsTrue (is_address (record { local = take a.local_len a.text.items; domain = drop a.local_len a.text.items })) };
+    ghost invariant = { λ a.
+        (a.text.bytes ≡ joined_text_of (parts_at a.text.head.local_len a.text.bytes))
+        × (a.text.head.is_plain ≡ is_dot_string (parts_at a.text.head.local_len a.text.bytes).local)
+        × IsTrue (is_address (parts_at a.text.head.local_len a.text.bytes)) };
 }
 
-ghost use Rattle.std.specs.Prelude.{◌≡◌, ◌≤◌, IsTrue, IfOk, take, drop, length};
-ghost use Rattle.relay_text.specs.Addresses.{is_address};
+ghost use Rattle.std.specs.Prelude.{◌≡◌, IsTrue, IfOk, length};
+ghost use Rattle.relay_text.specs.AddressParts.{AddressParts};
+ghost use Rattle.relay_text.specs.Addresses.{is_address, is_dot_string};
+ghost use Rattle.relay_text.specs.JoinedAddresses.{joined_text_of, parts_at};
 
 impl Address {
     /// The address of these parts: a local part without quotes and escapes, and a folded domain, which an address literal gives with its
@@ -34,22 +50,30 @@ impl Address {
         requires { IsTrue (is_address (record { local = local.now; domain = domain.now })) }
         ensures { IfOk result (λ a. a ≡ record { local = local.now; domain = domain.now }) }
     {
-        let mut text = Vec::with_capacity(alloc, local.len() + domain.len())?;
-        text.extend_from_slice(local)?;
-        text.extend_from_slice(domain)?;
-        Ok(Address {
-            text,
-            local_len: local.len(),
-        })
+        let mut text = InlineBytes::copy_of(alloc, (), local)?;
+        text.append(alloc, b"@")?;
+        text.append(alloc, domain)?;
+        Ok(Address::from_joined(text, local.len(), is_dot_string(local)))
     }
 
-    /// The address whose local part is the first `local_len` bytes of a text, and whose domain is the rest.
-    pub(crate) fn from_parts(text: Vec<u8>, local_len: usize) -> Address
-        requires within { local_len ≤ length text.items }
-        requires valid { IsTrue (is_address (record { local = take local_len text.items; domain = drop local_len text.items })) }
-        ensures { result ≡ record { local = take local_len text.items; domain = drop local_len text.items } }
+    /// The address whose local part is the first `local_len` bytes of a text, and whose domain follows the `@` behind it.
+    pub(crate) fn from_joined(
+        text: InlineBytes<(), 44>,
+        local_len: usize,
+        is_plain: bool,
+    ) -> Address
+        requires joined { text.bytes ≡ joined_text_of (parts_at local_len text.bytes) }
+        requires plain { is_plain ≡ is_dot_string (parts_at local_len text.bytes).local }
+        requires valid { IsTrue (is_address (parts_at local_len text.bytes)) }
+        ensures { result ≡ parts_at local_len text.bytes }
     {
-        Address { text, local_len }
+        let head = AddressHead {
+            local_len: local_len as u8,
+            is_plain,
+        };
+        Address {
+            text: text.with_head(head),
+        }
     }
 
     /// The local part, without quotes and escapes, in the case as spelled.
@@ -57,24 +81,48 @@ impl Address {
         ensures value { result.now ≡ self.now.local }
         ensures valid { IsTrue (is_address self.now) }
     {
-        &self.text[..self.local_len]
+        &self.text.as_slice()[..self.local_len()]
     }
 
     /// The domain, in lower case; an address literal stands in its brackets (RFC 5321 section 4.1.3).
     pub fn domain(&self) -> &[u8]
         ensures { result.now ≡ self.now.domain }
     {
-        &self.text[self.local_len..]
+        &self.text.as_slice()[self.local_len() + 1..]
     }
 
-    /// The same address in a buffer of its own. `Err` where memory runs out.
+    /// How long the local part is.
+    fn local_len(&self) -> usize
+        ensures { result ≡ length self.now.local }
+    {
+        usize::from(self.text.head().local_len)
+    }
+
+    /// The local part, `@` and the domain in a row, without quotes: no other address has these bytes.
+    pub fn joined(&self) -> &[u8]
+        ensures value { result.now ≡ joined_text_of self.now }
+        ensures valid { IsTrue (is_address self.now) }
+    {
+        self.text.as_slice()
+    }
+
+    /// Whether the local part is a Dot-string, so that the address is written as `joined` lends it.
+    pub fn is_plain(&self) -> bool
+        ensures { result ≡ is_dot_string self.now.local }
+    {
+        self.text.head().is_plain
+    }
+
+    /// The same address in a value of its own. `Err` where memory runs out.
     pub fn copy(&self, alloc: Global) -> Result<Address, AllocError>
         ensures same { IfOk result (λ a. a ≡ self.now) }
     {
-        let text = Vec::from_slice(alloc, self.text.as_slice())?;
-        Ok(Address {
-            text,
-            local_len: self.local_len,
-        })
+        let text = self.text.copy(alloc)?;
+        Ok(Address { text })
     }
 }
+
+/// A law, with nothing to run: the joined bytes determine the address, since no domain has an `@`.
+pub fn one_joined_text()
+    ensures { (a b : AddressParts) → IsTrue (is_address a) → IsTrue (is_address b) → joined_text_of a ≡ joined_text_of b → a ≡ b }
+{}

@@ -1,7 +1,8 @@
 //! The local part at the front of a text.
+use crate::class::is_atext;
 use crate::fault::TextFault;
-use crate::local::is_atext;
-use std::alloc::AllocError;
+use crate::inline_bytes::InlineBytes;
+use std::alloc::{AllocError, Global};
 use std::marker::Model;
 
 /// The local part as it stands at the front of a text, and what follows it (RFC 5321 section 4.1.2, Local-part).
@@ -21,7 +22,7 @@ impl<'a> Model for Cut<'a> {
     ghost view = { λ c. record { quoted = c.quoted; closed = c.closed; raw = c.raw.now; rest = c.rest.now } };
 }
 
-ghost use Rattle.std.specs.Prelude.{◌≡◌, ◌≤◌, ◌++◌, ◌==◌, ◌||◌, not, codes, length, OnOk};
+ghost use Rattle.std.specs.Prelude.{◌≡◌, ◌≤◌, ◌++◌, ◌==◌, ◌||◌, not, codes, length, IfOk, OnOk};
 ghost use Rattle.std.specs.List.{list_all, position_or_len};
 ghost use Rattle.relay_text.specs.Addresses.{local_cut, quoted_cut, plain_cut, local_of, is_local_byte, is_quotable, is_atext, is_dot, local_checks, checked, is_empty};
 ghost use Rattle.relay_text.specs.Bytes.{begins_with};
@@ -129,14 +130,17 @@ impl<'a> Cut<'a> {
         }
     }
 
-    /// Puts the local part that is spelled at the end of a text.
-    pub(crate) fn push_local(&self, text: &mut Vec<u8>) -> Result<(), AllocError>
-        ensures { OnOk result (text.new.items ≡ text.old.items ++ local_of self.now) }
+    /// The local part that is spelled. `Err` where memory runs out.
+    pub(crate) fn local<const N: usize>(
+        &self,
+        alloc: Global,
+    ) -> Result<InlineBytes<(), N>, AllocError>
+        ensures { IfOk result (λ local. local.bytes ≡ local_of self.now) }
     {
         if self.quoted {
-            push_unescaped(self.raw, text)
+            unescaped(alloc, self.raw)
         } else {
-            text.extend_from_slice(self.raw)
+            InlineBytes::copy_of(alloc, (), self.raw)
         }
     }
 }
@@ -205,6 +209,18 @@ fn unescaped_len(content: &[u8]) -> usize
         }
     }
     len
+}
+
+/// A quoted string's content without its escapes.
+fn unescaped<const N: usize>(
+    alloc: Global,
+    content: &[u8],
+) -> Result<InlineBytes<(), N>, AllocError>
+    ensures { IfOk result (λ text. text.bytes ≡ without_escapes content.now) }
+{
+    let mut text = Vec::with_capacity(alloc, unescaped_len(content))?;
+    push_unescaped(content, &mut text)?;
+    Ok(InlineBytes::of((), text))
 }
 
 /// Puts a quoted string's content without its escapes at the end of a text.

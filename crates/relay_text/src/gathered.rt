@@ -33,13 +33,13 @@ impl Gathered {
         ensures { OnOk result (so_far self.new ≡ with_line (so_far self.old) (kept_line line.entry)) }
     {
         if begins_logical_line(&line) {
-            let text = Text::of(Vec::from_slice(alloc, line.text)?);
+            let text = Text::copy_of(alloc, line.text)?;
             self.lines.push(Line {
                 number: line.number,
                 text,
             })?;
         } else if let Some(open) = self.lines.last_mut() {
-            open.text.append(line.text)?;
+            open.text.append(alloc, line.text)?;
         } else {
             self.orphans.push(line.number)?;
         }

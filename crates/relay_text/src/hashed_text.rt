@@ -2,6 +2,7 @@
 ghost use Rattle.std.specs.Prelude.{◌≡◌};
 ghost use Rattle.relay_text.specs.HashedTexts.{text_hash};
 
+use crate::equality::same_bytes;
 use std::hash::{DefaultHasher, Hasher};
 
 /// A text among others. It is compared by its hash, which stands in the value itself, and only where the hashes are the same by its
@@ -42,6 +43,6 @@ impl<'a> HashedText<'a> {
     pub(crate) fn is_same_as(&self, other: &HashedText<'a>) -> bool
         ensures { IsTrue result ↔ (self.now.bytes.now ≡ other.now.bytes.now) }
     {
-        self.hash == other.hash && self.bytes == other.bytes
+        self.hash == other.hash && same_bytes(self.bytes, other.bytes)
     }
 }

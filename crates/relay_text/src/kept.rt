@@ -1,7 +1,7 @@
 //! The physical lines of a text that aren't ignored.
 ghost use Rattle.std.specs.Prelude.{◌+◌, ◌^◌, ◌<◌, length};
 
-use crate::scan::{is_ignored, line_text, split_line};
+use crate::scan::{cut_line, is_ignored};
 
 /// A physical line without its end, under its number from 1. Ignored lines count too.
 #[derive(Clone, Copy, Debug)]
@@ -42,10 +42,9 @@ impl<'a> KeptLines<'a> {
         ensures ended { IfNone result (kept_rest self.new ≡ []) }
         ensures some { IfSome result (λ line. kept_rest self.old ≡ kept_line line ∷ kept_rest self.new) }
     {
-        while let Some((raw, rest)) = split_line(self.rest) {
+        while let Some((text, rest)) = cut_line(self.rest) {
             self.rest = rest;
             self.passed += 1;
-            let text = line_text(raw);
             if !is_ignored(text) {
                 return Some(KeptLine {
                     number: self.passed,

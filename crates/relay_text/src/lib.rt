@@ -2,36 +2,35 @@
 #![tactic(auto)]
 
 pub mod address;
+mod class;
 mod cut;
 pub mod domain;
+pub mod equality;
 pub mod fault;
 pub mod first_places;
 mod gathered;
 mod hashed_text;
+mod inline_bytes;
 mod inside;
 pub mod kept;
+mod line_end;
 pub mod lines;
 mod local;
 pub mod number;
 pub mod parse;
+pub mod plain;
 pub mod quoted;
+mod run;
 pub mod scan;
 pub mod seq;
 pub mod split;
-#[cfg(test)]
-mod tests_lines;
-#[cfg(test)]
-mod tests_parse;
-#[cfg(test)]
-mod tests_sets;
-#[cfg(test)]
-mod tests_write;
 pub mod text;
 pub mod text_set;
 pub mod write;
 
-pub use address::Address;
+pub use address::{Address, one_joined_text};
 pub use domain::{is_domain, is_domain_name, is_literal_content};
+pub use equality::same_bytes;
 pub use fault::TextFault;
 pub use first_places::FirstPlaces;
 pub use kept::{KeptLine, KeptLines};
@@ -39,6 +38,7 @@ pub use lines::{Line, Lines, logical_lines};
 pub use local::local_text_len;
 pub use number::number_within;
 pub use parse::{parse_address, parse_name, parse_path};
+pub use plain::PlainText;
 pub use quoted::quoted_content;
 pub use scan::{
     begins_with_word, fold, is_ignored, line_text, split_line, trimmed, trimmed_end, trimmed_start,

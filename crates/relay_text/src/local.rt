@@ -1,34 +1,8 @@
 //! Local parts, and how they are written (RFC 5321 section 4.1.2: Local-part, Dot-string, Quoted-string).
 ghost use Rattle.std.specs.Prelude.{◌≡◌, ◌+◌, ◌^◌, ◌<◌, ◌≤◌, ◌==◌, ◌||◌, length, flat_map, count_by, IfSome, IfNone};
-ghost use Rattle.relay_text.specs.Addresses.{is_atext, is_dot_string, quoted_byte, local_text_of};
+ghost use Rattle.relay_text.specs.Addresses.{is_dot_string, quoted_byte, local_text_of};
 
-/// Whether a byte may stand in a Dot-string beside the dots.
-pub(crate) fn is_atext(byte: u8) -> bool
-    ensures { result ≡ is_atext byte }
-{
-    byte.is_ascii_alphanumeric()
-        || matches!(
-            byte,
-            b'!' | b'#'
-                | b'$'
-                | b'%'
-                | b'&'
-                | b'\''
-                | b'*'
-                | b'+'
-                | b'-'
-                | b'/'
-                | b'='
-                | b'?'
-                | b'^'
-                | b'_'
-                | b'`'
-                | b'{'
-                | b'|'
-                | b'}'
-                | b'~'
-        )
-}
+use crate::class::is_atext;
 
 /// Whether a local part is written as it is.
 pub(crate) fn is_dot_string(local: &[u8]) -> bool

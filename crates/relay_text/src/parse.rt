@@ -1,5 +1,5 @@
 //! What texts spell.
-ghost use Rattle.std.specs.Prelude.{◌≡◌, ◌<◌, ◌+◌, ◌^◌, ◌++◌, length, false, true, IsTrue, IfSome, IfOk, IfErr, unwrap_or};
+ghost use Rattle.std.specs.Prelude.{◌≡◌, ◌<◌, ◌+◌, ◌^◌, ◌++◌, ◌∷◌, length, false, true, IsTrue, IfSome, IfOk, IfErr, unwrap_or};
 ghost use Rattle.relay_text.specs.Addresses.{Answers, is_address, is_origin, address_of, path_of, name_of, spelled_domain, is_bad_domain, local_of};
 ghost use Rattle.relay_text.specs.Bytes.{folded};
 ghost use Rattle.relay_text.specs.declared.fault.TextFault.TheVariants.{BadDomain};
@@ -8,19 +8,21 @@ use crate::address::Address;
 use crate::cut::Cut;
 use crate::domain::is_domain;
 use crate::fault::TextFault;
+use crate::inline_bytes::InlineBytes;
 use crate::inside::inside;
-use crate::local::local_text_len;
+use crate::local::{is_dot_string, local_text_len, written_len};
+use crate::plain::PlainText;
 use crate::text::Text;
 use std::alloc::{AllocError, Global};
 
 /// The most octets of a local part as it is written (RFC 5321 section 4.5.3.1.1).
-const MAX_LOCAL: usize = 64;
+pub(crate) const MAX_LOCAL: usize = 64;
 
 /// The most octets of a domain (RFC 5321 section 4.5.3.1.2).
-const MAX_DOMAIN: usize = 255;
+pub(crate) const MAX_DOMAIN: usize = 255;
 
 /// The most octets of a path as it is written (RFC 5321 section 4.5.3.1.3).
-const MAX_PATH: usize = 256;
+pub(crate) const MAX_PATH: usize = 256;
 
 /// The address that a text spells: a local part, plain or between quotes, and `@` with a domain, which is folded; without these
 /// two it is at the origin (RFC 5321 section 4.1.2, Mailbox). Nothing stands around it, not even white space.
@@ -37,6 +39,9 @@ pub fn parse_address(alloc: Global, bytes: &[u8], origin: &[u8]) -> Result<Addre
     ensures spelled { Answers result (address_of origin.now bytes.now) }
     ensures valid { IfOk result (λ a. IsTrue (is_address a)) }
 {
+    if let Some(plain) = PlainText::whole(bytes) {
+        return plain.address(alloc, origin);
+    }
     let cut = Cut::of(bytes);
     cut.check()?;
     let domain = domain_in(cut.rest(), origin)?;
@@ -47,11 +52,13 @@ pub fn parse_address(alloc: Global, bytes: &[u8], origin: &[u8]) -> Result<Addre
     let Ok(text) = joined(alloc, &cut, domain) else {
         return Err(TextFault::Memory);
     };
-    let written_len = local_text_len(&text[..local_len]);
+    let local = &text.as_slice()[..local_len];
+    let is_plain = is_dot_string(local);
+    let written_len = written_len(local, is_plain);
     if written_len > MAX_LOCAL || written_len + domain.len() + 3 > MAX_PATH {
         return Err(TextFault::TooLong);
     }
-    Ok(Address::from_parts(text, local_len))
+    Ok(Address::from_joined(text, local_len, is_plain))
 }
 
 /// The address that a path spells, `<`, an address text and `>`; `None` for the null path `<>` (RFC 5321 section 4.1.2, Path).
@@ -83,6 +90,9 @@ pub fn parse_path(alloc: Global, bytes: &[u8], origin: &[u8]) -> Result<Option<A
 pub fn parse_name(alloc: Global, bytes: &[u8]) -> Result<Text, TextFault>
     ensures spelled { Answers result (name_of bytes.now) }
 {
+    if let Some(plain) = PlainText::whole(bytes) {
+        return plain.name(alloc);
+    }
     let cut = Cut::of(bytes);
     cut.check()?;
     if !cut.rest().is_empty() {
@@ -91,13 +101,13 @@ pub fn parse_name(alloc: Global, bytes: &[u8]) -> Result<Text, TextFault>
     if cut.local_len() > MAX_LOCAL {
         return Err(TextFault::TooLong);
     }
-    let Ok(local) = joined(alloc, &cut, &[]) else {
+    let Ok(local) = cut.local(alloc) else {
         return Err(TextFault::Memory);
     };
-    if local_text_len(&local) > MAX_LOCAL {
+    if local_text_len(local.as_slice()) > MAX_LOCAL {
         return Err(TextFault::TooLong);
     }
-    Ok(Text::of(local))
+    Ok(Text::of_inline(local))
 }
 
 /// The domain that follows a local part, before it is folded, or else the origin.
@@ -113,15 +123,14 @@ fn domain_in<'a>(rest: &'a [u8], origin: &'a [u8]) -> Result<&'a [u8], TextFault
     }
 }
 
-/// The local part that is spelled and a domain, folded, in one buffer.
-fn joined(alloc: Global, cut: &Cut, domain: &[u8]) -> Result<Vec<u8>, AllocError>
-    requires { length (local_of cut.now) + length domain.now < 2 ^ 63 }
-    ensures { IfOk result (λ text. text.items ≡ local_of cut.now ++ folded domain.now) }
+/// The local part that is spelled, `@` and a domain, folded, in a row.
+fn joined(alloc: Global, cut: &Cut, domain: &[u8]) -> Result<InlineBytes<(), 44>, AllocError>
+    ensures { IfOk result (λ text. text.bytes ≡ local_of cut.now ++ 64 ∷ folded domain.now) }
 {
-    let local_len = cut.local_len();
-    let mut text = Vec::with_capacity(alloc, local_len + domain.len())?;
-    cut.push_local(&mut text)?;
-    text.extend_from_slice(domain)?;
-    text[local_len..].make_ascii_lowercase();
+    let mut text = cut.local(alloc)?;
+    let start = text.as_slice().len();
+    text.append(alloc, b"@")?;
+    text.append(alloc, domain)?;
+    text.fold_from(start);
     Ok(text)
 }

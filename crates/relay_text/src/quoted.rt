@@ -16,7 +16,6 @@ pub fn quoted_content(alloc: Global, text: &[u8]) -> Result<Option<Text>, AllocE
     if !cut.is_whole_string() {
         return Ok(None);
     }
-    let mut content = Vec::with_capacity(alloc, cut.local_len())?;
-    cut.push_local(&mut content)?;
-    Ok(Some(Text::of(content)))
+    let content = Text::of_inline(cut.local(alloc)?);
+    Ok(Some(content))
 }

@@ -1,9 +1,9 @@
 //! Bytes and physical lines, read in place.
 ghost use Rattle.std.specs.Prelude.{◌≡◌, ◌<◌, ◌++◌, ◌∷◌, [], length, IfSome, IfNone};
 ghost use Rattle.relay_text.specs.Bytes.{is_white, folded, trimmed, trimmed_start, trimmed_end, begins_with_word};
-ghost use Rattle.relay_text.specs.Lines.{raw_lines, line_text, is_ignored};
+ghost use Rattle.relay_text.specs.Lines.{raw_lines, physical_lines, line_text, without_cr, is_ignored};
 
-use bstr::ByteSlice;
+use crate::line_end::line_feed;
 
 /// Puts ASCII capitals into lower case, in place. Other bytes stay, as do those past 127.
 pub fn fold(bytes: &mut [u8])
@@ -72,7 +72,7 @@ pub fn split_line(bytes: &[u8]) -> Option<(&[u8], &[u8])>
     if bytes.is_empty() {
         return None;
     }
-    match bytes.find_byte(b'\n') {
+    match line_feed(bytes) {
         Some(end) => Some(bytes.split_at(end + 1)),
         None => Some(bytes.split_at(bytes.len())),
     }
@@ -82,11 +82,37 @@ pub fn split_line(bytes: &[u8]) -> Option<(&[u8], &[u8])>
 pub fn line_text(raw: &[u8]) -> &[u8]
     ensures { result.now ≡ line_text raw.now }
 {
-    let line = match raw.find_byte(b'\n') {
+    let line = match line_feed(raw) {
         Some(end) => &raw[..end],
         None => raw,
     };
-    line.strip_suffix(b"\r").unwrap_or(line)
+    without_cr(line)
+}
+
+/// The text of the first line of a text, without its end, and the rest; `None` where the text is empty. Each byte is read once.
+pub(crate) fn cut_line(bytes: &[u8]) -> Option<(&[u8], &[u8])>
+    ensures none { IfNone result (bytes.now ≡ []) }
+    ensures lines { IfSome result (λ cut. physical_lines bytes.now ≡ cut.0.now ∷ physical_lines cut.1.now) }
+    ensures shorter { IfSome result (λ cut. length cut.1.now < length bytes.now) }
+{
+    if bytes.is_empty() {
+        return None;
+    }
+    match line_feed(bytes) {
+        Some(end) => Some((without_cr(&bytes[..end]), &bytes[end + 1..])),
+        None => Some((without_cr(bytes), &bytes[bytes.len()..])),
+    }
+}
+
+/// A line without one CR at its end.
+fn without_cr(line: &[u8]) -> &[u8]
+    ensures { result.now ≡ without_cr line.now }
+{
+    let len = line.len();
+    if len == 0 || line[len - 1] != b'\r' {
+        return line;
+    }
+    &line[..len - 1]
 }
 
 /// Whether a line is ignored: empty, of white space alone, or with `#` as its first byte that isn't white (aliases(5)).

@@ -1,13 +1,13 @@
 //! A text in a field of a public type, which contracts see as its bytes.
-use crate::scan::fold;
+use crate::inline_bytes::InlineBytes;
 use std::alloc::{AllocError, Global};
 use std::default::MadeWith;
 use std::marker::Model;
 
-/// Bytes, of any value, in memory of their own.
-#[derive(Debug, Drop)]
+/// Bytes, of any value. Up to 46 of them lie in the value itself, more in memory of their own.
+#[derive(Drop)]
 pub struct Text {
-    bytes: Vec<u8>,
+    bytes: InlineBytes<(), 46>,
 }
 
 impl Model for Text {
@@ -15,7 +15,7 @@ impl Model for Text {
 
     ghost Value = { List ℕ };
 
-    ghost view = { λ a. a.bytes.items };
+    ghost view = { λ a. a.bytes.bytes };
 }
 
 /// No bytes, which takes no memory. It fills the places of a short list that hold no text.
@@ -37,6 +37,15 @@ impl Text {
     pub fn of(bytes: Vec<u8>) -> Self
         ensures { result ≡ bytes.items }
     {
+        Text {
+            bytes: InlineBytes::of((), bytes),
+        }
+    }
+
+    /// The text of these bytes.
+    pub(crate) fn of_inline(bytes: InlineBytes<(), 46>) -> Self
+        ensures { result ≡ bytes.bytes }
+    {
         Text { bytes }
     }
 
@@ -45,7 +54,7 @@ impl Text {
         ensures { IfOk result (λ text. text ≡ bytes.now) }
     {
         Ok(Text {
-            bytes: Vec::from_slice(alloc, bytes)?,
+            bytes: InlineBytes::copy_of(alloc, (), bytes)?,
         })
     }
 
@@ -53,17 +62,24 @@ impl Text {
     pub fn folded_copy_of(alloc: Global, bytes: &[u8]) -> Result<Self, AllocError>
         ensures { IfOk result (λ text. text ≡ folded bytes.now) }
     {
-        let mut bytes = Vec::from_slice(alloc, bytes)?;
-        fold(&mut bytes);
-        Ok(Text { bytes })
+        let mut text = Text::copy_of(alloc, bytes)?;
+        text.fold();
+        Ok(text)
+    }
+
+    /// Puts ASCII capitals into lower case.
+    pub fn fold(&mut self)
+        ensures { self.new ≡ folded self.old }
+    {
+        self.bytes.fold_from(0);
     }
 
     /// Puts bytes at the end. `Err` where memory runs out; the text is then as it was.
-    pub fn append(&mut self, more: &[u8]) -> Result<(), AllocError>
+    pub fn append(&mut self, alloc: Global, more: &[u8]) -> Result<(), AllocError>
         ensures ok { OnOk result (self.new ≡ self.old ++ more.now) }
         ensures err { OnErr result (self.new ≡ self.old) }
     {
-        self.bytes.extend_from_slice(more)
+        self.bytes.append(alloc, more)
     }
 
     /// The bytes in place.
@@ -73,24 +89,24 @@ impl Text {
         self.bytes.as_slice()
     }
 
-    /// The bytes as a `Vec`, without taking memory.
-    pub fn into_bytes(self) -> Vec<u8>
-        ensures { result.items ≡ self }
+    /// The bytes as a `Vec`. `Err` where memory runs out.
+    pub fn into_bytes(self, alloc: Global) -> Result<Vec<u8>, AllocError>
+        ensures { IfOk result (λ bytes. bytes.items ≡ self) }
     {
-        self.bytes
+        self.bytes.into_vec(alloc)
     }
 
     /// How many bytes there are.
     pub fn len(&self) -> usize
         ensures { result ≡ length self.now }
     {
-        self.bytes.len()
+        self.as_bytes().len()
     }
 
     /// Whether there is none.
     pub fn is_empty(&self) -> bool
         ensures { result ≡ (length self.now == 0) }
     {
-        self.bytes.is_empty()
+        self.as_bytes().is_empty()
     }
 }

@@ -2,10 +2,11 @@
 ghost use Rattle.std.specs.Prelude.{◌≡◌, ◌+◌, ◌^◌, ◌++◌, ◌∷◌, [], ◌<◌, ◌≤◌, ◌==◌, ◌||◌, List, ℕ, length, flat_map, count_by, Option, Some, None, Ok, option_map, vec_len, vec_capacity, IsTrue, IfSome, IfNone, OnOk, OnErr};
 ghost use Rattle.std.specs.List.{list_all};
 ghost use Rattle.relay_text.specs.AddressParts.{AddressParts};
+ghost use Rattle.relay_text.specs.JoinedAddresses.{address_text_of};
 ghost use Rattle.relay_text.specs.Addresses.{is_address, is_atext, is_dot_string, is_quotable, quoted_byte, path_of, path_text_of, local_text_of, name_of};
 
 use crate::address::Address;
-use crate::local::{is_dot_string, local_text_len, needs_escape, quoted_len, written_len};
+use crate::local::{is_dot_string, local_text_len, needs_escape, quoted_len};
 use std::alloc::AllocError;
 
 /// Writes bytes into room that is there.
@@ -35,19 +36,33 @@ fn put_quoted(local: &[u8], out: &mut Vec<u8>)
     out.push_reserved(b'"');
 }
 
-/// Writes a local part into room that is there.
-fn put_local(local: &[u8], is_plain: bool, out: &mut Vec<u8>)
-    requires room { vec_len out.old + length (local_text_of local.now) ≤ vec_capacity out.old }
-    requires plain { is_plain ≡ is_dot_string local.now }
-    ensures items { out.new.items ≡ out.old.items ++ local_text_of local.now }
-    ensures len { vec_len out.new ≡ vec_len out.old + length (local_text_of local.now) }
+/// How many octets stand between the brackets of a path: at most 254 (RFC 5321 section 4.5.3.1.3).
+#[tactic(auto, using(crate::proofs::JoinedAddresses::address_text_plain, crate::proofs::JoinedAddresses::address_text_length))]
+fn inner_len(address: &Address) -> usize
+    ensures value { result ≡ length (address_text_of address.now) }
+    ensures fits { result ≤ 254 }
+{
+    if address.is_plain() {
+        return address.joined().len();
+    }
+    local_text_len(address.local()) + address.domain().len() + 1
+}
+
+/// Writes what stands between the brackets of a path into room that is there.
+#[tactic(auto, using(crate::proofs::JoinedAddresses::address_text_plain, crate::proofs::JoinedAddresses::address_text_quoted))]
+fn put_address(address: &Address, out: &mut Vec<u8>)
+    requires { vec_len out.old + length (address_text_of address.now) ≤ vec_capacity out.old }
+    ensures items { out.new.items ≡ out.old.items ++ address_text_of address.now }
+    ensures len { vec_len out.new ≡ vec_len out.old + length (address_text_of address.now) }
     ensures capacity { vec_capacity out.old ≤ vec_capacity out.new }
 {
-    if is_plain {
-        put_bytes(local, out);
-    } else {
-        put_quoted(local, out);
+    if address.is_plain() {
+        put_bytes(address.joined(), out);
+        return;
     }
+    put_quoted(address.local(), out);
+    out.push_reserved(b'@');
+    put_bytes(address.domain(), out);
 }
 
 /// How many octets `write_path` writes of an address, with `<`, `@` and `>`: 2 where there is none, and at most 256
@@ -57,7 +72,7 @@ pub fn path_len(address: Option<&Address>) -> usize
 {
     match address {
         None => 2,
-        Some(address) => local_text_len(address.local()) + address.domain().len() + 3,
+        Some(address) => inner_len(address) + 2,
     }
 }
 
@@ -90,14 +105,9 @@ pub fn write_path(address: Option<&Address>, out: &mut Vec<u8>) -> Result<(), Al
     let Some(address) = address else {
         return out.extend_from_slice(b"<>");
     };
-    let local = address.local();
-    let domain = address.domain();
-    let is_plain = is_dot_string(local);
-    out.reserve(written_len(local, is_plain) + domain.len() + 3)?;
+    out.reserve(inner_len(address) + 2)?;
     out.push_reserved(b'<');
-    put_local(local, is_plain, out);
-    out.push_reserved(b'@');
-    put_bytes(domain, out);
+    put_address(address, out);
     out.push_reserved(b'>');
     Ok(())
 }

@@ -8,14 +8,6 @@ mod lengths;
 pub mod plan;
 mod reading;
 pub mod scripts;
-#[cfg(test)]
-mod tests_findings;
-#[cfg(test)]
-mod tests_plans;
-#[cfg(test)]
-mod tests_scripts;
-#[cfg(test)]
-mod tests_values;
 pub mod wire;
 mod words;
 mod writing;

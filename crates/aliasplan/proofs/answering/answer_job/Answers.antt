@@ -11,3 +11,8 @@ pub returns-in_err-plan-clause-refused : goal.returns-in_err-plan-clause-refused
 returns-in_err-plan-clause-refused g c =
     let p = err_from_is_err_and c.from_residual-in_err-plan.result c.from_residual-in_err-plan.ensures.1 in
     rw (p.1, p.2) (refuses_job c.args.limits c.args.input.now c.requires.input c.in_ok-job.job c.in_ok-job.ensures c.in_err-plan.field-0.0 c.in_err-plan.ensures.refused)
+
+pub returns-in_err-summary-clause-refused : goal.returns-in_err-summary-clause-refused
+returns-in_err-summary-clause-refused g c =
+    let p = err_from_is_err_and c.from_residual-in_err-summary.result c.from_residual-in_err-summary.ensures.1 in
+    rw (p.1, p.2, c.in_err-summary.ensures.memory) tt

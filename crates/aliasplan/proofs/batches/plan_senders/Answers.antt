@@ -29,6 +29,7 @@ loop-under-preserved c =
           ∙ ap (λ ts. ts ++ flat_map (batches_of job) (map (group_of job (option_copied c.sender-sender.result)) (lanes_of x.lanes))) (c.loop-under.invariant.batches (λ y has. routed y (Contains-append_left done (x ∷ []) y has)))
           ∙ ap (λ sender. made ++ flat_map (batches_of job) (map (group_of job sender) (lanes_of x.lanes))) is
           ∙ flat_maps_push (batches_of job) (sender_groups job c.args.graph.now) done x;
+      kept = c.put_lanes.ensures.kept ∙ c.loop-under.invariant.kept;
       sorted = λ y has. elim (Contains-push_cases done x y has) [ inl old ↦ c.loop-under.invariant.sorted y old | inr here ↦ subst P here c.in_ok-put_lanes.ensures.sorted ];
     }
 

@@ -9,5 +9,6 @@ use Rattle.aliasplan.proofs.batches.plan_senders.Given as goal
 abbrev pub invariant-loop-under : goal.invariant-loop-under
 invariant-loop-under l = record {
   batches : AreAllRouted l.job l.yielded → l.transactions.items ≡ flat_map (batches_of l.job) (flat_map (sender_groups l.job l.graph) l.yielded);
+  kept : l.router ≡ l.initial.router;
   sorted : (x : SenderLanes) → Contains l.yielded x → AreSorted x.lanes;
 }

@@ -9,4 +9,4 @@ returns-clause-batches c =
     (λ made_by.
     lane_batches c.args.job.now c.args.router.now (option_copied c.args.sender) c.args.lane c.limit_for-limit.result c.in_ok-addresses.addresses.items c.args.transactions.now.items c.put_parts.new.transactions.items
     c.requires.router c.limit_for-limit.ensures c.in_ok-addresses.ensures.all made_by)
-    c.put_parts.ensures
+    c.put_parts.ensures.transactions

@@ -18,5 +18,6 @@ loop-lane-preserved c =
           c.in_ok-put_lane.ensures.batches (routed lane (Contains-push done lane))
           ∙ ap (λ ts. ts ++ batches_of c.args.job.now (group lane)) (c.loop-lane.invariant.batches (λ l has. routed l (Contains-append_left done (lane ∷ []) l has)))
           ∙ flat_map_push (batches_of c.args.job.now) group c.args.transactions.now.items done lane;
+      kept = c.put_lane.ensures.kept ∙ c.loop-lane.invariant.kept;
       in_order = λ l has. elim (Contains-push_cases done lane l has) [ inl old ↦ c.loop-lane.invariant.in_order l old | inr here ↦ subst P here c.in_ok-put_lane.ensures.in_order ];
     }

@@ -9,5 +9,6 @@ use Rattle.aliasplan.proofs.batches.put_lanes.Given as goal
 abbrev pub invariant-loop-lane : goal.invariant-loop-lane
 invariant-loop-lane l = record {
   batches : AreRouted l.job l.yielded → l.transactions.items ≡ l.initial.transactions.items ++ flat_map (batches_of l.job) (map (group_of l.job (option_copied l.sender)) l.yielded);
+  kept : l.router ≡ l.initial.router;
   in_order : (lane : Lane) → Contains l.yielded lane → AreInOrder lane.to;
 }

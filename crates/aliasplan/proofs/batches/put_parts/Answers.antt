@@ -4,6 +4,7 @@ use Rattle.std.proofs.lemmas.List.{length_push, map-id}
 use Rattle.std.proofs.lemmas.Iterator.Adapters.{YieldsList-from_vec}
 use Rattle.std.proofs.lemmas.Iterator.Consumers.{YieldsList-end}
 use Rattle.relay_rings.specs.Batches.{parts_of}
+use Rattle.relay_routes.specs.Routes.{route_to}
 use Rattle.aliasplan.specs.Lanes.{planned_by}
 use Rattle.aliasplan.proofs.BatchFacts.{kept, begun, made_all}
 use Rattle.aliasplan.proofs.batches.put_parts.Goals as goal
@@ -20,11 +21,12 @@ loop-address-preserved c =
           record {
             short = omega (arith, longer, ap length empty, c.requires.limit);
             some = λ more. omega (arith, longer);
+            kept = w.router-is ∙ w.plan_part.ensures.kept ∙ c.loop-address.invariant.kept;
             batches = λ route routed.
                 begun (planned_by (option_copied c.args.sender) route) c.args.limit c.args.transactions.now.items c.loop-address.transactions.items c.if-len-limit.transactions.items
                 c.loop-address.part.items c.if-len-limit.part.items c.push-in-loop-address.new.self.items c.loop-address.yielded c.in-Some.address
                 c.requires.limit full (c.loop-address.invariant.batches route routed)
-                (ap (λ v. v.items) w.transactions-is ∙ w.in_ok-push.ensures.items ∙ ap (λ p. c.loop-address.transactions.items ++ p ∷ []) (w.in_ok-plan_part.ensures route routed))
+                (ap (λ v. v.items) w.transactions-is ∙ w.in_ok-push.ensures.items ∙ ap (λ p. c.loop-address.transactions.items ++ p ∷ []) (w.in_ok-plan_part.ensures.transaction route (ap (λ r. route_to r c.args.to.now.transport c.args.to.now.nexthop) c.loop-address.invariant.kept ∙ routed)))
                 empty pushed;
           }
       | else-len-limit w ↦
@@ -32,6 +34,7 @@ loop-address-preserved c =
           record {
             short = omega (arith, longer, ap length same);
             some = λ more. omega (arith, longer);
+            kept = w.router-is ∙ c.loop-address.invariant.kept;
             batches = λ route routed.
                 kept (planned_by (option_copied c.args.sender) route) c.args.limit c.args.transactions.now.items c.loop-address.transactions.items c.if-len-limit.transactions.items
                 c.loop-address.part.items c.if-len-limit.part.items c.push-in-loop-address.new.self.items c.loop-address.yielded c.in-Some.address
@@ -39,8 +42,8 @@ loop-address-preserved c =
           }
     ]
 
-pub returns : goal.returns
-returns c =
+pub returns-clause-transactions : goal.returns-clause-transactions
+returns-clause-transactions c =
     λ route routed.
     let f = planned_by (option_copied c.args.sender) route in
     let given = c.into_iter-address-iterator.ensures.into_iter_gives in
@@ -49,7 +52,7 @@ returns c =
     let whole : c.loop-address.yielded ≡ c.args.addresses.items = sym (map-id c.loop-address.yielded) ∙ ended.0 in
     let long : 0 < length c.loop-address.yielded = omega (arith, ap length whole, c.requires.some) in
     c.in_ok-push-3.ensures.items
-    ∙ ap (λ p. c.loop-address.transactions.items ++ p ∷ []) (c.in_ok-last.ensures route routed)
+    ∙ ap (λ p. c.loop-address.transactions.items ++ p ∷ []) (c.in_ok-last.ensures.transaction route (ap (λ r. route_to r c.args.to.now.transport c.args.to.now.nexthop) c.loop-address.invariant.kept ∙ routed))
     ∙ made_all f c.args.limit c.args.transactions.now.items c.loop-address.transactions.items c.loop-address.part.items c.loop-address.yielded
     (c.loop-address.invariant.batches route routed) c.requires.limit (c.loop-address.invariant.some long) c.loop-address.invariant.short
     ∙ ap (λ xs. c.args.transactions.now.items ++ map f (parts_of c.args.limit xs)) whole

@@ -10,4 +10,4 @@ returns-clause-lines c =
     rw (← c.as_bytes-nexthop.ensures)
     (lines_answered c.add_routed.result c.route_to-answer.result (route_to router c.args.to.now.transport c.as_bytes-nexthop.result.now) c.args.address.now
     (λ (q : List ℕ). IsTrue (has_text c.args.lines.now q)) (λ (q : List ℕ). IsTrue (has_text c.add_routed.new.lines q))
-    c.route_to-answer.ensures c.add_routed.ensures.memory c.add_routed.ensures.lines)
+    c.route_to-answer.ensures.answer c.add_routed.ensures.memory c.add_routed.ensures.lines)

@@ -29,6 +29,7 @@ loop-pair-preserved c =
     let at = c.node-node.ensures in
     record {
       len = length-set items pair.sender y ∙ c.loop-pair.invariant.len;
+      kept = c.add_node.ensures.kept ∙ c.loop-pair.invariant.kept;
       numbers = numbered_set items pair.sender y numbered c.loop-pair.invariant.numbers;
       stops = λ s t n a.
           some_first (IsStopOfPair job g s t n a) pairs i pair (HasStopUnder items s t n a) (HasStopUnder (set items pair.sender y) s t n a) inside here
@@ -66,5 +67,5 @@ add_node-requires-clause-routed c =
     let pair = get_or c.args.pairs.now i first in
     let x = c.index_mut-under.result.now in
     let within : pair.sender < length items = omega (arith, c.loop-pair.invariant.len, c.in_ok-by_sender.ensures.len, c.sender_count.ensures.above i first c.loop-pair-test.true) in
-    rw (c.requires.router)
+    rw (c.loop-pair.invariant.kept ∙ c.requires.router)
     (stops_routed c.args.job.now c.args.graph.now (take i c.args.pairs.now) items x (pair.sender, within, sym c.index_mut-under.ensures.value) c.loop-pair.invariant.stops)

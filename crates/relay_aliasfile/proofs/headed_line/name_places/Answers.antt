@@ -13,8 +13,8 @@ loop-line-preserved c =
     let places = c.loop-line.places in
     elim c.match-line.branch [
       | in-Some+in_ok-push w ↦
-          w.places-is ∙ w.in_ok-push.ensures.ok ∙ ap (λ n. places ++ n ∷ []) w.as_slice.ensures.value
-          ∙ names_more headed i x places w.in-Some.heading.name.items (omega arith) c.line-item.is
+          w.places-is ∙ w.in_ok-push.ensures.ok ∙ ap (λ n. places ++ n ∷ []) w.as_bytes.ensures
+          ∙ names_more headed i x places w.in-Some.heading.name (omega arith) c.line-item.is
           (sym (ap (λ h. option_map heading_name (option_map heading_value h)) w.in-Some.is)) c.loop-line.invariant
       | in_default w ↦
           w.places-is

@@ -70,3 +70,13 @@ returns c =
     })
     (c.in_ok-envelope.ensures.sender ∙ ap (λ (o : List ℕ). sender_of o (commands_at c.section-2.result)) c.as_bytes.ensures)
     (c.in_ok-envelope.ensures.recipients ∙ ap (λ (o : List ℕ). recipients_of o (drop 1 (commands_at c.section-2.result))) c.as_bytes.ensures)
+
+pub returns-in_err-transport : goal.returns-in_err-transport
+returns-in_err-transport c =
+    let p = err_from_is_err_and c.from_residual-in_err-transport.result c.from_residual-in_err-transport.ensures.1 in
+    rw (p.1, p.2) tt
+
+pub returns-in_err-mx : goal.returns-in_err-mx
+returns-in_err-mx c =
+    let p = err_from_is_err_and c.from_residual-in_err-mx.result c.from_residual-in_err-mx.ensures.1 in
+    rw (p.1, p.2) tt

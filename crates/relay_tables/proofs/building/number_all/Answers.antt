@@ -55,7 +55,7 @@ returns-clause-rows c =
     let given : IsFor d s = search rules in
     let start = start_is d rs c.args.names _ _ s c.in_ok-numbering.ensures.made given in
     rows_made d rs c.args.names s c.number_aliases.new.names c.number_includes.new.names c.number_recipients.new.names _ c.number_aliases.new.rows c.number_includes.new.rows c.in_ok-roots.roots.items _
-    start c.in_ok-number_aliases.ensures.numbers c.in_ok-number_includes.ensures.numbers c.in_ok-roots.ensures.numbers c.new-children.ensures
+    start c.in_ok-number_aliases.ensures.numbers c.in_ok-number_includes.ensures.numbers c.in_ok-roots.ensures.numbers c.in_ok-children.ensures
     c.in_ok-number_aliases.ensures.rows c.in_ok-number_includes.ensures.rows c.in_ok-roots.ensures.roots c.into_nodes.ensures.nodes
 
 pub returns-clause-within : goal.returns-clause-within

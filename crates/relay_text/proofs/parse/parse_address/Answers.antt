@@ -1,9 +1,13 @@
-use Rattle.std.proofs.Common.{◌++◌, ◌∙◌, sym, ap, arith, Err, Ok, length}
+use Rattle.std.proofs.Common.{◌++◌, ◌∷◌, ◌∙◌, sym, ap, subst, arith, Err, Ok, length}
+use Rattle.std.specs.Bool.{IsTrue}
 use Rattle.std.proofs.lemmas.Result.{err_from_is_err_and}
-use Rattle.relay_text.specs.Addresses.{local_of, local_cut, is_bad_domain, spelled_domain}
+use Rattle.relay_text.specs.AddressParts.{AddressParts}
+use Rattle.relay_text.specs.Addresses.{local_of, local_cut, is_bad_domain, spelled_domain, is_address}
+use Rattle.relay_text.specs.JoinedAddresses.{joined_text_of}
 use Rattle.relay_text.specs.Bytes.{folded}
 use Rattle.relay_text.proofs.Faults.{answers_fault, address-local_fault, address-domain_fault}
-use Rattle.relay_text.proofs.Limits.{check_of, read_of, origin_parts, fault_long_local, fault_long_domain, fault_long_written, fault_long_path, address_of-read, is_address-read, parts_of, written_is}
+use Rattle.relay_text.proofs.Limits.{check_of, read_of, origin_parts, fault_long_local, fault_long_domain, fault_long_written, fault_long_path, address_of-read, is_address-read, written_is}
+use Rattle.relay_text.proofs.JoinedAddresses.{row_parts}
 use Rattle.relay_text.proofs.parse.parse_address.Goals as goal
 use Rattle.relay_text.proofs.parse.parse_address.Goals.{then-local_len-gt-MAX_LOCAL-via-then-local_len-gt-MAX_LOCAL, then-local_len-gt-MAX_LOCAL-via-else-local_len-gt-MAX_LOCAL+then-domain-gt-MAX_DOMAIN, then-written_len-gt-MAX_LOCAL-via-then-written_len-gt-MAX_LOCAL, then-written_len-gt-MAX_LOCAL-via-else-written_len-gt-MAX_LOCAL+then-written_len-domain-gt-MAX_PATH}
 
@@ -36,31 +40,39 @@ pub returns-then-written_len-gt-MAX_LOCAL-clause-spelled : goal.returns-then-wri
 returns-then-written_len-gt-MAX_LOCAL-clause-spelled c =
     let passes = check_of c.of-cut.result (local_cut c.args.bytes.now) c.check.result _ c.of-cut.ensures c.check.ensures c.in_ok-check.was in
     let read = read_of c.args.origin.now c.args.bytes.now c.in_ok-domain.domain.now c.rest.result.now c.of-cut.result c.requires c.of-cut.ensures passes c.rest.ensures c.in_ok-domain.ensures.ok in
-    let items = c.in-Ok.ensures ∙ ap (λ k. local_of k ++ folded c.in_ok-domain.domain.now) c.of-cut.ensures in
+    let items = c.in-Ok.ensures ∙ ap (λ k. local_of k ++ 64 ∷ folded c.in_ok-domain.domain.now) c.of-cut.ensures in
     let len = c.local_len-local_len.ensures ∙ ap (λ k. length (local_of k)) c.of-cut.ensures in
-    let written = written_is c.in-Ok.text.items c.deref.result.now (local_of (local_cut c.args.bytes.now)) (folded c.in_ok-domain.domain.now) c.local_len-local_len.result c.local_text_len-written_len.result items c.deref.ensures.value len c.local_text_len-written_len.ensures in
+    let written = written_is c.in-Ok.text.bytes c.as_slice.result.now (local_of (local_cut c.args.bytes.now)) (64 ∷ folded c.in_ok-domain.domain.now) c.local_len-local_len.result c.written_len-written_len.result items c.as_slice.ensures len c.written_len-written_len.ensures in
     elim c.then-written_len-gt-MAX_LOCAL.branch [
-      | then-written_len-gt-MAX_LOCAL-via-then-written_len-gt-MAX_LOCAL w ↦ fault_long_written _ _ _ c.local_text_len-written_len.result read written w.if-written_len-gt-MAX_LOCAL.true
-      | then-written_len-gt-MAX_LOCAL-via-else-written_len-gt-MAX_LOCAL+then-written_len-domain-gt-MAX_PATH w ↦ fault_long_path _ _ _ c.local_text_len-written_len.result read written (omega (arith, w.if-written_len-gt-MAX_LOCAL.false)) w.if-written_len-domain-gt-MAX_PATH.true
+      | then-written_len-gt-MAX_LOCAL-via-then-written_len-gt-MAX_LOCAL w ↦ fault_long_written _ _ _ c.written_len-written_len.result read written w.if-written_len-gt-MAX_LOCAL.true
+      | then-written_len-gt-MAX_LOCAL-via-else-written_len-gt-MAX_LOCAL+then-written_len-domain-gt-MAX_PATH w ↦ fault_long_path _ _ _ c.written_len-written_len.result read written (omega (arith, w.if-written_len-gt-MAX_LOCAL.false)) w.if-written_len-domain-gt-MAX_PATH.true
     ]
 
-pub from_parts-requires-clause-valid : goal.from_parts-requires-clause-valid
-from_parts-requires-clause-valid c =
+pub from_joined-requires-clause-joined : goal.from_joined-requires-clause-joined
+from_joined-requires-clause-joined c =
+    let items = c.in-Ok.ensures ∙ ap (λ k. local_of k ++ 64 ∷ folded c.in_ok-domain.domain.now) c.of-cut.ensures in
+    let len = c.local_len-local_len.ensures ∙ ap (λ k. length (local_of k)) c.of-cut.ensures in
+    let parts = row_parts c.in-Ok.text.bytes (local_of (local_cut c.args.bytes.now)) (folded c.in_ok-domain.domain.now) c.local_len-local_len.result items len in
+    items ∙ sym (ap joined_text_of parts)
+
+pub from_joined-requires-clause-valid : goal.from_joined-requires-clause-valid
+from_joined-requires-clause-valid c =
     let passes = check_of c.of-cut.result (local_cut c.args.bytes.now) c.check.result _ c.of-cut.ensures c.check.ensures c.in_ok-check.was in
     let read = read_of c.args.origin.now c.args.bytes.now c.in_ok-domain.domain.now c.rest.result.now c.of-cut.result c.requires c.of-cut.ensures passes c.rest.ensures c.in_ok-domain.ensures.ok in
-    let items = c.in-Ok.ensures ∙ ap (λ k. local_of k ++ folded c.in_ok-domain.domain.now) c.of-cut.ensures in
+    let items = c.in-Ok.ensures ∙ ap (λ k. local_of k ++ 64 ∷ folded c.in_ok-domain.domain.now) c.of-cut.ensures in
     let len = c.local_len-local_len.ensures ∙ ap (λ k. length (local_of k)) c.of-cut.ensures in
-    let written = written_is c.in-Ok.text.items c.deref.result.now (local_of (local_cut c.args.bytes.now)) (folded c.in_ok-domain.domain.now) c.local_len-local_len.result c.local_text_len-written_len.result items c.deref.ensures.value len c.local_text_len-written_len.ensures in
-    let parts = parts_of c.in-Ok.text.items (local_of (local_cut c.args.bytes.now)) (folded c.in_ok-domain.domain.now) c.local_len-local_len.result items len in
-    rw (parts.0, parts.1) (is_address-read _ _ _ c.local_text_len-written_len.result read written (omega (arith, c.if-domain-gt-MAX_DOMAIN.false)) (omega (arith, c.if-written_len-gt-MAX_LOCAL.false)) (omega (arith, c.if-written_len-domain-gt-MAX_PATH.false)))
+    let written = written_is c.in-Ok.text.bytes c.as_slice.result.now (local_of (local_cut c.args.bytes.now)) (64 ∷ folded c.in_ok-domain.domain.now) c.local_len-local_len.result c.written_len-written_len.result items c.as_slice.ensures len c.written_len-written_len.ensures in
+    let parts = row_parts c.in-Ok.text.bytes (local_of (local_cut c.args.bytes.now)) (folded c.in_ok-domain.domain.now) c.local_len-local_len.result items len in
+    let P : AddressParts → Type 0 = λ p. IsTrue (is_address p) in
+    subst P (sym parts) (is_address-read _ _ _ c.written_len-written_len.result read written (omega (arith, c.if-domain-gt-MAX_DOMAIN.false)) (omega (arith, c.if-written_len-gt-MAX_LOCAL.false)) (omega (arith, c.if-written_len-domain-gt-MAX_PATH.false)))
 
 pub returns-clause-spelled : goal.returns-clause-spelled
 returns-clause-spelled c =
     let passes = check_of c.of-cut.result (local_cut c.args.bytes.now) c.check.result _ c.of-cut.ensures c.check.ensures c.in_ok-check.was in
     let read = read_of c.args.origin.now c.args.bytes.now c.in_ok-domain.domain.now c.rest.result.now c.of-cut.result c.requires c.of-cut.ensures passes c.rest.ensures c.in_ok-domain.ensures.ok in
-    let items = c.in-Ok.ensures ∙ ap (λ k. local_of k ++ folded c.in_ok-domain.domain.now) c.of-cut.ensures in
+    let items = c.in-Ok.ensures ∙ ap (λ k. local_of k ++ 64 ∷ folded c.in_ok-domain.domain.now) c.of-cut.ensures in
     let len = c.local_len-local_len.ensures ∙ ap (λ k. length (local_of k)) c.of-cut.ensures in
-    let written = written_is c.in-Ok.text.items c.deref.result.now (local_of (local_cut c.args.bytes.now)) (folded c.in_ok-domain.domain.now) c.local_len-local_len.result c.local_text_len-written_len.result items c.deref.ensures.value len c.local_text_len-written_len.ensures in
-    let parts = parts_of c.in-Ok.text.items (local_of (local_cut c.args.bytes.now)) (folded c.in_ok-domain.domain.now) c.local_len-local_len.result items len in
-    address_of-read _ _ _ c.local_text_len-written_len.result read written (omega (arith, c.if-domain-gt-MAX_DOMAIN.false)) (omega (arith, c.if-written_len-gt-MAX_LOCAL.false)) (omega (arith, c.if-written_len-domain-gt-MAX_PATH.false))
-    ∙ ap (λ a. Ok a) (cc)
+    let written = written_is c.in-Ok.text.bytes c.as_slice.result.now (local_of (local_cut c.args.bytes.now)) (64 ∷ folded c.in_ok-domain.domain.now) c.local_len-local_len.result c.written_len-written_len.result items c.as_slice.ensures len c.written_len-written_len.ensures in
+    let parts = row_parts c.in-Ok.text.bytes (local_of (local_cut c.args.bytes.now)) (folded c.in_ok-domain.domain.now) c.local_len-local_len.result items len in
+    address_of-read _ _ _ c.written_len-written_len.result read written (omega (arith, c.if-domain-gt-MAX_DOMAIN.false)) (omega (arith, c.if-written_len-gt-MAX_LOCAL.false)) (omega (arith, c.if-written_len-domain-gt-MAX_PATH.false))
+    ∙ ap (λ a. Ok a) (sym parts ∙ sym c.from_joined.ensures)

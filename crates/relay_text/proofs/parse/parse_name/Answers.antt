@@ -1,5 +1,4 @@
 use Rattle.std.proofs.Common.{◌≡◌, ◌∙◌, sym, ap, refl, arith, Ok, length}
-use Rattle.std.proofs.lemmas.List.{append-nil}
 use Rattle.std.proofs.lemmas.Result.{err_from_is_err_and}
 use Rattle.relay_text.specs.Addresses.{local_of, local_cut, local_text_of}
 use Rattle.relay_text.proofs.Faults.{answers_fault, name-local_fault, name-domain_fault, name-too_long, name-ok}
@@ -31,14 +30,14 @@ pub returns-then-local_text_len-gt-MAX_LOCAL : goal.returns-then-local_text_len-
 returns-then-local_text_len-gt-MAX_LOCAL c =
     let passes = check_of c.of-cut.result (local_cut c.args.bytes.now) c.check.result _ c.of-cut.ensures c.check.ensures c.in_ok-check.was in
     let rest = rest_is c.args.bytes.now c.rest.result.now c.of-cut.result _ c.of-cut.ensures c.rest.ensures (sym c.is_empty.ensures ∙ c.if-not-is_empty.false) in
-    let items = c.in-Ok.ensures ∙ append-nil (local_of c.of-cut.result) ∙ ap local_of c.of-cut.ensures in
-    let written = c.local_text_len.ensures ∙ ap (λ xs. length (local_text_of xs)) (c.deref.ensures.value ∙ items) in
+    let items = c.in-Ok.ensures ∙ ap local_of c.of-cut.ensures in
+    let written = c.local_text_len.ensures ∙ ap (λ xs. length (local_text_of xs)) (c.as_slice.ensures ∙ items) in
     record { spelled = name-too_long c.args.bytes.now passes rest (local_too_long (local_of (local_cut c.args.bytes.now)) c.local_text_len.result written c.if-local_text_len-gt-MAX_LOCAL.true) }
 
 pub returns : goal.returns
 returns c =
     let passes = check_of c.of-cut.result (local_cut c.args.bytes.now) c.check.result _ c.of-cut.ensures c.check.ensures c.in_ok-check.was in
     let rest = rest_is c.args.bytes.now c.rest.result.now c.of-cut.result _ c.of-cut.ensures c.rest.ensures (sym c.is_empty.ensures ∙ c.if-not-is_empty.false) in
-    let items = c.in-Ok.ensures ∙ append-nil (local_of c.of-cut.result) ∙ ap local_of c.of-cut.ensures in
-    let written = c.local_text_len.ensures ∙ ap (λ xs. length (local_text_of xs)) (c.deref.ensures.value ∙ items) in
-    record { spelled = name-ok c.args.bytes.now passes rest (local_fits (local_of (local_cut c.args.bytes.now)) c.local_text_len.result written c.if-local_text_len-gt-MAX_LOCAL.false) ∙ ap (λ x. Ok x) (sym (c.of.ensures ∙ items)) }
+    let items = c.in-Ok.ensures ∙ ap local_of c.of-cut.ensures in
+    let written = c.local_text_len.ensures ∙ ap (λ xs. length (local_text_of xs)) (c.as_slice.ensures ∙ items) in
+    record { spelled = name-ok c.args.bytes.now passes rest (local_fits (local_of (local_cut c.args.bytes.now)) c.local_text_len.result written c.if-local_text_len-gt-MAX_LOCAL.false) ∙ ap (λ x. Ok x) (sym (c.of_inline.ensures ∙ items)) }

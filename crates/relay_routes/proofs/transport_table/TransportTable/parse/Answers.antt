@@ -9,5 +9,5 @@ loop-line-preserved c =
 
 pub returns : goal.returns
 returns c =
-    lines_done c.args.bytes.now c.in_ok-lines.lines c.loop-line.table c.in_ok-table.table c.as_slice.result.now c.as_slice-line-items.result.now c.loop-line.line-index
-    c.in_ok-lines.ensures c.as_slice.ensures c.as_slice-line-items.ensures c.in_ok-table.ensures c.loop-line-test.false c.loop-line.invariant
+    lines_done c.args.bytes.now c.in_ok-lines.lines c.loop-line.table c.in_ok-table.table c.as_slice-orphans.result.now c.as_slice-line-items.result.now c.loop-line.line-index
+    c.in_ok-lines.ensures c.as_slice-orphans.ensures c.as_slice-line-items.ensures c.in_ok-table.ensures c.loop-line-test.false c.loop-line.invariant

@@ -10,7 +10,7 @@ returns-in-Alias-clause-number c =
     let i = c.self.inside in
     let leads : node_of c.args.lead ≡ Alias c.in-Alias.number = ap node_of c.in-Alias.is in
     let below : c.in-Alias.number < c.args.self.now.aliases = rw leads at c.requires in
-    let at = alias_at i.nodes.items i.aliases i.includes i.limit i.texts.keys i.texts.limit c.self.invariant c.in-Alias.number (rw (← c.self.view_is) at below) in
+    let at = alias_at i.nodes.items i.aliases i.includes i.limit i.key i.links c.self.invariant c.in-Alias.number (rw (← c.self.view_is) at below) in
     rw (leads, ← c.self.view_is) at
 
 pub returns-in-Alias-clause-numbers : goal.returns-in-Alias-clause-numbers
@@ -18,8 +18,8 @@ returns-in-Alias-clause-numbers c =
     let i = c.self.inside in
     let leads : node_of c.args.lead ≡ Alias c.in-Alias.number = ap node_of c.in-Alias.is in
     let below : c.in-Alias.number < c.args.self.now.aliases = rw leads at c.requires in
-    let at = alias_at i.nodes.items i.aliases i.includes i.limit i.texts.keys i.texts.limit c.self.invariant c.in-Alias.number (rw (← c.self.view_is) at below) in
-    let stays = there_stays i.nodes.items i.aliases i.includes i.limit i.texts.keys i.texts.limit c.self.invariant c.in-Alias.number (Alias c.in-Alias.number) at in
+    let at = alias_at i.nodes.items i.aliases i.includes i.limit i.key i.links c.self.invariant c.in-Alias.number (rw (← c.self.view_is) at below) in
+    let stays = there_stays i.nodes.items i.aliases i.includes i.limit i.key i.links c.self.invariant c.in-Alias.number (Alias c.in-Alias.number) at in
     let viewed : List Node → Numbered = λ ns. record { nodes = ns; aliases = i.aliases; includes = i.includes; limit = i.limit } in
     rw (leads, ← c.self.view_is) (ap viewed (sym stays))
 
@@ -28,7 +28,7 @@ returns-in-Include-clause-number c =
     let i = c.self.inside in
     let leads : node_of c.args.lead ≡ Include c.in-Include.number = ap node_of c.in-Include.is in
     let below : c.in-Include.number < c.args.self.now.includes = rw leads at c.requires in
-    let at = include_at i.nodes.items i.aliases i.includes i.limit i.texts.keys i.texts.limit c.self.invariant c.in-Include.number (rw (← c.self.view_is) at below) in
+    let at = include_at i.nodes.items i.aliases i.includes i.limit i.key i.links c.self.invariant c.in-Include.number (rw (← c.self.view_is) at below) in
     rw (leads, ← c.self.view_is) at
 
 pub returns-in-Include-clause-numbers : goal.returns-in-Include-clause-numbers
@@ -36,7 +36,7 @@ returns-in-Include-clause-numbers c =
     let i = c.self.inside in
     let leads : node_of c.args.lead ≡ Include c.in-Include.number = ap node_of c.in-Include.is in
     let below : c.in-Include.number < c.args.self.now.includes = rw leads at c.requires in
-    let at = include_at i.nodes.items i.aliases i.includes i.limit i.texts.keys i.texts.limit c.self.invariant c.in-Include.number (rw (← c.self.view_is) at below) in
-    let stays = there_stays i.nodes.items i.aliases i.includes i.limit i.texts.keys i.texts.limit c.self.invariant (i.aliases + c.in-Include.number) (Include c.in-Include.number) at in
+    let at = include_at i.nodes.items i.aliases i.includes i.limit i.key i.links c.self.invariant c.in-Include.number (rw (← c.self.view_is) at below) in
+    let stays = there_stays i.nodes.items i.aliases i.includes i.limit i.key i.links c.self.invariant (i.aliases + c.in-Include.number) (Include c.in-Include.number) at in
     let viewed : List Node → Numbered = λ ns. record { nodes = ns; aliases = i.aliases; includes = i.includes; limit = i.limit } in
     rw (leads, ← c.self.view_is) (ap viewed (sym stays))

@@ -2,8 +2,8 @@ use Rattle.std.proofs.Common.{rules, arith, ◌≡◌, ℕ, Some, None, List, []
 use Rattle.std.specs.Str.{bytes_eq}
 use Rattle.relay_chains.specs.Keys.{number_of}
 use Rattle.relay_tables.specs.Sending.{sender_key}
-use Rattle.relay_tables.proofs.Numbers.{interned, last_is}
-use Rattle.relay_tables.proofs.SenderSteps.{sender_found, sender_new}
+use Rattle.relay_tables.proofs.Numbers.{last_is}
+use Rattle.relay_tables.proofs.SenderSteps.{interned, sender_found, sender_new}
 use Rattle.relay_tables.proofs.sending.SenderList.put.Goals as goal
 
 pub returns-in-Some-clause-number : goal.returns-in-Some-clause-number

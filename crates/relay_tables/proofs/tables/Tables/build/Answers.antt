@@ -1,8 +1,8 @@
-use Rattle.std.proofs.Common.{◌≡◌, ℕ, List, length, map, position, ap, ◌∙◌, sym, arith}
-use Rattle.std.specs.Str.{bytes_eq}
+use Rattle.std.proofs.Common.{◌≡◌, ℕ, List, length, map, ap, ◌∙◌, sym, arith}
+use Rattle.relay_chains.specs.TextHash.{text_hash}
 use Rattle.relay_text.specs.Bytes.{has_text}
 use Rattle.relay_aliasfile.specs.declared.entry.Entry.{Entry}
-use Rattle.relay_tables.specs.declared.include_entry.IncludeEntry.{IncludeEntry}
+use Rattle.relay_tables.specs.Indices.{name_hash, path_hash}
 use Rattle.relay_tables.specs.Tables.{owner_place}
 use Rattle.relay_tables.proofs.tables.Tables.build.Goals as goal
 
@@ -19,9 +19,9 @@ invariant_of-result c =
       };
       indices = record {
         domain = λ text. c.in_ok-domains.ensures text ∙ ap (λ (ts : List (List ℕ)). has_text ts text) c.as_slice.ensures;
-        alias = λ text. c.in_ok-alias_places.ensures text ∙ ap (position (λ (e : Entry). bytes_eq text e.name)) c.as_slice-2.ensures;
-        include = λ text. c.in_ok-include_places.ensures text ∙ ap (position (λ (e : IncludeEntry). bytes_eq text e.path)) (c.deref.ensures.value ∙ sym kept);
-        mailbox = λ text. c.in_ok-mailbox_places.ensures text ∙ ap (position (bytes_eq text)) c.as_slice-3.ensures;
+        alias = c.in_ok-alias_links.ensures ∙ ap (map (name_hash c.key_of-key.result)) c.as_slice-4.ensures;
+        include = c.in_ok-include_links.ensures ∙ ap (map (path_hash c.key_of-key.result)) (c.deref.ensures.value ∙ sym kept);
+        mailbox = c.in_ok-mailbox_links.ensures ∙ ap (map (text_hash c.key_of-key.result)) c.as_slice-5.ensures;
       };
-      owners = c.in_ok-owners.ensures ∙ ap (map (owner_place c.in_ok-alias_places.alias_places)) c.as_slice-4.ensures;
+      owners = c.in_ok-owners.ensures ∙ ap (λ (es : List Entry). map (owner_place es) es) c.as_slice-6.ensures;
     }

@@ -3,8 +3,8 @@ use Rattle.relay_text.specs.KeptLines.{kept_rest}
 use Rattle.relay_text.proofs.kept.KeptLines.next_line.Given as goal
 
 -- The lines that were passed are ignored.
-abbrev pub invariant-loop-raw : goal.invariant-loop-raw
-invariant-loop-raw l = kept_rest l.self ≡ kept_rest l.initial.self
+abbrev pub invariant-loop-text : goal.invariant-loop-text
+invariant-loop-text l = kept_rest l.self ≡ kept_rest l.initial.self
 
-abbrev pub decreases-loop-raw : goal.decreases-loop-raw
-decreases-loop-raw l = length l.self.rest.now
+abbrev pub decreases-loop-text : goal.decreases-loop-text
+decreases-loop-text l = length l.self.rest.now

@@ -1,0 +1,19 @@
+-- The numbers of a job's plan.
+use Rattle.std.specs.Prelude.{◌≡◌, ℕ, ◌≤◌, List, length, Ok}
+use Rattle.relay_wire.specs.declared.plan.Plan.{Plan}
+use Rattle.relay_job.specs.declared.job.Job.{Job}
+use Rattle.relay_job.specs.JobText.{job_of}
+use Rattle.aliasplan.specs.declared.options.Limits.{Limits}
+use Rattle.aliasplan.specs.declared.summary.Summary.{Summary}
+use Rattle.aliasplan.specs.Outcomes.{summary_of, IsWithin}
+use Rattle.aliasplan.specs.Plans.{IsPlanOf}
+
+-- bytes within the limit that are a job within the limits, whose plan has these numbers
+pub record IsSummary (limits : Limits) (input : List ℕ) (summary : Summary) : Type 0 where
+  pub size : length input ≤ limits.bytes
+  pub job : Job
+  pub read : job_of input ≡ Ok job
+  pub within : IsWithin limits job
+  pub plan : Plan
+  pub planned : IsPlanOf job plan
+  pub summed : summary ≡ summary_of plan

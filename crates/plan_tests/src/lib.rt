@@ -1,0 +1,25 @@
+//! Tests of whole plans, from outside the crate that makes them.
+#![tactic(auto)]
+
+#[cfg(test)]
+mod aliases;
+#[cfg(test)]
+mod devices;
+#[cfg(test)]
+mod files;
+#[cfg(test)]
+mod gates;
+#[cfg(test)]
+mod gathering;
+#[cfg(test)]
+mod limits;
+#[cfg(test)]
+mod options;
+#[cfg(test)]
+mod plans;
+#[cfg(test)]
+mod proved;
+#[cfg(test)]
+mod signals;
+#[cfg(test)]
+mod tables;

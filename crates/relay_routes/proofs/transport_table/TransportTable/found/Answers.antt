@@ -1,0 +1,11 @@
+use Rattle.std.proofs.Common.{◌≡◌, ◌∙◌, ℕ, List, ap, sym, false}
+use Rattle.relay_routes.specs.Transports.{found_result}
+use Rattle.relay_routes.specs.TransportLines.{TransportLines}
+use Rattle.relay_routes.specs.TableSteps.{has_address, domain_keys}
+use Rattle.relay_routes.proofs.KeyFacts.{keys_of_domain}
+use Rattle.relay_routes.proofs.transport_table.TransportTable.found.Goals as goal
+
+pub returns-then-not-self : goal.returns-then-not-self
+returns-then-not-self c =
+    let none : has_address c.args.self.now.entries ≡ false = sym (ap (λ (v : TransportLines). has_address v.entries) c.self.view_is) ∙ sym c.self.invariant.1 ∙ c.if-not-self.true in
+    c.found_at_domain.ensures ∙ ap (λ (d : List ℕ). found_result c.args.self.now.entries (domain_keys d)) c.domain.ensures ∙ keys_of_domain c.args.self.now.entries c.args.address.now c.args.delimiter none

@@ -1,8 +1,0 @@
-use Rattle.std.proofs.Common.{◌≡◌, ℕ, List, take, position}
-use Rattle.std.specs.Str.{bytes_eq}
-use Rattle.relay_tables.specs.FirstPlaces.{found_place}
-use Rattle.relay_tables.proofs.indexing.mailbox_places.Given as goal
-
--- the places of the first elements
-abbrev pub invariant-loop-place : goal.invariant-loop-place
-invariant-loop-place l = (q : List ℕ) → found_place l.places q ≡ position (bytes_eq q) (take l.place l.names)

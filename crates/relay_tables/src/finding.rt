@@ -1,0 +1,79 @@
+//! Nodes that are found by what leads to them.
+ghost use Rattle.std.specs.Prelude.{◌≡◌, ◌<◌, length, map, position, slice_get, option_map, Some, ◌&&◌};
+ghost use Rattle.std.specs.Str.{bytes_eq};
+ghost use Rattle.relay_tables.specs.Graphs.{same_node};
+ghost use Rattle.relay_tables.specs.Numbering.{node_of, node_hash};
+
+use crate::lead::Lead;
+use crate::node::Node;
+use relay_chains::{Links, hash_text};
+use relay_text::{Address, same_bytes};
+
+/// The hash of what a lead leads to. An address's domain gives another key for its local part.
+#[tactic(auto, unfolding(crate::specs::Numbering::node_hash))]
+pub(crate) fn lead_hash(key: u64, lead: Lead<'_>) -> u32
+    ensures { result ≡ node_hash key (node_of lead.entry) }
+{
+    match lead {
+        Lead::Alias(_) => 0,
+        Lead::Include(_) => 0,
+        Lead::Mailbox(local, _) => hash_text(key, local),
+        Lead::Remote(local, domain) => {
+            let key = key ^ u64::from(hash_text(key, domain));
+            hash_text(key, local)
+        }
+        Lead::Missing(name) => hash_text(key, name),
+        Lead::NoInclude(path) => hash_text(key, path),
+        Lead::Command(text) => hash_text(key, text),
+        Lead::File(path) => hash_text(key, path),
+    }
+}
+
+// Is this an address's local part and domain? The domain is the same more often.
+fn is_address_of(local: &[u8], domain: &[u8], address: &Address) -> bool
+    ensures { result ≡ (bytes_eq local.now address.now.local && bytes_eq domain.now address.now.domain) }
+{
+    same_bytes(local, address.local()) && same_bytes(domain, address.domain())
+}
+
+// Does a lead lead to this node?
+fn leads_to(lead: Lead<'_>, node: &Node) -> bool
+    ensures { result ≡ same_node (node_of lead.entry) node.now }
+{
+    match (lead, node) {
+        (Lead::Alias(number), Node::Alias(other)) => number == *other,
+        (Lead::Include(number), Node::Include(other)) => number == *other,
+        (Lead::Mailbox(local, domain), Node::Mailbox(address)) => {
+            is_address_of(local, domain, address)
+        }
+        (Lead::Remote(local, domain), Node::Remote(address)) => {
+            is_address_of(local, domain, address)
+        }
+        (Lead::Missing(name), Node::Missing(text)) => same_bytes(name, text.as_bytes()),
+        (Lead::NoInclude(path), Node::NoInclude(text)) => same_bytes(path, text.as_bytes()),
+        (Lead::Command(command), Node::Command(text)) => same_bytes(command, text.as_bytes()),
+        (Lead::File(path), Node::File(text)) => same_bytes(path, text.as_bytes()),
+        _ => false,
+    }
+}
+
+/// The place of what a lead with this hash leads to, where it's there.
+pub(crate) fn place_of(
+    nodes: &[Node],
+    links: &Links,
+    key: u64,
+    hash: u32,
+    lead: Lead<'_>,
+) -> Option<u32>
+    requires hashed { links.now ≡ map (node_hash key) nodes.now }
+    requires hash { hash ≡ node_hash key (node_of lead) }
+    ensures { result ≡ position (same_node (node_of lead.entry)) nodes.now }
+{
+    links.find(
+        hash,
+        |number: u32| -> bool
+            requires { number < length nodes.now }
+            ensures { option_map (same_node (node_of lead.entry)) (slice_get nodes.entry.now number) ≡ Some result }
+        { leads_to(lead, &nodes[number as usize]) },
+    )
+}

@@ -1,0 +1,40 @@
+-- Bytes that lie in an array.
+use Rattle.std.proofs.Common.{◌≡◌, ℕ, suc, zero, ◌+◌, ◌-◌, ◌≤◌, List, [], ◌∷◌, ◌++◌, length, take, drop, sym, ap, refl, ◌∙◌, arith}
+use Rattle.std.specs.Char.{to_ascii_lowercase}
+use Rattle.std.specs.List.{between}
+use Rattle.std.proofs.lemmas.List.{append_assoc, length-append, length-take, length-drop, length-map, take_at, take-take}
+use Rattle.std.proofs.lemmas.Slice.{between_is, take-put_mid}
+use Rattle.relay_text.specs.Bytes.{folded}
+use borrow.Rule.Slice.PartMut.{put_mid}
+
+-- two pieces that were written one behind the other
+pub two_pieces : (front more written written_more room rest : List ℕ) (n f : ℕ) → written ≡ front → written_more ≡ more → f ≡ length front → n ≡ f + length more
+    → take n (take f (written ++ room) ++ (written_more ++ rest)) ≡ front ++ more
+two_pieces front more written written_more room rest n f is is_more len all =
+    let first : take f (written ++ room) ≡ written = take_at written room f (ap length is ∙ sym len) in
+    ap (λ (text : List ℕ). take n (text ++ (written_more ++ rest))) first
+    ∙ ap (take n) (sym (append_assoc written written_more rest))
+    ∙ take_at (written ++ written_more) rest n (omega (arith, length-append written written_more, ap length is, ap length is_more, len, all))
+    ∙ cc
+
+-- as many bytes as a front has are that front
+take_len : (n : ℕ) (xs : List ℕ) → take (length (take n xs)) xs ≡ take n xs
+take_len zero xs = refl
+take_len (suc n) [] = refl
+take_len (suc n) (x ∷ xs) = ap (λ (rest : List ℕ). x ∷ rest) (take_len n xs)
+
+-- a front whose bytes are folded from a place on
+pub folded_part : (n a e : ℕ) (xs now ys : List ℕ) → now ≡ take n xs → e ≡ length now → a ≤ length now → ys ≡ folded (between a e xs)
+    → take n (put_mid a (e - a) xs ys) ≡ take a now ++ folded (drop a now)
+folded_part n a e xs now ys is end within is_folded =
+    let front : now ≡ take e xs = is ∙ sym (take_len n xs) ∙ ap (λ k. take k xs) (sym (ap length is) ∙ sym end) in
+    let part : between a e xs ≡ drop a now = between_is xs a e ∙ ap (drop a) (sym front) in
+    let len : length ys ≡ e - a = ap length is_folded ∙ length-map (between a e xs) to_ascii_lowercase ∙ ap length part ∙ length-drop a now ∙ ap (λ k. k - a) (sym end) in
+    let whole : length (put_mid a (e - a) xs ys) ≡ length xs =
+    omega (arith, len, end, within, ap length is, length-take n xs, length-take a xs, length-drop (e - a) (drop a xs), length-drop a xs, length-append (take a xs) (ys ++ drop (e - a) (drop a xs)), length-append ys (drop (e - a) (drop a xs))) in
+    let cut : length (take n (put_mid a (e - a) xs ys)) ≡ e = omega (arith, whole, end, ap length is, length-take n xs, length-take n (put_mid a (e - a) xs ys)) in
+    sym (take_len n (put_mid a (e - a) xs ys))
+    ∙ ap (λ k. take k (put_mid a (e - a) xs ys)) cut
+    ∙ take-put_mid a (e - a) xs ys e (omega (arith, len, end, within)) (omega (arith, end, within, ap length is, length-take n xs))
+    ∙ ap (λ (text : List ℕ). text ++ ys) (sym (take-take a e xs (omega (arith, end, within))) ∙ ap (take a) (sym front))
+    ∙ ap (λ (text : List ℕ). take a now ++ text) (is_folded ∙ ap folded part)

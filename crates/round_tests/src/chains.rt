@@ -1,0 +1,349 @@
+ghost use Rattle.std.specs.Prelude.{◌≤◌};
+
+use relay_chains::{ChainFault, Chains, Interner, Links, hash_text};
+use std::alloc::AllocError;
+use std::process::Abort;
+use std::test::Fail;
+
+// Inserts a key. Where memory runs out, sees that nothing changed, and inserts it again.
+fn insert_at_last(rt: &impl Abort, set: &mut Chains, key: u64) -> Result<(u32, bool), ChainFault> {
+    let before = set.len();
+    let answer = set.insert(key);
+    if answer != Err(ChainFault::Memory) {
+        return answer;
+    }
+    assert_eq!(rt; set.len(), before);
+    assert_eq!(rt; set.find(key), None);
+    assert_eq!(rt; set.get(u32::try_from(before).unwrap_or(u32::MAX)), None);
+    set.insert(key)
+}
+
+// The same of a text.
+fn intern_at_last(
+    rt: &impl Abort,
+    set: &mut Interner,
+    text: &[u8],
+) -> Result<(u32, bool), ChainFault> {
+    let before = set.len();
+    let answer = set.intern(text);
+    if answer != Err(ChainFault::Memory) {
+        return answer;
+    }
+    assert_eq!(rt; set.len(), before);
+    assert_eq!(rt; set.find(text), None);
+    assert_eq!(rt; set.text(u32::try_from(before).unwrap_or(u32::MAX)), None);
+    set.intern(text)
+}
+
+#[test]
+fn keys_are_numbered_in_turn(rt: HostRuntime) -> Result<(), Fail> {
+    let mut set = Chains::new(rt.alloc(), 2, 2)?;
+    assert!(rt; set.is_empty());
+    assert_eq!(rt; set.insert(7), Ok((0, true)));
+    assert_eq!(rt; set.insert(9), Ok((1, true)));
+    assert_eq!(rt; set.insert(7), Ok((0, false)));
+    assert_eq!(rt; set.insert(8), Err(ChainFault::Full));
+    assert_eq!(rt; set.find(9), Some(1));
+    assert_eq!(rt; set.find(8), None);
+    assert_eq!(rt; set.get(1), Some(9));
+    assert_eq!(rt; set.get(2), None);
+    assert_eq!(rt; set.len(), 2);
+    assert!(rt; !set.is_empty());
+    Ok(())
+}
+
+#[test]
+fn texts_are_numbered_in_turn(rt: HostRuntime) -> Result<(), Fail> {
+    let mut set = Interner::new(rt.alloc(), 2, 2)?;
+    assert!(rt; set.is_empty());
+    assert_eq!(rt; set.intern(b"g"), Ok((0, true)));
+    assert_eq!(rt; set.intern(b"i"), Ok((1, true)));
+    assert_eq!(rt; set.intern(b"g"), Ok((0, false)));
+    assert_eq!(rt; set.intern(b"h"), Err(ChainFault::Full));
+    assert_eq!(rt; set.find(b"i"), Some(1));
+    assert_eq!(rt; set.find(b"h"), None);
+    assert!(rt; set.text(1).is_some_and(|text| text == b"i".as_slice()));
+    assert!(rt; set.text(2).is_none());
+    assert_eq!(rt; set.len(), 2);
+    assert!(rt; !set.is_empty());
+    Ok(())
+}
+
+#[test]
+fn a_limit_of_none_takes_none(rt: HostRuntime) -> Result<(), Fail> {
+    let mut keys = Chains::new(rt.alloc(), 1, 0)?;
+    assert_eq!(rt; keys.insert(0), Err(ChainFault::Full));
+    assert_eq!(rt; (keys.find(0), keys.get(0), keys.len()), (None, None, 0));
+    let mut texts = Interner::new(rt.alloc(), 1, 0)?;
+    assert_eq!(rt; texts.intern(b""), Err(ChainFault::Full));
+    assert_eq!(rt; (texts.find(b""), texts.len()), (None, 0));
+    assert!(rt; texts.text(0).is_none());
+    Ok(())
+}
+
+#[test]
+fn texts_keep_apart(rt: HostRuntime) -> Result<(), Fail> {
+    let texts: [&[u8]; 8] = [
+        b"ab",
+        b"",
+        b"a",
+        b"abc",
+        b"bc",
+        b"c",
+        b"user0001@example.net",
+        b"user0002@example.net",
+    ];
+    for heads in [1, 2, 100] {
+        let mut set = Interner::new(rt.alloc(), heads, 8)?;
+        for (i, text) in texts.iter().enumerate() {
+            assert_eq!(rt; set.intern(text), Ok((i as u32, true)), "in {heads}");
+        }
+        for (i, text) in texts.iter().enumerate() {
+            assert_eq!(rt; set.intern(text), Ok((i as u32, false)), "in {heads}");
+            assert_eq!(rt; set.find(text), Some(i as u32), "in {heads}");
+            assert!(rt; set.text(i as u32).is_some_and(|found| found == *text));
+        }
+        assert_eq!(rt; set.find(b"abcbc"), None);
+    }
+    Ok(())
+}
+
+// A count of keys in as many buckets as given, of which the first are found again.
+fn fills(rt: &(impl Abort + AllocGlobal), heads: usize, count: u32, found: u32) -> Result<(), Fail>
+    requires heads { 1 ≤ heads }
+    requires count { count ≤ 1_000_000 }
+    requires found { found ≤ count }
+{
+    let mut set = Chains::new(rt.alloc(), heads, count as usize)?;
+    for i in 0..count {
+        let key = u64::from(i).wrapping_mul(0x9e37_79b9_7f4a_7c15);
+        assert_eq!(rt; set.insert(key)?, (i, true));
+    }
+    for i in 0..found {
+        let key = u64::from(i).wrapping_mul(0x9e37_79b9_7f4a_7c15);
+        assert_eq!(rt; set.find(key), Some(i));
+        assert_eq!(rt; set.get(i), Some(key));
+    }
+    assert_eq!(rt; set.insert(1), Err(ChainFault::Full));
+    Ok(())
+}
+
+#[test]
+fn many_keys_spread(rt: HostRuntime) -> Result<(), Fail> {
+    fills(&rt, 100_000, 100_000, 100_000)
+}
+
+#[test]
+fn many_keys_in_one_bucket(rt: HostRuntime) -> Result<(), Fail> {
+    fills(&rt, 1, 100_000, 1_000)
+}
+
+// `u000001@example.net` and the like.
+fn numbered_text(number: u32) -> [u8; 19] {
+    let mut text = *b"u000000@example.net";
+    let mut rest = number;
+    for place in 0..6 {
+        text[6 - place] = b'0' + (rest % 10) as u8;
+        rest /= 10;
+    }
+    text
+}
+
+#[test]
+fn many_texts_spread(rt: HostRuntime) -> Result<(), Fail> {
+    let mut set = Interner::new(rt.alloc(), 100_000, 100_000)?;
+    for i in 0..100_000 {
+        assert_eq!(rt; set.intern(&numbered_text(i))?, (i, true));
+    }
+    for i in 0..100_000 {
+        assert_eq!(rt; set.find(&numbered_text(i)), Some(i));
+    }
+    assert_eq!(rt; set.intern(b"another"), Err(ChainFault::Full));
+    Ok(())
+}
+
+// One allocation may be made to fail here: the answers stay the same, since each call is made again.
+#[test]
+fn keys_outlast_a_refused_growth(rt: HostRuntime) -> Result<(), Fail> {
+    let mut set = match Chains::new(rt.alloc(), 3, 40) {
+        Ok(set) => set,
+        Err(_) => Chains::new(rt.alloc(), 3, 40)?,
+    };
+    for i in 0..40 {
+        assert_eq!(rt; insert_at_last(&rt, &mut set, u64::from(i) * 5)?, (i, true));
+        assert_eq!(rt; set.find(u64::from(i) * 5), Some(i));
+    }
+    for i in 0..40 {
+        assert_eq!(rt; set.insert(u64::from(i) * 5)?, (i, false));
+    }
+    Ok(())
+}
+
+#[test]
+fn texts_outlast_a_refused_growth(rt: HostRuntime) -> Result<(), Fail> {
+    let mut set = match Interner::new(rt.alloc(), 3, 40) {
+        Ok(set) => set,
+        Err(_) => Interner::new(rt.alloc(), 3, 40)?,
+    };
+    for i in 0..40 {
+        assert_eq!(rt;
+            intern_at_last(&rt, &mut set, &numbered_text(i))?,
+            (i, true)
+        );
+        assert_eq!(rt; set.find(&numbered_text(i)), Some(i));
+    }
+    for i in 0..40 {
+        assert_eq!(rt; set.intern(&numbered_text(i))?, (i, false));
+        assert!(rt;
+            set.text(i)
+                .is_some_and(|text| text == numbered_text(i).as_slice())
+        );
+    }
+    Ok(())
+}
+
+#[test]
+fn faults_are_told(rt: HostRuntime) -> Result<(), Fail> {
+    let told = format!(in rt.alloc(); "{}, {}", ChainFault::Full, ChainFault::Memory)?;
+    assert_eq!(rt; told.as_str(), "the set is full, out of memory");
+    Ok(())
+}
+
+// The hash of the next number, where there are fewer than a million.
+fn push_hash(rt: &impl Abort, links: &mut Links, hash: u32) -> Result<(), AllocError> {
+    assert!(rt; links.len() < 1_000_000);
+    links.push(hash)
+}
+
+// Three pairs of texts that agree in all bits of their hash under this key, as a search among 110,000 found them.
+const KEY: u64 = 0x243f_6a88_85a3_08d3;
+
+const ALIKE: [(&[u8], &[u8]); 3] = [
+    (b"u027520", b"u100193"),
+    (b"u027529", b"u100198"),
+    (b"u021417", b"u102086"),
+];
+
+#[test]
+fn texts_of_one_hash_keep_apart(rt: HostRuntime) -> Result<(), Fail> {
+    let mut set = Interner::with_key(rt.alloc(), KEY, 1, 6)?;
+    let mut links = Links::new(rt.alloc(), 1)?;
+    for (i, (first, second)) in ALIKE.iter().enumerate() {
+        let number = 2 * (i as u32);
+        let hash = hash_text(KEY, first);
+        assert_eq!(rt; hash_text(KEY, second), hash);
+        assert_ne!(rt; hash_text(KEY + 1, first), hash_text(KEY + 1, second));
+        assert_eq!(rt; set.intern(first), Ok((number, true)));
+        assert_eq!(rt; set.find(second), None);
+        assert_eq!(rt; set.intern(second), Ok((number + 1, true)));
+        push_hash(&rt, &mut links, hash)?;
+        assert_eq!(rt; links.find(hash, |found| found == number + 1), None);
+        push_hash(&rt, &mut links, hash)?;
+        assert_eq!(rt;
+            links.find(hash, |found| found == number + 1),
+            Some(number + 1)
+        );
+        assert_eq!(rt; links.find(hash, |_| true), Some(number));
+    }
+    for (i, (first, second)) in ALIKE.iter().enumerate() {
+        assert_eq!(rt; set.find(first), Some(2 * (i as u32)));
+        assert_eq!(rt; set.find(second), Some(2 * (i as u32) + 1));
+    }
+    Ok(())
+}
+
+// The smallest hashes fall into the first bucket, however many heads there are, up to a million.
+#[test]
+fn many_numbers_in_one_bucket(rt: HostRuntime) -> Result<(), Fail> {
+    let mut links = Links::new(rt.alloc(), 1)?;
+    assert!(rt; links.is_empty());
+    for hash in 0..2_000u32 {
+        push_hash(&rt, &mut links, hash)?;
+        assert_eq!(rt; links.newest(hash), hash + 1);
+    }
+    for hash in 0..2_000u32 {
+        assert_eq!(rt; links.find(hash, |_| true), Some(hash));
+        assert_eq!(rt; links.find(hash, |number| number > hash), None);
+    }
+    assert_eq!(rt; (links.len(), links.is_empty()), (2_000, false));
+    assert_eq!(rt; links.newest(2_000), 0);
+    assert_eq!(rt; links.newest(u32::MAX), 0);
+    Ok(())
+}
+
+// Each text's hash is pushed twice, and the heads are doubled many times between.
+#[test]
+fn the_first_of_many_numbers_is_found(rt: HostRuntime) -> Result<(), Fail> {
+    let mut links = Links::new(rt.alloc(), 3)?;
+    for number in 0..100_000u32 {
+        let hash = hash_text(7, &numbered_text(number % 50_000));
+        push_hash(&rt, &mut links, hash)?;
+    }
+    for number in 0..50_000u32 {
+        let hash = hash_text(7, &numbered_text(number));
+        let found = links.find(hash, |found| found % 50_000 == number);
+        assert_eq!(rt; found, Some(number));
+        assert!(rt; links.newest(hash) > 50_000);
+    }
+    Ok(())
+}
+
+#[test]
+fn hashes_depend_on_every_byte_and_the_key(rt: HostRuntime) -> Result<(), Fail> {
+    let text = b"owner-club@lists.example.net";
+    for len in 0..text.len() {
+        let hash = hash_text(1, &text[..len]);
+        assert_ne!(rt; hash_text(2, &text[..len]), hash, "{len}");
+        assert_ne!(rt; hash_text(1, &text[..len + 1]), hash, "{len}");
+        for place in 0..len {
+            let mut other = *text;
+            other[place] ^= 1;
+            assert_ne!(rt; hash_text(1, &other[..len]), hash, "{place} of {len}");
+        }
+    }
+    assert_ne!(rt; hash_text(1, b"a"), hash_text(1, b"a\0"));
+    Ok(())
+}
+
+// As many texts as buckets, drawn at random, leave about 37 in a hundred buckets empty and hardly ever put 13 in one.
+#[test]
+fn alike_texts_spread_over_buckets(rt: HostRuntime) -> Result<(), Fail> {
+    for heads in [100_000usize, 65_536] {
+        let mut held = vec![in rt.alloc(); 0u32; heads]?;
+        for number in 0..heads {
+            let hash = hash_text(KEY, &numbered_text(number as u32));
+            let bucket = (u64::from(hash) * heads as u64 >> 32) as usize;
+            held[bucket] = held[bucket].saturating_add(1);
+        }
+        let empty = held.iter().filter(|count| **count == 0).count();
+        let fullest = held.iter().copied().max().unwrap_or(0);
+        assert!(rt; fullest <= 12, "{fullest} in one of {heads}");
+        assert!(rt;
+            empty >= heads / 100 * 36 && empty <= heads / 100 * 38,
+            "{empty} of {heads} are empty"
+        );
+    }
+    Ok(())
+}
+
+// One allocation may be made to fail here too.
+#[test]
+fn links_outlast_a_refused_growth(rt: HostRuntime) -> Result<(), Fail> {
+    let mut links = match Links::new(rt.alloc(), 1) {
+        Ok(links) => links,
+        Err(_) => Links::new(rt.alloc(), 1)?,
+    };
+    for number in 0..40u32 {
+        let hash = number.wrapping_mul(0x9e37_79b9);
+        if push_hash(&rt, &mut links, hash).is_err() {
+            assert_eq!(rt; links.newest(hash), 0);
+            push_hash(&rt, &mut links, hash)?;
+        }
+        assert_eq!(rt; links.newest(hash), number + 1);
+    }
+    for number in 0..40u32 {
+        let hash = number.wrapping_mul(0x9e37_79b9);
+        assert_eq!(rt; links.find(hash, |_| true), Some(number));
+    }
+    Ok(())
+}
