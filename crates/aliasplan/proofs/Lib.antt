@@ -5,12 +5,14 @@ pub mod PartFacts
 pub mod SetFacts
 pub mod RecipientFacts
 pub mod StopFacts
+pub mod ReportFacts
 pub mod SourceFacts
 pub mod TextFacts
 pub mod ReachFacts
 pub mod Faults
 pub mod EntryFacts
 pub mod NumberFacts
+pub mod DomainFacts
 pub mod FindingFacts
 pub mod PlanFacts
 pub mod RouteLines

@@ -1,6 +1,6 @@
 -- A plan of a job, from its transactions and its lines.
-use Rattle.std.proofs.Common.{◌≡◌, ◌⊎◌, ℕ, List, refl, sym, ◌∙◌, subst, inl, inr}
-use Rattle.std.specs.Prelude.{IsTrue, Contains, ◌↔◌}
+use Rattle.std.proofs.Common.{◌≡◌, ◌⊎◌, ℕ, List, refl, sym, ◌∙◌, inl, inr}
+use Rattle.std.specs.Prelude.{IsTrue, ◌↔◌}
 use Rattle.relay_text.specs.Bytes.{has_text}
 use Rattle.relay_text.specs.TextSets.{IsAscendingBy, text_cmp}
 use Rattle.relay_wire.specs.declared.finding.Finding.{Finding}
@@ -13,15 +13,15 @@ use Rattle.aliasplan.specs.Texts.{has_fault_line}
 use Rattle.aliasplan.proofs.SetFacts.{Contains-has_text, has_text-Contains}
 use Rattle.aliasplan.proofs.TextFacts.{text_lines}
 
-pub plan_is : (job : Job) (plan : Plan) (lines : List (List ℕ)) → plan.hostname ≡ job.settings.hostname → AreTransactionsOf job plan.transactions → plan.findings ≡ lines → IsAscendingBy text_cmp lines → ((q : List ℕ) → IsTrue (has_text lines q) ↔ IsFindingLine job q) → IsPlanOf job plan
-plan_is job plan lines hostname transactions all sorted reported =
+pub plan_is : (job : Job) (plan : Plan) (lines : List (List ℕ)) → plan.hostname ≡ job.settings.hostname → AreTransactionsOf job plan.transactions → ((q : List ℕ) → has_text plan.findings q ≡ has_text lines q) → IsAscendingBy text_cmp plan.findings → ((q : List ℕ) → IsTrue (has_text lines q) ↔ IsFindingLine job q) → IsPlanOf job plan
+plan_is job plan lines hostname transactions same ascending reported =
     record {
       hostname = hostname;
       transactions = transactions;
-      findings_ascending = subst (λ (ls : List (List ℕ)). IsAscendingBy text_cmp ls) (sym all) sorted;
+      findings_ascending = ascending;
       findings = λ q. (
-        λ c. (reported q).0 (has_text-Contains lines q (subst (λ (ls : List (List ℕ)). Contains ls q) all c)),
-        λ finding. subst (λ (ls : List (List ℕ)). Contains ls q) (sym all) (Contains-has_text lines q ((reported q).1 finding)),
+        λ c. (reported q).0 (sym (same q) ∙ has_text-Contains plan.findings q c),
+        λ finding. Contains-has_text plan.findings q (same q ∙ (reported q).1 finding),
       );
     }
 

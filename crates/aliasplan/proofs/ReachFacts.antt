@@ -1,15 +1,15 @@
 -- What the numbers of reached pairs and nodes stand for.
-use Rattle.std.proofs.Common.{◌≡◌, ℕ, ◌<◌, List, length, All, Contains, slice_get, Some, ◌↔◌, Result, Ok, Err, IfOk, refl, sym, ap, ◌∙◌, subst}
+use Rattle.std.proofs.Common.{◌≡◌, ℕ, ◌<◌, List, length, All, slice_get, ◌↔◌, Result, Ok, Err, IfOk, refl, sym, ap, ◌∙◌, subst}
 use Rattle.std.proofs.lemmas.Option.{same_Some}
 use Rattle.relay_tables.specs.declared.node.Node.{Node}
 use Rattle.relay_tables.specs.GraphParts.{GraphParts}
-use Rattle.relay_tables.specs.Senders.{Sender, Pair}
+use Rattle.relay_tables.specs.Senders.{Pair}
 use Rattle.relay_pairs.specs.declared.reached.Reached.{Reached}
 use Rattle.relay_pairs.specs.Pairs.{ArePairs, AreNodesOf}
 use Rattle.relay_pairs.specs.Chains.{HasNumbers}
 use Rattle.relay_pairs.proofs.Numbered.{has_pair}
 use Rattle.relay_job.specs.declared.job.Job.{Job}
-use Rattle.aliasplan.specs.Delivery.{directory_of, IsReachedPair, IsReachedNode, IsJobGraph}
+use Rattle.aliasplan.specs.Delivery.{directory_of, IsReachedPair, IsJobGraph}
 use Rattle.aliasplan.specs.Reaching.{AreReachedPairs, AreReachedNodes}
 
 module _ (job : Job) (g : GraphParts) (numbers : (pair : Pair) → IsReachedPair job pair ↔ ((n : Reached) × HasNumbers g pair n)) (pairs : List Reached) (all : ArePairs g pairs) where

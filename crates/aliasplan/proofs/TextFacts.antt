@@ -116,39 +116,38 @@ module _ (job : Job) (q : List ℕ) where
 
   line_of : IsTrue (has_fault_line job q) → IsLineOf job texts q
   line_of h =
-      elim (or_cases (in_aliases || (in_mailboxes || (in_transports || in_exchanges))) in_includes h) [
-        | inr includes ↦ includes_line includes
-        | inl table ↦
-            elim (or_cases in_aliases (in_mailboxes || (in_transports || in_exchanges)) table) [
+      elim (or_cases (in_aliases || (in_mailboxes || in_includes)) (in_transports || in_exchanges) h) [
+        | inr routes ↦ elim (or_cases in_transports in_exchanges routes) [ inl transports ↦ transports_line transports | inr exchanges ↦ exchanges_line exchanges ]
+        | inl named ↦
+            elim (or_cases in_aliases (in_mailboxes || in_includes) named) [
               | inl aliases ↦ aliases_line aliases
-              | inr others ↦
-                  elim (or_cases in_mailboxes (in_transports || in_exchanges) others) [
-                    | inl mailboxes ↦ mailboxes_line mailboxes
-                    | inr routes ↦ elim (or_cases in_transports in_exchanges routes) [ inl transports ↦ transports_line transports | inr exchanges ↦ exchanges_line exchanges ]
-                  ]
+              | inr others ↦ elim (or_cases in_mailboxes in_includes others) [ inl mailboxes ↦ mailboxes_line mailboxes | inr includes ↦ includes_line includes ]
             ]
       ]
 
-  as_table : in_aliases || (in_mailboxes || (in_transports || in_exchanges)) ≡ true → IsTrue (has_fault_line job q)
-  as_table h = or_left (in_aliases || (in_mailboxes || (in_transports || in_exchanges))) in_includes h
+  as_name : in_aliases || (in_mailboxes || in_includes) ≡ true → IsTrue (has_fault_line job q)
+  as_name h = or_left (in_aliases || (in_mailboxes || in_includes)) (in_transports || in_exchanges) h
+
+  as_route : in_transports || in_exchanges ≡ true → IsTrue (has_fault_line job q)
+  as_route h = or_right (in_aliases || (in_mailboxes || in_includes)) (in_transports || in_exchanges) h
 
   reported : (finding : Finding) → part_of finding ≡ texts → IsFinding job finding → q ≡ finding_text_of finding → IsTrue (has_fault_line job q)
   reported (Aliases number word) part h e =
-      as_table (or_left in_aliases _ (fault_has (λ (f : LineFault). f.line) (λ f. word_of f.kind) Aliases (alias_file_of job.aliases).faults q number word (in_from (file_words (alias_file_of job.aliases).faults) (number, word) h) e))
+      as_name (or_left in_aliases _ (fault_has (λ (f : LineFault). f.line) (λ f. word_of f.kind) Aliases (alias_file_of job.aliases).faults q number word (in_from (file_words (alias_file_of job.aliases).faults) (number, word) h) e))
   reported (Mailboxes number word) part h e =
       let has : in_mailboxes ≡ true = fault_has (λ (f : LineFault). f.line) (λ f. word_of f.kind) Mailboxes (mailbox_file_of job.mailboxes).faults q number word (in_from (file_words (mailbox_file_of job.mailboxes).faults) (number, word) h) e in
-      as_table (or_right in_aliases _ (or_left in_mailboxes _ has))
+      as_name (or_right in_aliases _ (or_left in_mailboxes _ has))
   reported (Transport number word) part h e =
       let has : in_transports ≡ true = fault_has (λ (f : TableLineFault). f.line) (λ f. table_word_of f.kind) Transport (transport_table_of job.transport).faults q number word (in_from (table_words (transport_table_of job.transport).faults) (number, word) h) e in
-      as_table (or_right in_aliases _ (or_right in_mailboxes _ (or_left in_transports _ has)))
+      as_route (or_left in_transports in_exchanges has)
   reported (Mx number word) part h e =
       let has : in_exchanges ≡ true = fault_has (λ (f : TableLineFault). f.line) (λ f. table_word_of f.kind) Mx (mx_table_of job.mx).faults q number word (in_from (table_words (mx_table_of job.mx).faults) (number, word) h) e in
-      as_table (or_right in_aliases _ (or_right in_mailboxes _ (or_right in_transports _ has)))
+      as_route (or_right in_transports in_exchanges has)
   reported (Include path number word) part h e =
       let i : JobInclude = h.0 in
       let line : q ≡ finding_text_of (Include i.path number word) = e ∙ ap (λ (p : List ℕ). finding_text_of (Include p number word)) (sym h.2) in
       let has : has_include_line q i ≡ true = fault_has (λ (f : LineFault). f.line) (λ f. word_of f.kind) (Include i.path) (include_file_of i.bytes).faults q number word (in_from (file_words (include_file_of i.bytes).faults) (number, word) h.3) line in
-      or_right (in_aliases || (in_mailboxes || (in_transports || in_exchanges))) in_includes (some_passes (has_include_line q) job.includes i (in_from job.includes i h.1) has)
+      as_name (or_right in_aliases _ (or_right in_mailboxes _ (some_passes (has_include_line q) job.includes i (in_from job.includes i h.1) has)))
   reported (Missing name place) part h e = absurd (let no : ⊥ = cc in no)
   reported (NoInclude path place) part h e = absurd (let no : ⊥ = cc in no)
   reported (File path place) part h e = absurd (let no : ⊥ = cc in no)

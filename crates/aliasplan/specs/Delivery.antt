@@ -1,5 +1,5 @@
 -- Which addresses a job leads to, under which sender, and by which route (local(8) of Postfix; RFC 5321 sections 3.9 and 5).
-use Rattle.std.specs.Prelude.{◌≡◌, ℕ, List, [], ◌∷◌, map, Contains, Option, Some, None, Result, Ok, Err}
+use Rattle.std.specs.Prelude.{◌≡◌, ℕ, ◌∷◌, map, Contains, Option, Some, None, Result, Ok, Err}
 use Rattle.relay_text.specs.AddressParts.{AddressParts}
 use Rattle.relay_aliasfile.specs.AliasFiles.{alias_file_of}
 use Rattle.relay_aliasfile.specs.IncludeFiles.{include_file_of}

@@ -8,6 +8,7 @@ pub mod Texts
 pub mod Stops
 pub mod NexthopRoutes
 pub mod Outcomes
+pub mod Domains
 pub mod Transfers
 pub mod Listing
 pub mod Findings

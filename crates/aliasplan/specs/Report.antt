@@ -1,6 +1,5 @@
 -- What a plan reports of a job: each finding by its condition.
-use Rattle.std.specs.Prelude.{◌≡◌, ℕ, List, [], ◌∷◌, map, Contains, slice_get, Option, Some, None}
-use Rattle.relay_text.specs.AddressParts.{AddressParts}
+use Rattle.std.specs.Prelude.{◌≡◌, ℕ, List, [], map, Contains, slice_get, Option, Some, None}
 use Rattle.relay_aliasfile.specs.AliasFiles.{alias_file_of}
 use Rattle.relay_aliasfile.specs.IncludeFiles.{include_file_of}
 use Rattle.relay_aliasfile.specs.MailboxFiles.{mailbox_file_of}

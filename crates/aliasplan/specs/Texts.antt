@@ -35,16 +35,21 @@ include_line path fault = finding_text_of (findings.Include path fault.line (wor
 abbrev pub has_include_line : List ℕ → JobInclude → Bool
 has_include_line q i = list_any (λ fault. bytes_eq q (include_line i.path fault)) (include_file_of i.bytes).faults
 
--- one of the lines at fault of an alias file, a mailbox file, a transport table or a table of exchangers
-abbrev pub is_table_line : List LineFault → List LineFault → List TableLineFault → List TableLineFault → List ℕ → Bool
-is_table_line aliases mailboxes transports exchanges q =
+-- one of the lines at fault of an alias file, a mailbox file or include files
+abbrev pub is_name_line : List LineFault → List LineFault → List JobInclude → List ℕ → Bool
+is_name_line aliases mailboxes includes q =
     list_any (λ fault. bytes_eq q (source_line Aliases fault)) aliases
     || (list_any (λ fault. bytes_eq q (source_line Mailboxes fault)) mailboxes
-    || (list_any (λ fault. bytes_eq q (table_line tables.Transport fault)) transports
-    || list_any (λ fault. bytes_eq q (table_line tables.Mx fault)) exchanges))
+    || list_any (has_include_line q) includes)
+
+-- one of the lines at fault of a transport table or a table of exchangers
+abbrev pub is_route_line : List TableLineFault → List TableLineFault → List ℕ → Bool
+is_route_line transports exchanges q =
+    list_any (λ fault. bytes_eq q (table_line tables.Transport fault)) transports
+    || list_any (λ fault. bytes_eq q (table_line tables.Mx fault)) exchanges
 
 -- one of a job's lines at fault
 abbrev pub has_fault_line : Job → List ℕ → Bool
 has_fault_line job q =
-    is_table_line (alias_file_of job.aliases).faults (mailbox_file_of job.mailboxes).faults (transport_table_of job.transport).faults (mx_table_of job.mx).faults q
-    || list_any (has_include_line q) job.includes
+    is_name_line (alias_file_of job.aliases).faults (mailbox_file_of job.mailboxes).faults job.includes q
+    || is_route_line (transport_table_of job.transport).faults (mx_table_of job.mx).faults q

@@ -16,8 +16,7 @@ use crate::sender_order::order_senders;
 use relay_job::Job;
 use relay_pairs::Reached;
 use relay_tables::Graph;
-use relay_text::TextSet;
-use relay_wire::Planned;
+use relay_wire::{FindingLines, Planned};
 use std::alloc::{AllocError, Global};
 
 /// The transactions of all addresses that are reached, each once under each of its senders, and a line for each address that has no
@@ -28,7 +27,7 @@ pub fn plan_addresses(
     router: &mut CachedRouter,
     graph: &Graph,
     pairs: &[Reached],
-    lines: &mut TextSet,
+    lines: &mut FindingLines,
 ) -> Result<Vec<Planned>, AllocError>
     requires router { router.old ≡ routing_of job.now }
     requires graph { IsJobGraph job.now graph.now }

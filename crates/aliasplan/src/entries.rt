@@ -10,24 +10,22 @@ ghost use Rattle.aliasplan.specs.Listing.{place_at};
 ghost use Rattle.aliasplan.specs.Findings.{Reports};
 ghost use Rattle.aliasplan.specs.Entries.{LeadsWithin, IsLineIn, HaveLine, IsTargetLine, IsListLine, IsNodeLine, IsLoopLine};
 
-use crate::findings::report;
 use crate::listing::Listing;
 use relay_job::Job;
 use relay_tables::{Graph, Tables};
-use relay_text::TextSet;
-use relay_wire::Finding;
+use relay_wire::{Finding, FindingLines};
 use std::alloc::{AllocError, Global};
 
 /// Adds the line of a finding, if there is one.
 fn report_any(
     alloc: Global,
     finding: Option<Finding>,
-    lines: &mut TextSet,
+    lines: &mut FindingLines,
 ) -> Result<(), AllocError>
     ensures { OnOk result (Reports lines.old lines.new (IsLineIn finding)) }
 {
     match finding {
-        Some(finding) => report(alloc, &finding, lines),
+        Some(finding) => lines.add(alloc, &finding),
         None => Ok(()),
     }
 }
@@ -38,7 +36,7 @@ fn report_target(
     graph: &Graph,
     listing: Listing,
     target: u32,
-    lines: &mut TextSet,
+    lines: &mut FindingLines,
 ) -> Result<(), AllocError>
     requires { target < length graph.now.nodes }
     ensures { OnOk result (Reports lines.old lines.new (IsTargetLine graph.now (place_at listing.entry) target)) }
@@ -53,7 +51,7 @@ fn report_targets(
     graph: &Graph,
     listing: Listing,
     targets: &[u32],
-    lines: &mut TextSet,
+    lines: &mut FindingLines,
 ) -> Result<(), AllocError>
     requires { All (λ n. n < length graph.now.nodes) targets.now }
     ensures { OnOk result (Reports lines.old lines.new (HaveLine (IsTargetLine graph.now (place_at listing.entry)) targets.now)) }
@@ -70,7 +68,7 @@ fn report_list(
     graph: &Graph,
     listing: Listing,
     targets: &[u32],
-    lines: &mut TextSet,
+    lines: &mut FindingLines,
 ) -> Result<(), AllocError>
     requires { All (λ n. n < length graph.now.nodes) targets.now }
     ensures { OnOk result (Reports lines.old lines.new (IsListLine graph.now (place_at listing.entry) targets.now)) }
@@ -88,7 +86,7 @@ fn report_node(
     tables: &Tables,
     graph: &Graph,
     node: u32,
-    lines: &mut TextSet,
+    lines: &mut FindingLines,
 ) -> Result<(), AllocError>
     requires node { node < length graph.now.nodes }
     requires children { All (λ c. c < length graph.now.nodes) (child_numbers graph.now node) }
@@ -106,7 +104,7 @@ fn report_nodes(
     tables: &Tables,
     graph: &Graph,
     nodes: &[u32],
-    lines: &mut TextSet,
+    lines: &mut FindingLines,
 ) -> Result<(), AllocError>
     requires graph { LeadsWithin graph.now }
     requires nodes { All (λ n. n < length graph.now.nodes) nodes.now }
@@ -124,7 +122,7 @@ fn report_loop(
     tables: &Tables,
     graph: &Graph,
     node: u32,
-    lines: &mut TextSet,
+    lines: &mut FindingLines,
 ) -> Result<(), AllocError>
     requires { node < length graph.now.nodes }
     ensures { OnOk result (Reports lines.old lines.new (IsLoopLine graph.now tables.now node)) }
@@ -144,7 +142,7 @@ fn report_loops(
     tables: &Tables,
     graph: &Graph,
     loops: &[u32],
-    lines: &mut TextSet,
+    lines: &mut FindingLines,
 ) -> Result<(), AllocError>
     requires { All (λ n. n < length graph.now.nodes) loops.now }
     ensures { OnOk result (Reports lines.old lines.new (HaveLine (IsLoopLine graph.now tables.now) loops.now)) }
@@ -164,7 +162,7 @@ pub fn report_entries(
     graph: &Graph,
     nodes: &[u32],
     loops: &[u32],
-    lines: &mut TextSet,
+    lines: &mut FindingLines,
 ) -> Result<(), AllocError>
     requires tables { tables.now ≡ directory_of job.now }
     requires graph { IsJobGraph job.now graph.now }

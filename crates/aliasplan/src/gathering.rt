@@ -9,15 +9,15 @@ ghost use Rattle.aliasplan.specs.Lanes.{HasStop, NoStops, AreStopsRouted, IsStop
 ghost use Rattle.aliasplan.specs.Gathering.{route_by_found, AreNumbered, HasStopUnder, HaveStop, HaveLine};
 
 use crate::cached_router::CachedRouter;
-use crate::findings::{reason_for, report};
+use crate::findings::reason_for;
 use crate::lanes::Lanes;
 use crate::sender_lanes::SenderLanes;
 use relay_job::Job;
 use relay_pairs::Reached;
 use relay_routes::{Destination, Route, Unrouted, route_by_destination};
 use relay_tables::{Graph, Node};
-use relay_text::{Address, TextSet};
-use relay_wire::Finding;
+use relay_text::Address;
+use relay_wire::{Finding, FindingLines};
 use std::alloc::{AllocError, Global};
 
 /// One more than the greatest number of a sender, 0 where there is none.
@@ -55,14 +55,14 @@ fn add_unrouted(
     alloc: Global,
     unrouted: Unrouted,
     address: &Address,
-    lines: &mut TextSet,
+    lines: &mut FindingLines,
 ) -> Result<(), AllocError>
     ensures lines { OnOk result (Reports lines.old lines.new (IsLineAt (Err unrouted) address.now)) }
     ensures memory { OnOk result (unrouted ≡ Unrouted.Memory → ⊥) }
 {
     let address = address.copy(alloc)?;
     let reason = reason_for(unrouted).ok_or(AllocError)?;
-    report(alloc, &Finding::Unrouted(address, reason), lines)
+    lines.add(alloc, &Finding::Unrouted(address, reason))
 }
 
 /// Adds an address by what the router answered of it.
@@ -71,7 +71,7 @@ fn add_routed(
     answer: Result<Route, Unrouted>,
     address: &Address,
     lanes: &mut Lanes,
-    lines: &mut TextSet,
+    lines: &mut FindingLines,
 ) -> Result<(), AllocError>
     ensures stops { OnOk result ((t : kinds.Transport) (n : List ℕ) (a : AddressParts) → HasStop lanes.new t n a ↔ (HasStop lanes.old t n a ⊎ IsStopAt answer address.now t n a)) }
     ensures lines { OnOk result (Reports lines.old lines.new (IsLineAt answer address.now)) }
@@ -93,7 +93,7 @@ fn add_to(
     to: &Destination,
     address: &Address,
     lanes: &mut Lanes,
-    lines: &mut TextSet,
+    lines: &mut FindingLines,
 ) -> Result<(), AllocError>
     requires { AreStopsRouted router.old lanes.old }
     ensures stops { OnOk result ((t : kinds.Transport) (n : List ℕ) (a : AddressParts) → HasStop lanes.new t n a ↔ (HasStop lanes.old t n a ⊎ IsStopAt (route_to router.old to.now.transport to.now.nexthop) address.now t n a)) }
@@ -115,7 +115,7 @@ fn add_found(
     found: Result<Destination, Unrouted>,
     address: &Address,
     lanes: &mut Lanes,
-    lines: &mut TextSet,
+    lines: &mut FindingLines,
 ) -> Result<(), AllocError>
     requires { AreStopsRouted router.old lanes.old }
     ensures stops { OnOk result ((t : kinds.Transport) (n : List ℕ) (a : AddressParts) → HasStop lanes.new t n a ↔ (HasStop lanes.old t n a ⊎ IsStopAt (route_by_found router.old found) address.now t n a)) }
@@ -136,7 +136,7 @@ fn add_node(
     router: &mut CachedRouter,
     node: &Node,
     lanes: &mut Lanes,
-    lines: &mut TextSet,
+    lines: &mut FindingLines,
 ) -> Result<(), AllocError>
     requires router { router.old ≡ routing_of job.now }
     requires routed { AreStopsRouted router.old lanes.old }
@@ -172,7 +172,7 @@ pub fn gather_stops(
     router: &mut CachedRouter,
     graph: &Graph,
     pairs: &[Reached],
-    lines: &mut TextSet,
+    lines: &mut FindingLines,
 ) -> Result<Vec<SenderLanes>, AllocError>
     requires router { router.old ≡ routing_of job.now }
     requires in_graph { All (λ p. (p.sender < length graph.now.senders) × (p.node < length graph.now.nodes)) pairs.now }

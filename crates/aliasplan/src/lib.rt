@@ -3,9 +3,11 @@
 
 mod addresses;
 mod answering;
+pub mod asking;
 mod batches;
 mod cached_router;
 mod collecting;
+mod crew;
 pub mod device;
 mod entries;
 mod findings;
@@ -13,6 +15,7 @@ mod gathering;
 mod lane;
 mod lanes;
 mod listing;
+mod listing_domains;
 mod nexthop_routes;
 mod nexthops;
 pub mod options;
@@ -31,8 +34,10 @@ mod texts;
 pub mod writing;
 mod written_address;
 
+pub use asking::domains;
 pub use collecting::gather;
 pub use device::{Device, Failed, Feed, Sink};
+pub use listing_domains::run_domains;
 pub use options::{Form, Limits, Options};
 pub use planning::plan_job;
 pub use reading::read_job;

@@ -15,6 +15,7 @@ ghost use Rattle.aliasplan.specs.Reaching.{AreReachedPairs, AreReachedNodes};
 
 use crate::addresses::plan_addresses;
 use crate::cached_router::CachedRouter;
+use crate::crew::Crew;
 use crate::entries::report_entries;
 use crate::options::{Limits, Options};
 use crate::sources::Sources;
@@ -24,13 +25,18 @@ use relay_loops::on_loops;
 use relay_pairs::{Reached, pairs_are_counted, pairs_by_numbers, reached_nodes, reached_pairs};
 use relay_rounds::{Gate, ReachFault};
 use relay_tables::{Graph, TableFault, Tables};
-use relay_text::{Seq, Text, TextSet};
-use relay_wire::{Plan, Planned};
+use relay_text::{Seq, Text};
+use relay_wire::{FindingLines, Plan, Planned};
 use std::alloc::{AllocError, Global};
 use std::thread::Threads;
 
 /// The graph of a job's tables and envelope.
-fn graph_of(alloc: Global, job: &Job, tables: &Tables, limits: Limits) -> Result<Graph, RunFault>
+pub(crate) fn graph_of(
+    alloc: Global,
+    job: &Job,
+    tables: &Tables,
+    limits: Limits,
+) -> Result<Graph, RunFault>
     requires tables { tables.now ≡ directory_of job.now }
     requires limits { AreLimits limits }
     ensures graph { IfOk result (IsJobGraph job.now) }
@@ -55,36 +61,30 @@ fn graph_of(alloc: Global, job: &Job, tables: &Tables, limits: Limits) -> Result
 }
 
 /// The pairs of sender and node that a job reaches.
-fn pairs_of<G: Gate, R: Threads + Sync>(
-    rt: &R,
-    alloc: Global,
+pub(crate) fn pairs_of<G: Gate, R: Threads + Sync>(
+    crew: &Crew<G, R>,
     job: &Job,
     graph: &Graph,
-    options: Options,
-    limits: Limits,
-    gate: &G,
 ) -> Result<Vec<Reached>, RunFault>
-    requires options { AreOptions options }
-    requires limits { AreLimits limits }
     requires graph { IsJobGraph job.now graph.now }
-    requires names { name_count job.now ≤ limits.names }
-    requires owners { owned_count job.now ≤ limits.owners }
+    requires names { name_count job.now ≤ crew.now.limits.names }
+    requires owners { owned_count job.now ≤ crew.now.limits.owners }
     ensures pairs { IfOk result (λ pairs. ArePairs graph.now pairs.items) }
     ensures reached { IfOk result (λ pairs. AreReachedPairs job.now graph.now pairs.items) }
-    ensures at_most { OnOk result (HasAtMostPairs job.now limits.pairs) }
-    ensures refused { IfErr result (IsRefused limits job.now) }
+    ensures at_most { OnOk result (HasAtMostPairs job.now crew.now.limits.pairs) }
+    ensures refused { IfErr result (IsRefused crew.now.limits job.now) }
 {
     pairs_by_numbers();
     pairs_are_counted();
     let _ = job;
     match reached_pairs(
-        rt,
-        alloc,
+        crew.rt,
+        crew.alloc,
         graph,
-        options.workers,
-        options.cut,
-        limits.pairs,
-        gate,
+        crew.options.workers,
+        crew.options.cut,
+        crew.limits.pairs,
+        crew.gate,
     ) {
         Ok(pairs) => Ok(pairs),
         Err(ReachFault::TooManyPairs) => Err(RunFault::TooManyPairs),
@@ -93,7 +93,7 @@ fn pairs_of<G: Gate, R: Threads + Sync>(
 }
 
 /// The nodes that a job reaches, from its pairs.
-fn nodes_of(
+pub(crate) fn nodes_of(
     alloc: Global,
     job: &Job,
     graph: &Graph,
@@ -111,24 +111,29 @@ fn nodes_of(
 
 /// Adds the lines of what the entries that a job reaches lead to and shouldn't.
 fn report_reached<G: Gate, R: Threads + Sync>(
-    rt: &R,
-    alloc: Global,
+    crew: &Crew<G, R>,
     job: &Job,
     tables: &Tables,
     graph: &Graph,
     pairs: &[Reached],
-    options: Options,
-    lines: &mut TextSet,
-    gate: &G,
+    lines: &mut FindingLines,
 ) -> Result<(), AllocError>
-    requires options { AreOptions options }
     requires tables { tables.now ≡ directory_of job.now }
     requires graph { IsJobGraph job.now graph.now }
     requires pairs { ArePairs graph.now pairs.now }
     ensures { OnOk result ((q : List ℕ) → IsTrue (has_text lines.new q) ↔ (IsTrue (has_text lines.old q) ⊎ IsLineOf job.now entries q)) }
 {
+    let alloc = crew.alloc;
     let nodes = nodes_of(alloc, job, graph, pairs)?;
-    let loops = on_loops(rt, alloc, graph, &nodes, options.workers, options.cut, gate)?;
+    let loops = on_loops(
+        crew.rt,
+        alloc,
+        graph,
+        &nodes,
+        crew.options.workers,
+        crew.options.cut,
+        crew.gate,
+    )?;
     report_entries(alloc, job, tables, graph, &nodes, &loops, lines)
 }
 
@@ -137,7 +142,7 @@ fn plan_of(
     alloc: Global,
     job: &Job,
     transactions: Vec<Planned>,
-    lines: TextSet,
+    lines: FindingLines,
 ) -> Result<Plan, AllocError>
     requires transactions { AreTransactionsOf job.now transactions.items }
     requires lines { (q : List ℕ) → IsTrue (has_text lines q) ↔ IsFindingLine job.now q }
@@ -153,18 +158,14 @@ fn plan_of(
 
 /// The plan of a job that reaches these pairs. The lines of its files and tables that are at fault are given.
 fn plan_reached<G: Gate, R: Threads + Sync>(
-    rt: &R,
-    alloc: Global,
+    crew: &Crew<G, R>,
     job: &Job,
     tables: &Tables,
     router: &mut CachedRouter,
     graph: &Graph,
     pairs: &[Reached],
-    options: Options,
-    lines: TextSet,
-    gate: &G,
+    lines: FindingLines,
 ) -> Result<Plan, AllocError>
-    requires options { AreOptions options }
     requires batches { (t : names.Transport) → 0 < limit_of job.now.settings t }
     requires tables { tables.now ≡ directory_of job.now }
     requires router { router.old ≡ routing_of job.now }
@@ -175,43 +176,56 @@ fn plan_reached<G: Gate, R: Threads + Sync>(
     ensures { IfOk result (IsPlanOf job.now) }
 {
     let mut lines = lines;
-    report_reached(
-        rt, alloc, job, tables, graph, pairs, options, &mut lines, gate,
-    )?;
-    let transactions = plan_addresses(alloc, job, router, graph, pairs, &mut lines)?;
-    plan_of(alloc, job, transactions, lines)
+    report_reached(crew, job, tables, graph, pairs, &mut lines)?;
+    let transactions = plan_addresses(crew.alloc, job, router, graph, pairs, &mut lines)?;
+    plan_of(crew.alloc, job, transactions, lines)
 }
 
-/// The plan of a job whose files and tables are read.
-fn plan_sources<G: Gate, R: Threads + Sync>(
-    rt: &R,
-    alloc: Global,
+/// The plan of a job by what its names stand for and what routes its addresses. The lines of its files and tables that are at fault are
+/// given.
+fn plan_graph<G: Gate, R: Threads + Sync>(
+    crew: &Crew<G, R>,
     job: &Job,
     tables: &Tables,
     router: &mut CachedRouter,
-    options: Options,
-    limits: Limits,
-    lines: TextSet,
-    gate: &G,
+    lines: FindingLines,
 ) -> Result<Plan, RunFault>
-    requires options { AreOptions options }
-    requires limits { AreLimits limits }
     requires batches { (t : names.Transport) → 0 < limit_of job.now.settings t }
     requires tables { tables.now ≡ directory_of job.now }
     requires router { router.old ≡ routing_of job.now }
     requires lines { (q : List ℕ) → has_text lines q ≡ has_fault_line job.now q }
     ensures plan { IfOk result (IsPlanOf job.now) }
-    ensures within { OnOk result (IsWithin limits job.now) }
-    ensures refused { IfErr result (IsRefused limits job.now) }
+    ensures within { OnOk result (IsWithin crew.now.limits job.now) }
+    ensures refused { IfErr result (IsRefused crew.now.limits job.now) }
 {
-    let graph = graph_of(alloc, job, tables, limits)?;
-    let pairs = pairs_of(rt, alloc, job, &graph, options, limits, gate)?;
-    match plan_reached(
-        rt, alloc, job, tables, router, &graph, &pairs, options, lines, gate,
-    ) {
+    let graph = graph_of(crew.alloc, job, tables, crew.limits)?;
+    let pairs = pairs_of(crew, job, &graph)?;
+    match plan_reached(crew, job, tables, router, &graph, &pairs, lines) {
         Ok(plan) => Ok(plan),
         Err(_) => Err(RunFault::Memory),
     }
+}
+
+/// The plan of a job whose files and tables are read.
+fn plan_sources<G: Gate, R: Threads + Sync>(
+    crew: &Crew<G, R>,
+    job: &Job,
+    sources: Sources,
+) -> Result<Plan, RunFault>
+    requires batches { (t : names.Transport) → 0 < limit_of job.now.settings t }
+    requires tables { sources.tables ≡ directory_of job.now }
+    requires router { sources.router ≡ routing_of job.now }
+    requires lines { (q : List ℕ) → has_text sources.lines q ≡ has_fault_line job.now q }
+    ensures plan { IfOk result (IsPlanOf job.now) }
+    ensures within { OnOk result (IsWithin crew.now.limits job.now) }
+    ensures refused { IfErr result (IsRefused crew.now.limits job.now) }
+{
+    let Sources {
+        tables,
+        mut router,
+        lines,
+    } = sources;
+    plan_graph(crew, job, &tables, &mut router, lines)
 }
 
 /// The plan of a job: each address that an entry or recipient leads to, once under each sender that a chain of entries gives it, in
@@ -242,23 +256,12 @@ pub fn plan_job<G: Gate, R: Threads + Sync>(
     let Ok(sources) = Sources::read(alloc, job) else {
         return Err(RunFault::Memory);
     };
-    let Sources {
-        tables,
-        router,
-        lines,
-    } = sources;
-    let Ok(mut router) = CachedRouter::new(alloc, job, router) else {
-        return Err(RunFault::Memory);
-    };
-    plan_sources(
+    let crew = Crew {
         rt,
         alloc,
-        job,
-        &tables,
-        &mut router,
         options,
         limits,
-        lines,
         gate,
-    )
+    };
+    plan_sources(&crew, job, sources)
 }

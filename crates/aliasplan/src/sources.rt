@@ -1,31 +1,34 @@
 //! What a job's files and tables say.
-use relay_routes::Router;
+use crate::cached_router::CachedRouter;
 use relay_tables::Tables;
-use relay_text::TextSet;
+use relay_wire::FindingLines;
 
 /// What names stand for, what routes addresses, and the lines of files and tables that are at fault.
 #[derive(Drop)]
 pub struct Sources {
     pub tables: Tables,
-    pub router: Router,
-    pub lines: TextSet,
+    pub router: CachedRouter,
+    pub lines: FindingLines,
 }
 
-ghost use Rattle.std.specs.Prelude.{◌≡◌, ◌≢◌, ◌<◌, ◌-◌, ◌^◌, ℕ, List, length, All, AllPairs, IsTrue, IfOk};
+ghost use Rattle.std.specs.Prelude.{◌≡◌, ◌≢◌, ◌<◌, ◌-◌, ◌^◌, ℕ, List, length, All, AllPairs, IsTrue, IfOk, OnOk};
 ghost use Rattle.relay_text.specs.Bytes.{folded, has_text};
 ghost use Rattle.relay_text.specs.Addresses.{is_origin};
 ghost use Rattle.relay_aliasfile.specs.AliasFiles.{alias_file_of};
 ghost use Rattle.relay_aliasfile.specs.MailboxFiles.{mailbox_file_of};
+ghost use Rattle.relay_routes.specs.Transports.{transport_table_of};
+ghost use Rattle.relay_routes.specs.Exchanges.{mx_table_of};
 ghost use Rattle.aliasplan.specs.Delivery.{directory_of, local_of, routing_of};
-ghost use Rattle.aliasplan.specs.Texts.{is_table_line, has_fault_line};
+ghost use Rattle.aliasplan.specs.Findings.{ReportsWhere};
+ghost use Rattle.aliasplan.specs.Texts.{is_name_line, is_route_line, has_fault_line};
 
 use crate::routing::{push_copies, router_of};
 use crate::source::Source;
 use crate::table::Table;
 use crate::texts::{read_includes, report_file, report_table};
-use relay_aliasfile::{AliasFile, MailboxFile, parse_aliases, parse_mailboxes};
+use relay_aliasfile::{parse_aliases, parse_mailboxes};
 use relay_job::{Job, Settings};
-use relay_routes::{MxTable, TransportTable};
+use relay_routes::{MxTable, Router, TransportTable};
 use relay_tables::{Local, parsed_files};
 use relay_text::{Seq, Text};
 use std::alloc::{AllocError, Global};
@@ -44,32 +47,37 @@ fn local_of(alloc: Global, settings: &Settings) -> Result<Local, AllocError>
     })
 }
 
-/// The lines of the files and tables that are at fault, but for the include files'.
-fn fault_lines(
-    alloc: Global,
-    aliases: &AliasFile,
-    mailboxes: &MailboxFile,
-    transports: &TransportTable,
-    exchanges: &MxTable,
-) -> Result<TextSet, AllocError>
-    ensures { IfOk result (λ lines. (q : List ℕ) → has_text lines q ≡ is_table_line aliases.now.faults mailboxes.now.faults transports.now.faults exchanges.now.faults q) }
+/// What names stand for. Adds the lines of the files that are at fault.
+fn read_tables(alloc: Global, job: &Job, lines: &mut FindingLines) -> Result<Tables, AllocError>
+    requires origin { IsTrue (is_origin job.now.settings.origin) }
+    requires domains { All (λ domain. folded domain ≡ domain) job.now.settings.destinations }
+    requires paths { AllPairs (λ a b. a.path ≢ b.path) job.now.includes }
+    requires few_entries { length (alias_file_of job.now.aliases).entries < 2 ^ 32 - 2 }
+    requires few_includes { length job.now.includes < 2 ^ 32 - 2 }
+    requires few_mailboxes { length (mailbox_file_of job.now.mailboxes).names < 2 ^ 32 - 2 }
+    ensures tables { IfOk result (λ tables. tables ≡ directory_of job.now) }
+    ensures lines { OnOk result (ReportsWhere lines.old lines.new (is_name_line (alias_file_of job.now.aliases).faults (mailbox_file_of job.now.mailboxes).faults job.now.includes)) }
 {
-    let mut lines = TextSet::new(alloc);
-    report_file(
-        alloc,
-        Source::Aliases,
-        aliases.faults.as_slice(),
-        &mut lines,
-    )?;
-    report_file(
-        alloc,
-        Source::Mailboxes,
-        mailboxes.faults.as_slice(),
-        &mut lines,
-    )?;
-    report_table(alloc, Table::Transport, transports.faults(), &mut lines)?;
-    report_table(alloc, Table::Mx, exchanges.faults(), &mut lines)?;
-    Ok(lines)
+    parsed_files();
+    let aliases = parse_aliases(alloc, job.aliases.as_bytes())?;
+    report_file(alloc, Source::Aliases, aliases.faults.as_slice(), lines)?;
+    let mailboxes = parse_mailboxes(alloc, job.mailboxes.as_bytes())?;
+    report_file(alloc, Source::Mailboxes, mailboxes.faults.as_slice(), lines)?;
+    let includes = read_includes(alloc, job.includes.as_slice(), lines)?;
+    let local = local_of(alloc, &job.settings)?;
+    Tables::build(alloc, local, aliases, includes, mailboxes)
+}
+
+/// What routes addresses. Adds the lines of the tables that are at fault.
+fn read_router(alloc: Global, job: &Job, lines: &mut FindingLines) -> Result<Router, AllocError>
+    ensures router { IfOk result (λ router. router ≡ routing_of job.now) }
+    ensures lines { OnOk result (ReportsWhere lines.old lines.new (is_route_line (transport_table_of job.now.transport).faults (mx_table_of job.now.mx).faults)) }
+{
+    let transports = TransportTable::parse(alloc, job.transport.as_bytes())?;
+    report_table(alloc, Table::Transport, transports.faults(), lines)?;
+    let exchanges = MxTable::parse(alloc, job.mx.as_bytes())?;
+    report_table(alloc, Table::Mx, exchanges.faults(), lines)?;
+    router_of(alloc, job, transports, exchanges)
 }
 
 impl Sources {
@@ -85,16 +93,10 @@ impl Sources {
         ensures router { IfOk result (λ sources. sources.router ≡ routing_of job.now) }
         ensures lines { IfOk result (λ sources. (q : List ℕ) → has_text sources.lines q ≡ has_fault_line job.now q) }
     {
-        parsed_files();
-        let aliases = parse_aliases(alloc, job.aliases.as_bytes())?;
-        let mailboxes = parse_mailboxes(alloc, job.mailboxes.as_bytes())?;
-        let transports = TransportTable::parse(alloc, job.transport.as_bytes())?;
-        let exchanges = MxTable::parse(alloc, job.mx.as_bytes())?;
-        let mut lines = fault_lines(alloc, &aliases, &mailboxes, &transports, &exchanges)?;
-        let includes = read_includes(alloc, job.includes.as_slice(), &mut lines)?;
-        let local = local_of(alloc, &job.settings)?;
-        let tables = Tables::build(alloc, local, aliases, includes, mailboxes)?;
-        let router = router_of(alloc, job, transports, exchanges)?;
+        let mut lines = FindingLines::new(alloc);
+        let tables = read_tables(alloc, job, &mut lines)?;
+        let router = read_router(alloc, job, &mut lines)?;
+        let router = CachedRouter::new(alloc, job, router)?;
         Ok(Sources {
             tables,
             router,

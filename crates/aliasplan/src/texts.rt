@@ -7,13 +7,13 @@ ghost use Rattle.aliasplan.specs.Findings.{ReportsWhere};
 ghost use Rattle.aliasplan.specs.Lanes.{table_line};
 ghost use Rattle.aliasplan.specs.Texts.{source_line, has_include_line};
 
-use crate::findings::report;
 use crate::source::Source;
 use crate::table::Table;
 use relay_aliasfile::{LineFault, parse_include};
 use relay_job::JobInclude;
 use relay_tables::IncludeEntry;
-use relay_text::{Text, TextSet};
+use relay_text::Text;
+use relay_wire::FindingLines;
 use std::alloc::{AllocError, Global};
 
 /// Adds the line of a file's fault.
@@ -21,12 +21,12 @@ fn report_file_fault(
     alloc: Global,
     source: Source<'_>,
     fault: LineFault,
-    lines: &mut TextSet,
+    lines: &mut FindingLines,
 ) -> Result<(), AllocError>
     ensures { OnOk result (ReportsWhere lines.old lines.new (λ q. bytes_eq q (source_line source.entry fault))) }
 {
     let finding = source.finding(alloc, fault)?;
-    report(alloc, &finding, lines)
+    lines.add(alloc, &finding)
 }
 
 /// Adds the lines of a file that are at fault.
@@ -34,7 +34,7 @@ pub fn report_file(
     alloc: Global,
     source: Source<'_>,
     faults: &[LineFault],
-    lines: &mut TextSet,
+    lines: &mut FindingLines,
 ) -> Result<(), AllocError>
     ensures { OnOk result (ReportsWhere lines.old lines.new (λ q. list_any (λ fault. bytes_eq q (source_line source.entry fault)) faults.now)) }
 {
@@ -49,12 +49,12 @@ fn report_table_fault(
     alloc: Global,
     table: Table,
     fault: relay_routes::LineFault,
-    lines: &mut TextSet,
+    lines: &mut FindingLines,
 ) -> Result<(), AllocError>
     ensures { OnOk result (ReportsWhere lines.old lines.new (λ q. bytes_eq q (table_line table fault))) }
 {
     let finding = table.finding(fault);
-    report(alloc, &finding, lines)
+    lines.add(alloc, &finding)
 }
 
 /// Adds the lines of a table that are at fault.
@@ -62,7 +62,7 @@ pub fn report_table(
     alloc: Global,
     table: Table,
     faults: &[relay_routes::LineFault],
-    lines: &mut TextSet,
+    lines: &mut FindingLines,
 ) -> Result<(), AllocError>
     ensures { OnOk result (ReportsWhere lines.old lines.new (λ q. list_any (λ fault. bytes_eq q (table_line table fault)) faults.now)) }
 {
@@ -76,7 +76,7 @@ pub fn report_table(
 fn read_include(
     alloc: Global,
     include: &JobInclude,
-    lines: &mut TextSet,
+    lines: &mut FindingLines,
 ) -> Result<IncludeEntry, AllocError>
     ensures entry { IfOk result (λ entry. entry ≡ entry_of_include include.now) }
     ensures lines { OnOk result (ReportsWhere lines.old lines.new (λ q. has_include_line q include.now)) }
@@ -95,7 +95,7 @@ fn read_include(
 pub fn read_includes(
     alloc: Global,
     includes: &[JobInclude],
-    lines: &mut TextSet,
+    lines: &mut FindingLines,
 ) -> Result<Vec<IncludeEntry>, AllocError>
     ensures entries { IfOk result (λ entries. entries.items ≡ map entry_of_include includes.now) }
     ensures lines { OnOk result (ReportsWhere lines.old lines.new (λ q. list_any (has_include_line q) includes.now)) }

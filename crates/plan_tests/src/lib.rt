@@ -6,6 +6,8 @@ mod aliases;
 #[cfg(test)]
 mod devices;
 #[cfg(test)]
+mod domains;
+#[cfg(test)]
 mod files;
 #[cfg(test)]
 mod gates;

@@ -14,7 +14,7 @@ use std::test::Fail;
 use std::thread::Threads;
 
 /// Nothing, with room for all that memory holds.
-fn blank(alloc: Global) -> Paper
+pub(crate) fn blank(alloc: Global) -> Paper
     ensures nothing { result.text.items ≡ [] }
     ensures works { result.failed ≡ false }
 {

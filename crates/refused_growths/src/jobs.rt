@@ -93,6 +93,9 @@ pub const LISTS_PLAN: &[u8] = b"plan 5 transactions 6 recipients 3 findings\n\
     finding missing bob in alias west\n\
     end\n";
 
+pub const LISTS_DOMAINS: &[u8] = b"example.com\n\
+    example.net\n";
+
 /// A list in a list, of which the inner one has an owner; it's written to with an extension, and lists names with extensions.
 pub const OWNERS_JOB: &[u8] = b"%settings\n\
     myhostname = relay.example.org\n\

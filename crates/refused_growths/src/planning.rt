@@ -1,13 +1,14 @@
-//! A job that is read, and the plan of a message to one mailbox.
+//! A job that is read, the plan of a message to one mailbox, and the domains of lists.
 use crate::devices::Page;
 use crate::inputs::{are_texts, is_address};
-use crate::jobs::FIRST_JOB;
+use crate::jobs::{FIRST_JOB, LISTS_JOB};
 use crate::running::{LIMITS, OPTIONS};
 use crate::teller::{Teller, call, case};
 use crate::unready::Unready;
-use aliasplan::{Job, NoGate, RunFault, parse_job, plan_job, read_job};
+use aliasplan::{Job, NoGate, RunFault, domains, parse_job, plan_job, read_job};
 use growth_answers::{Answer, Seen};
 use relay_routes::Transport;
+use relay_text::{Seq, Text};
 use relay_wire::{Plan, Planned};
 use std::alloc::Global;
 use std::thread::Threads;
@@ -57,9 +58,33 @@ fn plans_a_job<R: Threads + Sync>(rt: &R, alloc: Global) -> Result<Seen, Unready
     )
 }
 
+fn are_domains(domains: Result<Seq<Text>, RunFault>) -> Answer {
+    match domains {
+        Ok(domains) => Answer::given(are_texts(
+            domains.as_slice(),
+            &[b"example.com", b"example.net"],
+        )),
+        Err(RunFault::Memory) => Answer::Refused,
+        Err(_) => Answer::Wrong,
+    }
+}
+
+fn finds_domains<R: Threads + Sync>(rt: &R, alloc: Global) -> Result<Seen, Unready> {
+    let job = parse_job(alloc, LISTS_JOB)?;
+    Ok(
+        match are_domains(domains(rt, alloc, &job, OPTIONS, LIMITS, &NoGate)) {
+            Answer::Refused => Seen::at_last(are_domains(domains(
+                rt, alloc, &job, OPTIONS, LIMITS, &NoGate,
+            ))),
+            answer => Seen::at_once(answer),
+        },
+    )
+}
+
 pub(crate) fn tell<R: Print + AllocGlobal + Threads + Sync>(teller: &mut Teller<'_, R>) {
     let rt = teller.rt;
     let alloc = rt.alloc();
     call!(teller, "read_job", reads_a_job(alloc));
     case!(teller, "plan_job", plans_a_job(rt, alloc));
+    case!(teller, "domains", finds_domains(rt, alloc));
 }

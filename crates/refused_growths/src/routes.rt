@@ -280,6 +280,26 @@ fn finds_a_mailboxs_destination(alloc: Global) -> Result<Seen, Unready> {
     }))
 }
 
+fn finds_a_looked_up_name(alloc: Global) -> Result<Seen, Unready> {
+    let to = Destination {
+        transport: Transport::Relay,
+        nexthop: Text::copy_of(
+            alloc,
+            b"hub.a-department-with-an-even-longer-name.example.com:2525",
+        )?,
+    };
+    Ok(twice!({
+        match to.looked_up_name(alloc) {
+            Ok(Some(name)) => Answer::given(is_text(
+                &name,
+                b"hub.a-department-with-an-even-longer-name.example.com"
+            )),
+            Ok(None) => Answer::Wrong,
+            Err(_) => Answer::Refused,
+        }
+    }))
+}
+
 fn tell_of_tables<R: Print + AllocGlobal>(teller: &mut Teller<'_, R>) {
     let alloc = teller.rt.alloc();
     call!(teller, "Via::parse", reads_a_setting(alloc));
@@ -315,6 +335,11 @@ fn tell_of_destinations<R: Print + AllocGlobal>(teller: &mut Teller<'_, R>) {
         teller,
         "Router::destination_via",
         finds_a_mailboxs_destination(alloc)
+    );
+    case!(
+        teller,
+        "Destination::looked_up_name",
+        finds_a_looked_up_name(alloc)
     );
 }
 

@@ -1,11 +1,13 @@
-//! Runs from a job's bytes to its plan's, one after another in one process.
+//! Runs from a job's bytes to its plan's and to its domains', one after another in one process.
 ghost use Rattle.std.specs.Prelude.{◌≡◌, false};
 
 use crate::devices::{Page, Paper};
-use crate::jobs::{FIRST_JOB, FIRST_PLAN, LISTS_JOB, LISTS_PLAN, OWNERS_JOB, OWNERS_PLAN};
+use crate::jobs::{
+    FIRST_JOB, FIRST_PLAN, LISTS_DOMAINS, LISTS_JOB, LISTS_PLAN, OWNERS_JOB, OWNERS_PLAN,
+};
 use crate::teller::{Teller, case};
 use crate::unready::Unready;
-use aliasplan::{Form, Limits, NoGate, Options, RunFault, run};
+use aliasplan::{Form, Limits, NoGate, Options, RunFault, run, run_domains};
 use growth_answers::{Answer, Seen};
 use std::alloc::Global;
 use std::thread::Threads;
@@ -72,8 +74,30 @@ fn runs_jobs<R: Threads + Sync>(rt: &R, alloc: Global) -> Result<Seen, Unready> 
     Ok(seen)
 }
 
+/// What a run answers that names the domains of lists; where it's refused, nothing is written.
+fn named<R: Threads + Sync>(rt: &R, alloc: Global, paper: &mut Paper) -> Answer
+    requires { paper.old.failed ≡ false }
+{
+    let mut page = Page::new(LISTS_JOB);
+    match run_domains(rt, alloc, &mut page, paper, OPTIONS, LIMITS, &NoGate) {
+        Ok(()) => Answer::given(paper.text.as_slice() == LISTS_DOMAINS),
+        Err(RunFault::Memory) => Answer::refused(paper.text.is_empty()),
+        Err(_) => Answer::Wrong,
+    }
+}
+
+fn names_domains<R: Threads + Sync>(rt: &R, alloc: Global) -> Result<Seen, Unready> {
+    let mut paper = Paper::new(alloc)?;
+    let mut second = Paper::new(alloc)?;
+    Ok(match named(rt, alloc, &mut paper) {
+        Answer::Refused => Seen::at_last(named(rt, alloc, &mut second)),
+        answer => Seen::at_once(answer),
+    })
+}
+
 pub(crate) fn tell<R: Print + AllocGlobal + Threads + Sync>(teller: &mut Teller<'_, R>) {
     let rt = teller.rt;
     let alloc = rt.alloc();
     case!(teller, "run", runs_jobs(rt, alloc));
+    case!(teller, "run_domains", names_domains(rt, alloc));
 }

@@ -56,10 +56,13 @@ with_place s Envelope place = record s { envelope = Some place }
 abbrev pub part_behind : List ℕ → Place → Part
 part_behind word place = record { section = named word; number = place.line; lines = content_at place }
 
--- what stands behind a heading, and its number; nothing and 0 where there is none
+-- the lines behind a heading, their bytes, and its number; nothing and 0 where there is none
 abbrev pub content_behind : Option Place → List JobLine
 content_behind None = []
 content_behind (Some place) = content_at place
+
+abbrev pub bytes_behind : Option Place → List ℕ
+bytes_behind place = flat_map (λ l. content_of l.raw) (content_behind place)
 
 abbrev pub line_behind : Option Place → ℕ
 line_behind None = 0

@@ -9,6 +9,7 @@ pub mod fault;
 mod heading;
 mod include_place;
 pub mod job;
+mod job_files;
 pub mod located;
 pub mod parsed;
 pub mod parsing;

@@ -3,11 +3,10 @@ ghost use Rattle.std.specs.Prelude.{◌≡◌};
 ghost use Rattle.relay_job.specs.JobText.{job_of};
 ghost use Rattle.relay_job.specs.JobAnswers.{Answers};
 
-use crate::content::section_bytes;
 use crate::envelope::Envelope;
 use crate::fault::RunFault;
-use crate::include_place::read_includes;
 use crate::job::Job;
+use crate::job_files::JobFiles;
 use crate::parts::Parts;
 use crate::section::Section;
 use crate::setting_values::SettingValues;
@@ -31,19 +30,15 @@ pub fn parse_job(alloc: Global, bytes: &[u8]) -> Result<Job, RunFault>
         sections.section(Section::Envelope),
         settings.origin.as_bytes(),
     )?;
-    let aliases = section_bytes(alloc, sections.section(Section::Aliases))?;
-    let includes = read_includes(alloc, &parts.includes)?;
-    let mailboxes = section_bytes(alloc, sections.section(Section::Mailboxes))?;
-    let transport = section_bytes(alloc, sections.section(Section::Transport))?;
-    let mx = section_bytes(alloc, sections.section(Section::Mx))?;
+    let files = JobFiles::read(alloc, &parts)?;
     let Envelope { sender, recipients } = envelope;
     Ok(Job {
         settings,
-        aliases,
-        includes,
-        mailboxes,
-        transport,
-        mx,
+        aliases: files.aliases,
+        includes: files.includes,
+        mailboxes: files.mailboxes,
+        transport: files.transport,
+        mx: files.mx,
         sender,
         recipients,
     })

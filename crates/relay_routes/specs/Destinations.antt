@@ -1,5 +1,5 @@
 -- Where addresses go before hosts are looked up, and what that says of their routes (transport(5), "RESULT FORMAT").
-use Rattle.std.specs.Prelude.{◌≡◌, ℕ, List, Option, Some, None, unwrap_or, Result, Ok, Err}
+use Rattle.std.specs.Prelude.{◌≡◌, ℕ, List, Option, Some, None, unwrap_or, Result, Ok, Err, if◌then◌else◌}
 use Rattle.relay_text.specs.AddressParts.{AddressParts}
 use Rattle.relay_routes.specs.declared.transport.Transport as names
 use Rattle.relay_routes.specs.declared.choice.Choice.{Choice}
@@ -42,3 +42,12 @@ pub record Determines (r : Routing) (found : Result Destination Unrouted) (route
   pub same_route : (d : Destination) → found ≡ Ok d → route ≡ route_to r d.transport d.nexthop
   pub no_route : (reason : Unrouted) → found ≡ Err reason → route ≡ Err reason
   pub kept : (d : Destination) (q : Route) → found ≡ Ok d → route_to r d.transport d.nexthop ≡ Ok q → (q.transport ≡ d.transport) × (q.nexthop ≡ d.nexthop)
+
+-- The name whose mail exchangers a nexthop's route asks for: its host without the port, where they are looked up. A route to a host in
+-- brackets, over LMTP or to no nexthop of the transport's forms asks for none.
+abbrev pub name_of_nexthop : Option Nexthop → Option (List ℕ)
+name_of_nexthop None = None
+name_of_nexthop (Some n) = if n.looks_up then Some n.host else None
+
+abbrev pub looked_up_name : Destination → Option (List ℕ)
+looked_up_name d = name_of_nexthop (nexthop_of d.transport d.nexthop)

@@ -10,14 +10,30 @@ pub struct Destination {
     pub nexthop: Text,
 }
 
-ghost use Rattle.std.specs.Prelude.{option_map, unwrap_or};
+ghost use Rattle.std.specs.Prelude.{◌≡◌, IfOk, option_map, unwrap_or};
 ghost use Rattle.relay_routes.specs.Routes.{Answers};
-ghost use Rattle.relay_routes.specs.Destinations.{destination_to};
+ghost use Rattle.relay_routes.specs.Destinations.{destination_to, looked_up_name};
 
-use crate::form::form_of;
+use crate::form::{Form, form_of};
 use crate::unrouted::Unrouted;
 use relay_text::Address;
-use std::alloc::Global;
+use std::alloc::{AllocError, Global};
+
+impl Destination {
+    /// The name, in lower case, whose mail exchangers the route to it looks up (RFC 5321 section 5.1). `None` where the host stands in
+    /// brackets, or the transport is LMTP: no exchanger is looked up then.
+    pub fn looked_up_name(&self, alloc: Global) -> Result<Option<Text>, AllocError>
+        ensures { IfOk result (λ name. name ≡ looked_up_name self.now) }
+    {
+        match form_of(self.transport, self.nexthop.as_bytes()) {
+            Some(Form::Host(form)) if form.looks_up => {
+                let name = Text::folded_copy_of(alloc, form.host)?;
+                Ok(Some(name))
+            }
+            _ => Ok(None),
+        }
+    }
+}
 
 /// The destination by a transport to a nexthop.
 #[tactic(auto, unfolding(crate::specs::Destinations::destination_to))]

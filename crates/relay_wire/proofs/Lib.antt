@@ -4,3 +4,5 @@ pub mod Lines
 pub mod ScriptParts
 pub mod ScriptText
 pub mod LengthSums
+pub mod LineFronts
+pub mod LineOrders

@@ -217,13 +217,24 @@ fn put_finding(finding: &Finding, out: &mut Vec<u8>) -> Result<(), AllocError>
     }
 }
 
+// Most lines are no longer than this many bytes, and take memory once.
+const USUAL_LEN: usize = 64;
+
+/// The bytes of a finding's line.
+#[tactic(auto, using(crate::proofs::Pieces::spaced_after))]
+pub(crate) fn finding_bytes(alloc: Global, finding: &Finding) -> Result<Vec<u8>, AllocError>
+    ensures { IfOk result (λ line. line.items ≡ finding_text_of finding.now) }
+{
+    let mut out = Vec::with_capacity(alloc, USUAL_LEN)?;
+    out.extend_from_slice(b"finding")?;
+    put_finding(finding, &mut out)?;
+    Ok(out)
+}
+
 /// The line of a finding, without its end: words with one space between each two, an alias's name in the one spelling of a local
 /// part, an address as a path.
-#[tactic(auto, using(crate::proofs::Pieces::spaced_after))]
 pub fn finding_line(alloc: Global, finding: &Finding) -> Result<Text, AllocError>
     ensures { IfOk result (λ line. line ≡ finding_text_of finding.now) }
 {
-    let mut out = Vec::from_slice(alloc, b"finding")?;
-    put_finding(finding, &mut out)?;
-    Ok(Text::of(out))
+    Ok(Text::of(finding_bytes(alloc, finding)?))
 }

@@ -3,6 +3,8 @@
 
 pub mod commands;
 pub mod finding;
+mod finding_lines;
+mod fronted_line;
 pub mod hostname;
 mod lengths;
 pub mod plan;
@@ -14,6 +16,7 @@ mod writing;
 
 pub use commands::{Greeting, Script};
 pub use finding::{Finding, LineWord, Place, Reason, finding_line};
+pub use finding_lines::FindingLines;
 pub use hostname::is_hostname;
 pub use plan::{Plan, Planned, plan_text};
 pub use scripts::{one_script, read_script, script};

@@ -39,16 +39,19 @@ fn intern_at_last(
 fn keys_are_numbered_in_turn(rt: HostRuntime) -> Result<(), Fail> {
     let mut set = Chains::new(rt.alloc(), 2, 2)?;
     assert!(rt; set.is_empty());
-    assert_eq!(rt; set.insert(7), Ok((0, true)));
-    assert_eq!(rt; set.insert(9), Ok((1, true)));
-    assert_eq!(rt; set.insert(7), Ok((0, false)));
-    assert_eq!(rt; set.insert(8), Err(ChainFault::Full));
-    assert_eq!(rt; set.find(9), Some(1));
-    assert_eq!(rt; set.find(8), None);
-    assert_eq!(rt; set.get(1), Some(9));
-    assert_eq!(rt; set.get(2), None);
-    assert_eq!(rt; set.len(), 2);
-    assert!(rt; !set.is_empty());
+    let inserted = [set.insert(7), set.insert(9), set.insert(7), set.insert(8)];
+    assert_eq!(rt;
+        inserted,
+        [
+            Ok((0, true)),
+            Ok((1, true)),
+            Ok((0, false)),
+            Err(ChainFault::Full)
+        ]
+    );
+    assert_eq!(rt; [set.find(9), set.find(8)], [Some(1), None]);
+    assert_eq!(rt; [set.get(1), set.get(2)], [Some(9), None]);
+    assert_eq!(rt; (set.len(), set.is_empty()), (2, false));
     Ok(())
 }
 
@@ -56,24 +59,38 @@ fn keys_are_numbered_in_turn(rt: HostRuntime) -> Result<(), Fail> {
 fn texts_are_numbered_in_turn(rt: HostRuntime) -> Result<(), Fail> {
     let mut set = Interner::new(rt.alloc(), 2, 2)?;
     assert!(rt; set.is_empty());
-    assert_eq!(rt; set.intern(b"g"), Ok((0, true)));
-    assert_eq!(rt; set.intern(b"i"), Ok((1, true)));
-    assert_eq!(rt; set.intern(b"g"), Ok((0, false)));
-    assert_eq!(rt; set.intern(b"h"), Err(ChainFault::Full));
-    assert_eq!(rt; set.find(b"i"), Some(1));
-    assert_eq!(rt; set.find(b"h"), None);
+    let interned = [
+        set.intern(b"g"),
+        set.intern(b"i"),
+        set.intern(b"g"),
+        set.intern(b"h"),
+    ];
+    assert_eq!(rt;
+        interned,
+        [
+            Ok((0, true)),
+            Ok((1, true)),
+            Ok((0, false)),
+            Err(ChainFault::Full)
+        ]
+    );
+    assert_eq!(rt; [set.find(b"i"), set.find(b"h")], [Some(1), None]);
     assert!(rt; set.text(1).is_some_and(|text| text == b"i".as_slice()));
     assert!(rt; set.text(2).is_none());
-    assert_eq!(rt; set.len(), 2);
-    assert!(rt; !set.is_empty());
+    assert_eq!(rt; (set.len(), set.is_empty()), (2, false));
     Ok(())
 }
 
 #[test]
-fn a_limit_of_none_takes_none(rt: HostRuntime) -> Result<(), Fail> {
+fn a_limit_of_none_takes_no_key(rt: HostRuntime) -> Result<(), Fail> {
     let mut keys = Chains::new(rt.alloc(), 1, 0)?;
     assert_eq!(rt; keys.insert(0), Err(ChainFault::Full));
     assert_eq!(rt; (keys.find(0), keys.get(0), keys.len()), (None, None, 0));
+    Ok(())
+}
+
+#[test]
+fn a_limit_of_none_takes_no_text(rt: HostRuntime) -> Result<(), Fail> {
     let mut texts = Interner::new(rt.alloc(), 1, 0)?;
     assert_eq!(rt; texts.intern(b""), Err(ChainFault::Full));
     assert_eq!(rt; (texts.find(b""), texts.len()), (None, 0));
@@ -225,17 +242,48 @@ const ALIKE: [(&[u8], &[u8]); 3] = [
 ];
 
 #[test]
+fn hashes_are_alike_under_one_key_alone(rt: HostRuntime) {
+    for (first, second) in ALIKE.iter() {
+        assert_eq!(rt; hash_text(KEY, first), hash_text(KEY, second));
+        assert_ne!(rt; hash_text(KEY + 1, first), hash_text(KEY + 1, second));
+    }
+}
+
+#[test]
 fn texts_of_one_hash_keep_apart(rt: HostRuntime) -> Result<(), Fail> {
     let mut set = Interner::with_key(rt.alloc(), KEY, 1, 6)?;
-    let mut links = Links::new(rt.alloc(), 1)?;
     for (i, (first, second)) in ALIKE.iter().enumerate() {
         let number = 2 * (i as u32);
-        let hash = hash_text(KEY, first);
-        assert_eq!(rt; hash_text(KEY, second), hash);
-        assert_ne!(rt; hash_text(KEY + 1, first), hash_text(KEY + 1, second));
         assert_eq!(rt; set.intern(first), Ok((number, true)));
         assert_eq!(rt; set.find(second), None);
         assert_eq!(rt; set.intern(second), Ok((number + 1, true)));
+    }
+    Ok(())
+}
+
+#[test]
+fn texts_of_one_hash_are_found(rt: HostRuntime) -> Result<(), Fail> {
+    let mut set = Interner::with_key(rt.alloc(), KEY, 1, 6)?;
+    for (first, second) in ALIKE.iter() {
+        set.intern(first)?;
+        set.intern(second)?;
+    }
+    for (i, (first, second)) in ALIKE.iter().enumerate() {
+        let number = 2 * (i as u32);
+        assert_eq!(rt;
+            (set.find(first), set.find(second)),
+            (Some(number), Some(number + 1))
+        );
+    }
+    Ok(())
+}
+
+#[test]
+fn links_of_one_hash_keep_apart(rt: HostRuntime) -> Result<(), Fail> {
+    let mut links = Links::new(rt.alloc(), 1)?;
+    for (i, (first, _)) in ALIKE.iter().enumerate() {
+        let number = 2 * (i as u32);
+        let hash = hash_text(KEY, first);
         push_hash(&rt, &mut links, hash)?;
         assert_eq!(rt; links.find(hash, |found| found == number + 1), None);
         push_hash(&rt, &mut links, hash)?;
@@ -244,10 +292,6 @@ fn texts_of_one_hash_keep_apart(rt: HostRuntime) -> Result<(), Fail> {
             Some(number + 1)
         );
         assert_eq!(rt; links.find(hash, |_| true), Some(number));
-    }
-    for (i, (first, second)) in ALIKE.iter().enumerate() {
-        assert_eq!(rt; set.find(first), Some(2 * (i as u32)));
-        assert_eq!(rt; set.find(second), Some(2 * (i as u32) + 1));
     }
     Ok(())
 }

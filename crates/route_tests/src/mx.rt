@@ -113,18 +113,30 @@ example.net
 example.net NS
 ";
 
+/// The numbers of a table's bad lines.
+fn bad_lines(alloc: Global, table: &str) -> Result<Vec<u8>, Fail> {
+    let mut lines = Vec::new(alloc);
+    let table = MxTable::parse(alloc, table.as_bytes())?;
+    for fault in table.faults() {
+        if fault.kind != FaultKind::BadLine {
+            return Err(Fail::from("a bad line"));
+        }
+        let number = format!(in alloc; "{}", fault.line)?;
+        put_word(&mut lines, number.as_bytes())?;
+    }
+    Ok(lines)
+}
+
 #[test]
 fn reads_lines(rt: HostRuntime) -> Result<(), Fail> {
     let alloc = rt.alloc();
     expect_hosts(&rt, alloc, LINES, 0, "a.example.net b.example.net")?;
-    let table = MxTable::parse(alloc, LINES.as_bytes())?;
-    let mut lines = Vec::new(alloc);
-    for fault in table.faults() {
-        assert_eq!(rt; fault.kind, FaultKind::BadLine);
-        let number = format!(in alloc; "{}", fault.line)?;
-        put_word(&mut lines, number.as_bytes())?;
-    }
-    expect(&rt, "faults", &lines, "3 4 5 8 9 10 11 12 13");
+    expect(
+        &rt,
+        "faults",
+        &bad_lines(alloc, LINES)?,
+        "3 4 5 8 9 10 11 12 13",
+    );
     Ok(())
 }
 

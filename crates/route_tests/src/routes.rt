@@ -59,42 +59,79 @@ fn expect_destinations<R: Abort>(
     Ok(())
 }
 
-/// Compares the routes of `joe@example.com` by settings; `none` where a setting is none.
+/// Compares the names that the ways to the destinations of addresses look up; `none` where one looks up none.
+fn expect_looked_up<R: Abort>(
+    rt: &R,
+    alloc: Global,
+    router: &Router,
+    cases: &str,
+) -> Result<(), Fail> {
+    for line in cases.lines() {
+        let (asked, wanted) = parts(line);
+        let Ok(to) = router.destination(alloc, &address(alloc, asked)?) else {
+            return Err(Fail::from("a destination"));
+        };
+        match to.looked_up_name(alloc)? {
+            Some(name) => expect(rt, asked, name.as_bytes(), wanted),
+            None => expect(rt, asked, b"none", wanted),
+        }
+    }
+    Ok(())
+}
+
+/// The route of `joe@example.com` by a transport and nexthop.
+fn route_by(alloc: Global, router: &Router, via: &Via) -> Result<Vec<u8>, Fail> {
+    let joe = address(alloc, "joe@example.com")?;
+    let answer = router.route_via(alloc, via, &joe);
+    Ok(shown_route(alloc, &answer)?)
+}
+
+/// The same by a setting; `none` where the setting is none.
+fn route_by_setting(alloc: Global, router: &Router, setting: &str) -> Result<Vec<u8>, Fail> {
+    let Some(via) = Via::parse(alloc, setting.as_bytes())? else {
+        return Ok(Vec::from_slice(alloc, b"none")?);
+    };
+    route_by(alloc, router, &via)
+}
+
 fn expect_settings<R: Abort>(
     rt: &R,
     alloc: Global,
     router: &Router,
     cases: &str,
 ) -> Result<(), Fail> {
-    let joe = address(alloc, "joe@example.com")?;
     for line in cases.lines() {
         let (asked, wanted) = parts(line);
-        let Some(via) = Via::parse(alloc, asked.as_bytes())? else {
-            expect(rt, asked, b"none", wanted);
-            continue;
-        };
-        let answer = router.route_via(alloc, &via, &joe);
-        expect(rt, asked, &shown_route(alloc, &answer)?, wanted);
+        expect(rt, asked, &route_by_setting(alloc, router, asked)?, wanted);
     }
     Ok(())
 }
 
-/// Compares the destinations of `joe@example.com` by settings.
+/// The destination of `joe@example.com` by a setting, or why there is none.
+fn destination_by_setting(alloc: Global, router: &Router, setting: &str) -> Result<Vec<u8>, Fail> {
+    let via = Via::parse(alloc, setting.as_bytes())?.ok_or("a setting")?;
+    let joe = address(alloc, "joe@example.com")?;
+    let shown = match router.destination_via(alloc, &via, &joe) {
+        Ok(to) => shown_destination(alloc, to.transport, to.nexthop.as_bytes()),
+        Err(unrouted) => Vec::from_slice(alloc, reason(&unrouted)),
+    };
+    Ok(shown?)
+}
+
 fn expect_destinations_by_settings<R: Abort>(
     rt: &R,
     alloc: Global,
     router: &Router,
     cases: &str,
 ) -> Result<(), Fail> {
-    let joe = address(alloc, "joe@example.com")?;
     for line in cases.lines() {
         let (asked, wanted) = parts(line);
-        let via = Via::parse(alloc, asked.as_bytes())?.ok_or("a setting")?;
-        let answer = match router.destination_via(alloc, &via, &joe) {
-            Ok(to) => shown_destination(alloc, to.transport, to.nexthop.as_bytes())?,
-            Err(unrouted) => Vec::from_slice(alloc, reason(&unrouted))?,
-        };
-        expect(rt, asked, &answer, wanted);
+        expect(
+            rt,
+            asked,
+            &destination_by_setting(alloc, router, asked)?,
+            wanted,
+        );
     }
     Ok(())
 }
@@ -152,16 +189,19 @@ lmtp:unix:: none
     expect_settings(&rt, alloc, &router, cases)
 }
 
-#[test]
-fn tells_why_a_setting_gives_no_route(rt: HostRuntime) -> Result<(), Fail> {
-    let alloc = rt.alloc();
-    let router = router_over(alloc, Transport::Smtp, "", "")?;
-    let socket = Via {
+/// The route of `joe@example.com` over SMTP to a path.
+fn route_to_a_path(alloc: Global, router: &Router) -> Result<Vec<u8>, Fail> {
+    let path = Via {
         transport: Transport::Smtp,
         nexthop: Some(Text::copy_of(alloc, b"unix:/mbox")?),
     };
-    let answer = router.route_via(alloc, &socket, &address(alloc, "joe@example.com")?);
-    let shown = shown_route(alloc, &answer)?;
+    route_by(alloc, router, &path)
+}
+
+#[test]
+fn tells_why_a_setting_gives_no_route(rt: HostRuntime) -> Result<(), Fail> {
+    let router = router_over(rt.alloc(), Transport::Smtp, "", "")?;
+    let shown = route_to_a_path(rt.alloc(), &router)?;
     expect(&rt, "smtp:unix:/mbox", &shown, "transport");
     Ok(())
 }
@@ -206,6 +246,20 @@ u@f.example.net: transport
 u@example.com: no mail
 ";
     expect_destinations(&rt, alloc, &router, cases)
+}
+
+#[test]
+fn finds_what_is_looked_up(rt: HostRuntime) -> Result<(), Fail> {
+    let alloc = rt.alloc();
+    let router = router_over(alloc, Transport::Smtp, TRANSPORTS, EXCHANGES)?;
+    let cases = "u@example.net: none
+u@a.B.example.net: hub.example.com
+u@B.example.net: b.example.net
+u@c.example.net: none
+u@d.example.net: none
+u@e.example.net: none
+";
+    expect_looked_up(&rt, alloc, &router, cases)
 }
 
 #[test]

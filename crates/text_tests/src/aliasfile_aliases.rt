@@ -18,6 +18,23 @@ fn shown_entries(alloc: Global, entries: &[Entry]) -> Result<Vec<u8>, AllocError
     Ok(text)
 }
 
+fn entries_are<R: Abort>(
+    rt: &R,
+    alloc: Global,
+    entries: &[Entry],
+    wanted: &[u8],
+) -> Result<(), AllocError> {
+    assert_eq!(rt; shown_entries(alloc, entries)?.as_slice(), wanted);
+    Ok(())
+}
+
+fn lines_are<R: Abort>(rt: &R, entries: &[Entry], lines: &[usize]) {
+    assert_eq!(rt; entries.len(), lines.len());
+    for (entry, line) in entries.iter().zip(lines) {
+        assert_eq!(rt; entry.line, *line);
+    }
+}
+
 /// Whether a file has these entries, lines of entries and faults.
 fn file_is<R: Abort>(
     rt: &R,
@@ -28,15 +45,8 @@ fn file_is<R: Abort>(
     faults: &[(usize, FaultKind)],
 ) -> Result<(), AllocError> {
     let file = parse_aliases(alloc, text)?;
-    let shown = shown_entries(alloc, file.entries.as_slice())?;
-    assert_eq!(rt; shown.as_slice(), entries);
-    let numbers: Vec<usize> = file
-        .entries
-        .as_slice()
-        .iter()
-        .map(|entry| entry.line)
-        .collect(alloc)?;
-    assert_eq!(rt; numbers.as_slice(), lines);
+    entries_are(rt, alloc, file.entries.as_slice(), entries)?;
+    lines_are(rt, file.entries.as_slice(), lines);
     faults_are(rt, &file.faults, faults);
     Ok(())
 }

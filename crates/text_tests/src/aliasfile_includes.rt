@@ -53,15 +53,29 @@ fn keeps_more_items_than_lie_in_place(rt: HostRuntime) -> Result<(), Fail> {
     Ok(())
 }
 
-/// Reads a text as each of the three kinds of file.
-fn takes<R: Abort>(rt: &R, alloc: Global, text: &[u8]) -> Result<(), AllocError> {
+fn takes_as_aliases<R: Abort>(rt: &R, alloc: Global, text: &[u8]) -> Result<(), AllocError> {
     let aliases = parse_aliases(alloc, text)?;
     assert!(rt; aliases.entries.len() <= 1 && aliases.faults.len() <= 2);
+    Ok(())
+}
+
+fn takes_as_include<R: Abort>(rt: &R, alloc: Global, text: &[u8]) -> Result<(), AllocError> {
     let include = parse_include(alloc, text)?;
     assert!(rt; include.items.len() <= 2 && include.faults.len() <= 2);
+    Ok(())
+}
+
+fn takes_as_mailboxes<R: Abort>(rt: &R, alloc: Global, text: &[u8]) -> Result<(), AllocError> {
     let mailboxes = parse_mailboxes(alloc, text)?;
     assert!(rt; mailboxes.names.len() <= 1 && mailboxes.faults.len() <= 2);
     Ok(())
+}
+
+/// Reads a text as each of the three kinds of file.
+fn takes<R: Abort>(rt: &R, alloc: Global, text: &[u8]) -> Result<(), AllocError> {
+    takes_as_aliases(rt, alloc, text)?;
+    takes_as_include(rt, alloc, text)?;
+    takes_as_mailboxes(rt, alloc, text)
 }
 
 #[test]

@@ -35,15 +35,15 @@ fn address_text(
 fn reads_and_writes<R: Abort>(rt: &R, alloc: Global, text: &[u8]) -> Result<(), Fail> {
     let found = address(alloc, text)?;
     let copy = found.copy(alloc)?;
-    assert!(rt; found.joined() == text);
-    assert!(rt; copy.joined() == text);
-    assert!(rt; copy.is_plain());
+    assert!(rt; same_bytes(found.joined(), text));
+    assert!(rt; same_bytes(copy.joined(), text) && copy.is_plain());
     let mut path = Vec::new(alloc);
     write_path(Some(&copy), &mut path)?;
-    assert_eq!(rt; path.len(), path_len(Some(&found)));
-    assert_eq!(rt; path.len(), text.len().wrapping_add(2));
-    assert!(rt; path.as_slice().starts_with(b"<"));
-    assert!(rt; path.as_slice().ends_with(b">"));
+    assert_eq!(rt;
+        (path.len(), path_len(Some(&found))),
+        (text.len().wrapping_add(2), path.len())
+    );
+    assert!(rt; path.as_slice().starts_with(b"<") && path.as_slice().ends_with(b">"));
     Ok(())
 }
 
@@ -53,14 +53,22 @@ fn keeps_addresses_of_about_44_bytes(rt: HostRuntime) -> Result<(), Fail> {
     for domain_len in 20..24 {
         let text = address_text(alloc, 22, domain_len, b'b')?;
         reads_and_writes(&rt, alloc, text.as_slice())?;
-        let same = address(alloc, text.as_slice())?;
+        let found = address(alloc, text.as_slice())?;
+        assert_eq!(rt;
+            (found.local().len(), found.domain().len()),
+            (22, domain_len)
+        );
+    }
+    Ok(())
+}
+
+#[test]
+fn tells_addresses_of_about_44_bytes_apart(rt: HostRuntime) -> Result<(), Fail> {
+    let alloc = rt.alloc();
+    for domain_len in 20..24 {
+        let first = address(alloc, address_text(alloc, 22, domain_len, b'b')?.as_slice())?;
         let other = address(alloc, address_text(alloc, 22, domain_len, b'c')?.as_slice())?;
-        let copy = other.copy(alloc)?;
-        assert!(rt; same_bytes(same.joined(), text.as_slice()));
-        assert!(rt; !same_bytes(same.joined(), other.joined()));
-        assert!(rt; same_bytes(copy.joined(), other.joined()));
-        assert_eq!(rt; same.local().len(), 22);
-        assert_eq!(rt; same.domain().len(), domain_len);
+        assert!(rt; !same_bytes(first.joined(), other.joined()));
     }
     Ok(())
 }
@@ -99,12 +107,19 @@ fn grows_a_text_past_46_bytes(rt: HostRuntime) -> Result<(), Fail> {
         text.append(alloc, b"B")?;
         text.append(alloc, b"")?;
         text.fold();
-        assert_eq!(rt; text.len(), len.wrapping_add(1));
-        assert!(rt; text.as_bytes().ends_with(b"azb"));
-        let taken = text.into_bytes(alloc)?;
-        assert_eq!(rt; taken.len(), len.wrapping_add(1));
-        let whole = Text::of(taken);
-        assert!(rt; whole.as_bytes().ends_with(b"azb"));
+        assert!(rt; text.len() == len.wrapping_add(1) && text.as_bytes().ends_with(b"azb"));
+    }
+    Ok(())
+}
+
+#[test]
+fn takes_the_bytes_of_a_text(rt: HostRuntime) -> Result<(), Fail> {
+    let alloc = rt.alloc();
+    for len in 44..49 {
+        let bytes = run_ending_with(alloc, b'z', len)?;
+        let taken = Text::copy_of(alloc, bytes.as_slice())?.into_bytes(alloc)?;
+        assert!(rt; taken.as_slice() == bytes.as_slice());
+        assert!(rt; Text::of(taken).as_bytes() == bytes.as_slice());
     }
     Ok(())
 }
@@ -115,23 +130,35 @@ fn takes_48_bytes_of_the_value_that_holds_it(rt: HostRuntime) {
     assert_eq!(rt; size_of::<Text>(), 48);
 }
 
+// A run of letters of this length, and the same with another letter at each place in turn.
+fn compares_at_each_place<R: Abort>(rt: &R, alloc: Global, len: usize) -> Result<(), AllocError> {
+    let text = run_ending_with(alloc, b'a', len)?;
+    for place in 0..len {
+        let mut other = run_ending_with(alloc, b'a', len)?;
+        assert!(rt; same_bytes(text.as_slice(), other.as_slice()));
+        if let Some(byte) = other.get_mut(place) {
+            *byte = b'b';
+        }
+        assert!(rt; !same_bytes(text.as_slice(), other.as_slice()));
+    }
+    Ok(())
+}
+
 #[test]
 fn compares_all_bytes(rt: HostRuntime) -> Result<(), Fail> {
-    let alloc = rt.alloc();
     for len in 1..34 {
-        let text = run_ending_with(alloc, b'a', len)?;
-        for place in 0..len {
-            let mut other = run_ending_with(alloc, b'a', len)?;
-            assert!(rt; same_bytes(text.as_slice(), other.as_slice()));
-            if let Some(byte) = other.get_mut(place) {
-                *byte = b'b';
-            }
-            assert!(rt; !same_bytes(text.as_slice(), other.as_slice()));
-        }
-        let longer = run_ending_with(alloc, b'a', len.wrapping_add(1))?;
+        compares_at_each_place(&rt, rt.alloc(), len)?;
+    }
+    Ok(())
+}
+
+#[test]
+fn compares_lengths(rt: HostRuntime) -> Result<(), Fail> {
+    for len in 1..34 {
+        let text = run_ending_with(rt.alloc(), b'a', len)?;
+        let longer = run_ending_with(rt.alloc(), b'a', len.wrapping_add(1))?;
         assert!(rt; !same_bytes(text.as_slice(), longer.as_slice()));
     }
-    assert!(rt; same_bytes(b"", b""));
-    assert!(rt; !same_bytes(b"", b"a"));
+    assert!(rt; same_bytes(b"", b"") && !same_bytes(b"", b"a"));
     Ok(())
 }

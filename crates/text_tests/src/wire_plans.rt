@@ -1,8 +1,20 @@
 //! Worked plans in both forms.
 use crate::wire_values::{add, plan, planned};
 use relay_routes::Transport;
-use relay_wire::{plan_text, wire_text};
+use relay_wire::{Plan, plan_text, wire_text};
+use std::alloc::{AllocError, Global};
+use std::process::Abort;
 use std::test::Fail;
+
+fn expect_plan(rt: &impl Abort, alloc: Global, plan: &Plan, text: &[u8]) -> Result<(), AllocError> {
+    assert_eq!(rt; plan_text(alloc, plan)?.as_bytes(), text);
+    Ok(())
+}
+
+fn expect_wire(rt: &impl Abort, alloc: Global, plan: &Plan, text: &[u8]) -> Result<(), AllocError> {
+    assert_eq!(rt; wire_text(alloc, plan)?.as_bytes(), text);
+    Ok(())
+}
 
 #[test]
 fn writes_one_mailbox(rt: HostRuntime) -> Result<(), Fail> {
@@ -18,19 +30,22 @@ fn writes_one_mailbox(rt: HostRuntime) -> Result<(), Fail> {
     )?;
     add(&mut transactions, joe)?;
     let plan = plan(alloc, transactions, &[])?;
-    assert_eq!(rt;
-        plan_text(alloc, &plan)?.as_bytes(),
+    expect_plan(
+        &rt,
+        alloc,
+        &plan,
         b"plan 1 transactions 1 recipients 0 findings\n\
           transaction 1\n\
           from <a@example.net>\n\
           via lmtp unix:mbox\n\
           host unix:mbox\n\
           to <joe@example.org>\n\
-          end\n"
-            .as_slice()
-    );
-    assert_eq!(rt;
-        wire_text(alloc, &plan)?.as_bytes(),
+          end\n",
+    )?;
+    expect_wire(
+        &rt,
+        alloc,
+        &plan,
         b"plan 1 transactions 1 recipients 0 findings\n\
           transaction 1\n\
           via lmtp unix:mbox\n\
@@ -40,9 +55,8 @@ fn writes_one_mailbox(rt: HostRuntime) -> Result<(), Fail> {
           MAIL FROM:<a@example.net>\r\n\
           RCPT TO:<joe@example.org>\r\n\
           DATA\r\n\
-          end\n"
-            .as_slice()
-    );
+          end\n",
+    )?;
     Ok(())
 }
 
@@ -69,8 +83,10 @@ fn writes_what_an_owner_sends_and_a_finding(rt: HostRuntime) -> Result<(), Fail>
     )?;
     add(&mut transactions, second)?;
     let plan = plan(alloc, transactions, &[b"finding missing kim in envelope"])?;
-    assert_eq!(rt;
-        plan_text(alloc, &plan)?.as_bytes(),
+    expect_plan(
+        &rt,
+        alloc,
+        &plan,
         b"plan 2 transactions 3 recipients 1 findings\n\
           transaction 1\n\
           from <a@example.com>\n\
@@ -84,11 +100,12 @@ fn writes_what_an_owner_sends_and_a_finding(rt: HostRuntime) -> Result<(), Fail>
           to <kim@example.net>\n\
           to <lee@example.net>\n\
           finding missing kim in envelope\n\
-          end\n"
-            .as_slice()
-    );
-    assert_eq!(rt;
-        wire_text(alloc, &plan)?.as_bytes(),
+          end\n",
+    )?;
+    expect_wire(
+        &rt,
+        alloc,
+        &plan,
         b"plan 2 transactions 3 recipients 1 findings\n\
           transaction 1\n\
           via smtp example.net\n\
@@ -108,9 +125,8 @@ fn writes_what_an_owner_sends_and_a_finding(rt: HostRuntime) -> Result<(), Fail>
           RCPT TO:<lee@example.net>\r\n\
           DATA\r\n\
           finding missing kim in envelope\n\
-          end\n"
-            .as_slice()
-    );
+          end\n",
+    )?;
     Ok(())
 }
 
@@ -146,8 +162,10 @@ fn writes_batches_of_a_null_sender(rt: HostRuntime) -> Result<(), Fail> {
     )?;
     add(&mut transactions, remote)?;
     let plan = plan(alloc, transactions, &[])?;
-    assert_eq!(rt;
-        plan_text(alloc, &plan)?.as_bytes(),
+    expect_plan(
+        &rt,
+        alloc,
+        &plan,
         b"plan 3 transactions 4 recipients 0 findings\n\
           transaction 1\n\
           from <>\n\
@@ -165,9 +183,8 @@ fn writes_batches_of_a_null_sender(rt: HostRuntime) -> Result<(), Fail> {
           host mx1.example.net\n\
           to <u1@example.net>\n\
           to <u2@example.net>\n\
-          end\n"
-            .as_slice()
-    );
+          end\n",
+    )?;
     Ok(())
 }
 
@@ -175,8 +192,8 @@ fn writes_batches_of_a_null_sender(rt: HostRuntime) -> Result<(), Fail> {
 fn writes_a_plan_of_nothing(rt: HostRuntime) -> Result<(), Fail> {
     let alloc = rt.alloc();
     let plan = plan(alloc, Vec::new(alloc), &[])?;
-    let expected = b"plan 0 transactions 0 recipients 0 findings\nend\n".as_slice();
-    assert_eq!(rt; plan_text(alloc, &plan)?.as_bytes(), expected);
-    assert_eq!(rt; wire_text(alloc, &plan)?.as_bytes(), expected);
+    let expected = b"plan 0 transactions 0 recipients 0 findings\nend\n";
+    expect_plan(&rt, alloc, &plan, expected)?;
+    expect_wire(&rt, alloc, &plan, expected)?;
     Ok(())
 }

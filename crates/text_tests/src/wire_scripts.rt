@@ -16,8 +16,14 @@ fn is_from(rt: &impl Abort, script: &Script, greeting: Greeting, hostname: &[u8]
     assert_eq!(rt; script.hostname.as_bytes(), hostname);
 }
 
+const QUOTED: &[u8] = b"EHLO relay.example.org\r\n\
+    MAIL FROM:<>\r\n\
+    RCPT TO:<\"a b\"@example.org>\r\n\
+    RCPT TO:<\"x\\\"y\\\\\"@[192.0.2.1]>\r\n\
+    DATA\r\n";
+
 #[test]
-fn writes_and_reads_a_null_sender_and_quotes(rt: HostRuntime) -> Result<(), Fail> {
+fn writes_a_null_sender_and_quotes(rt: HostRuntime) -> Result<(), Fail> {
     let alloc = rt.alloc();
     let transaction = planned(
         alloc,
@@ -29,19 +35,15 @@ fn writes_and_reads_a_null_sender_and_quotes(rt: HostRuntime) -> Result<(), Fail
     )?;
     assert!(rt; is_hostname(b"relay.example.org"));
     let text = script(alloc, &transaction, b"relay.example.org")?;
-    assert_eq!(rt;
-        text.as_bytes(),
-        b"EHLO relay.example.org\r\n\
-          MAIL FROM:<>\r\n\
-          RCPT TO:<\"a b\"@example.org>\r\n\
-          RCPT TO:<\"x\\\"y\\\\\"@[192.0.2.1]>\r\n\
-          DATA\r\n"
-            .as_slice()
-    );
-    let read = read_script(alloc, text.as_bytes())?.ok_or("a script")?;
+    assert_eq!(rt; text.as_bytes(), QUOTED);
+    Ok(())
+}
+
+#[test]
+fn reads_a_null_sender_and_quotes(rt: HostRuntime) -> Result<(), Fail> {
+    let read = read_script(rt.alloc(), QUOTED)?.ok_or("a script")?;
     is_from(&rt, &read, Greeting::Ehlo, b"relay.example.org");
     assert!(rt; read.from.is_none());
-    assert_eq!(rt; read.to.len(), 2);
     let [first, second] = read.to.as_slice() else {
         return Err("two recipients".into());
     };
@@ -50,41 +52,45 @@ fn writes_and_reads_a_null_sender_and_quotes(rt: HostRuntime) -> Result<(), Fail
     Ok(())
 }
 
+const LONGEST: &[u8] = b"llllllllllllllllllllllllllllllllllllllllllllllllllllllllllllllll\
+    @dddddddddddddddddddddddddddddddddddddddddddddddddddddddddddd.eeeeeeeeeeeeeeeeeeeeeeeeeeeeeeeeeeeeeeeeeeeeeeeeeeeeeeeeeeee.\
+    fffffffffffffffffffffffffffffffffffffffffffffffffffffff.example.org";
+
+const LONGEST_SCRIPT: &[u8] = b"LHLO [192.0.2.1]\r\n\
+    MAIL FROM:<llllllllllllllllllllllllllllllllllllllllllllllllllllllllllllllll\
+    @dddddddddddddddddddddddddddddddddddddddddddddddddddddddddddd.eeeeeeeeeeeeeeeeeeeeeeeeeeeeeeeeeeeeeeeeeeeeeeeeeeeeeeeeeeee.\
+    fffffffffffffffffffffffffffffffffffffffffffffffffffffff.example.org>\r\n\
+    RCPT TO:<llllllllllllllllllllllllllllllllllllllllllllllllllllllllllllllll\
+    @dddddddddddddddddddddddddddddddddddddddddddddddddddddddddddd.eeeeeeeeeeeeeeeeeeeeeeeeeeeeeeeeeeeeeeeeeeeeeeeeeeeeeeeeeeee.\
+    fffffffffffffffffffffffffffffffffffffffffffffffffffffff.example.org>\r\n\
+    DATA\r\n";
+
 #[test]
-fn writes_and_reads_the_longest_path(rt: HostRuntime) -> Result<(), Fail> {
+fn writes_the_longest_path(rt: HostRuntime) -> Result<(), Fail> {
     let alloc = rt.alloc();
-    let longest = b"llllllllllllllllllllllllllllllllllllllllllllllllllllllllllllllll\
-        @dddddddddddddddddddddddddddddddddddddddddddddddddddddddddddd.eeeeeeeeeeeeeeeeeeeeeeeeeeeeeeeeeeeeeeeeeeeeeeeeeeeeeeeeeeee.\
-        fffffffffffffffffffffffffffffffffffffffffffffffffffffff.example.org"
-        .as_slice();
     let transaction = planned(
         alloc,
-        longest,
+        LONGEST,
         Transport::Lmtp,
         b"unix:mbox",
         b"unix:mbox",
-        &[longest],
+        &[LONGEST],
     )?;
     assert!(rt; is_hostname(b"[192.0.2.1]"));
     let text = script(alloc, &transaction, b"[192.0.2.1]")?;
-    assert_eq!(rt;
-        text.as_bytes(),
-        b"LHLO [192.0.2.1]\r\n\
-          MAIL FROM:<llllllllllllllllllllllllllllllllllllllllllllllllllllllllllllllll\
-          @dddddddddddddddddddddddddddddddddddddddddddddddddddddddddddd.eeeeeeeeeeeeeeeeeeeeeeeeeeeeeeeeeeeeeeeeeeeeeeeeeeeeeeeeeeee.\
-          fffffffffffffffffffffffffffffffffffffffffffffffffffffff.example.org>\r\n\
-          RCPT TO:<llllllllllllllllllllllllllllllllllllllllllllllllllllllllllllllll\
-          @dddddddddddddddddddddddddddddddddddddddddddddddddddddddddddd.eeeeeeeeeeeeeeeeeeeeeeeeeeeeeeeeeeeeeeeeeeeeeeeeeeeeeeeeeeee.\
-          fffffffffffffffffffffffffffffffffffffffffffffffffffffff.example.org>\r\n\
-          DATA\r\n"
-            .as_slice()
-    );
-    let read = read_script(alloc, text.as_bytes())?.ok_or("a script")?;
+    assert_eq!(rt; text.as_bytes(), LONGEST_SCRIPT);
+    Ok(())
+}
+
+#[test]
+fn reads_the_longest_path(rt: HostRuntime) -> Result<(), Fail> {
+    let read = read_script(rt.alloc(), LONGEST_SCRIPT)?.ok_or("a script")?;
     is_from(&rt, &read, Greeting::Lhlo, b"[192.0.2.1]");
     let from = read.from.as_ref().ok_or("a sender")?;
-    assert_eq!(rt; from.local().len(), 64);
-    assert_eq!(rt; from.domain().len(), 189);
-    assert_eq!(rt; read.to.len(), 1);
+    assert_eq!(rt;
+        (from.local().len(), from.domain().len(), read.to.len()),
+        (64, 189, 1)
+    );
     Ok(())
 }
 
@@ -99,25 +105,27 @@ fn reads_a_script_without_recipients(rt: HostRuntime) -> Result<(), Fail> {
     Ok(())
 }
 
+const OTHER_BYTES: [&[u8]; 15] = [
+    b"",
+    b"EHLO relay.example.org\r\n",
+    b"EHLO relay.example.org\nMAIL FROM:<>\nRCPT TO:<joe@example.org>\nDATA\n",
+    b"EHLO relay.example.org\r\nmail from:<>\r\nRCPT TO:<joe@example.org>\r\nDATA\r\n",
+    b"EHLO relay.example.org\r\nMAIL FROM:<> \r\nRCPT TO:<joe@example.org>\r\nDATA\r\n",
+    b"EHLO relay.example.org\r\nMAIL FROM:<>\r\nRCPT TO:<joe@example.org>\r\n",
+    b"EHLO relay.example.org\r\nMAIL FROM:<>\r\nRCPT TO:<joe@example.org>\r\nDATA\r\nQUIT\r\n",
+    b"EHLO relay.example.org\r\nMAIL FROM:<>\r\nRCPT TO:<>\r\nDATA\r\n",
+    b"EHLO relay.example.org\r\nMAIL FROM:<>\r\nRCPT TO:<joe@Example.org>\r\nDATA\r\n",
+    b"EHLO relay.example.org\r\nMAIL FROM:<>\r\nRCPT TO:<\"joe\"@example.org>\r\nDATA\r\n",
+    b"EHLO relay.example.org\r\nMAIL FROM:<>\r\nRCPT TO:<joe>\r\nDATA\r\n",
+    b"EHLO Relay.example.org\r\nMAIL FROM:<>\r\nRCPT TO:<joe@example.org>\r\nDATA\r\n",
+    b"EHLO \r\nMAIL FROM:<>\r\nRCPT TO:<joe@example.org>\r\nDATA\r\n",
+    b"HELO relay.example.org\r\nMAIL FROM:<>\r\nRCPT TO:<joe@example.org>\r\nDATA\r\n",
+    b"EHLO relay.example.org\r\nRCPT TO:<joe@example.org>\r\nMAIL FROM:<>\r\nDATA\r\n",
+];
+
 #[test]
 fn takes_no_other_bytes(rt: HostRuntime) -> Result<(), Fail> {
-    for bytes in [
-        b"".as_slice(),
-        b"EHLO relay.example.org\r\n",
-        b"EHLO relay.example.org\nMAIL FROM:<>\nRCPT TO:<joe@example.org>\nDATA\n",
-        b"EHLO relay.example.org\r\nmail from:<>\r\nRCPT TO:<joe@example.org>\r\nDATA\r\n",
-        b"EHLO relay.example.org\r\nMAIL FROM:<> \r\nRCPT TO:<joe@example.org>\r\nDATA\r\n",
-        b"EHLO relay.example.org\r\nMAIL FROM:<>\r\nRCPT TO:<joe@example.org>\r\n",
-        b"EHLO relay.example.org\r\nMAIL FROM:<>\r\nRCPT TO:<joe@example.org>\r\nDATA\r\nQUIT\r\n",
-        b"EHLO relay.example.org\r\nMAIL FROM:<>\r\nRCPT TO:<>\r\nDATA\r\n",
-        b"EHLO relay.example.org\r\nMAIL FROM:<>\r\nRCPT TO:<joe@Example.org>\r\nDATA\r\n",
-        b"EHLO relay.example.org\r\nMAIL FROM:<>\r\nRCPT TO:<\"joe\"@example.org>\r\nDATA\r\n",
-        b"EHLO relay.example.org\r\nMAIL FROM:<>\r\nRCPT TO:<joe>\r\nDATA\r\n",
-        b"EHLO Relay.example.org\r\nMAIL FROM:<>\r\nRCPT TO:<joe@example.org>\r\nDATA\r\n",
-        b"EHLO \r\nMAIL FROM:<>\r\nRCPT TO:<joe@example.org>\r\nDATA\r\n",
-        b"HELO relay.example.org\r\nMAIL FROM:<>\r\nRCPT TO:<joe@example.org>\r\nDATA\r\n",
-        b"EHLO relay.example.org\r\nRCPT TO:<joe@example.org>\r\nMAIL FROM:<>\r\nDATA\r\n",
-    ] {
+    for bytes in OTHER_BYTES {
         assert!(rt; read_script(rt.alloc(), bytes)?.is_none(), "{bytes:?}");
     }
     Ok(())

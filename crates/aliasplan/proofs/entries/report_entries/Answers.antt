@@ -1,6 +1,6 @@
 use Rattle.std.proofs.Common.{◌<◌, ℕ, List, length, All, IsTrue, sym, subst}
 use Rattle.relay_text.specs.Bytes.{has_text}
-use Rattle.relay_text.specs.declared.text_set.TextSet.{TextSet}
+use Rattle.relay_wire.specs.declared.finding_lines.FindingLines.{FindingLines}
 use Rattle.relay_wire.specs.declared.finding.Place.TheVariants as places
 use Rattle.aliasplan.specs.Report.{IsLineOf, entries}
 use Rattle.aliasplan.specs.Entries.{HaveLine, IsTargetLine, IsNodeLine, IsLoopLine}
@@ -23,7 +23,7 @@ report_loops-requires c = loops_within c.args.job.now c.args.graph.now c.args.no
 pub returns : goal.returns
 returns c =
     let g = c.args.graph.now in
-    let lines : TextSet → List ℕ → Type 0 = λ set q. IsTrue (has_text set q) in
+    let lines : FindingLines → List ℕ → Type 0 = λ set q. IsTrue (has_text set q) in
     three_parts c.report_loops.result (lines c.args.lines.now) (lines c.report_targets.new.lines) (lines c.report_nodes.new.lines) (lines c.report_loops.new.lines)
     (HaveLine (IsTargetLine g places.Envelope) c.roots.result.now) (HaveLine (IsNodeLine g c.args.tables.now) c.args.nodes.now) (HaveLine (IsLoopLine g c.args.tables.now) c.args.loops.now) (IsLineOf c.args.job.now entries)
     (λ q. c.in_ok-report_targets.ensures q) (λ q. c.in_ok-report_nodes.ensures q) c.report_loops.ensures

@@ -1,4 +1,3 @@
-use Rattle.std.proofs.Common.{List, ℕ, Result, Ok, Err, IfOk}
 use Rattle.aliasplan.specs.Delivery.{directory_of}
 use Rattle.aliasplan.proofs.ReachFacts.{nodes_reached, if_ok_both}
 use Rattle.aliasplan.proofs.planning.nodes_of.Goals as goal

@@ -11,4 +11,4 @@ returns-in-Ok-clause-reached g c =
 pub returns-in-Ok-clause-at_most : goal.returns-in-Ok-clause-at_most
 returns-in-Ok-clause-at_most g c =
     let job = c.args.job.now in
-    c.pairs_are_counted.ensures.at_most (directory_of job) job.sender job.recipients c.args.graph.now c.requires.graph c.args.limits.pairs c.in-Ok.pairs.items c.in-Ok.ensures.pairs c.in-Ok.ensures.within
+    c.pairs_are_counted.ensures.at_most (directory_of job) job.sender job.recipients c.args.graph.now c.requires.graph c.args.crew.now.limits.pairs c.in-Ok.pairs.items c.in-Ok.ensures.pairs c.in-Ok.ensures.within

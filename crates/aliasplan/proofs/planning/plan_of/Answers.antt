@@ -1,4 +1,4 @@
-use Rattle.std.proofs.Common.{◌≡◌, ◌∙◌, List, sym, subst}
+use Rattle.std.proofs.Common.{◌∙◌, List, sym, subst}
 use Rattle.relay_wire.specs.declared.plan.Planned.{Planned}
 use Rattle.aliasplan.specs.Plans.{AreTransactionsOf}
 use Rattle.aliasplan.proofs.PlanFacts.{plan_is}

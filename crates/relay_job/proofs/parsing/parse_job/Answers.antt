@@ -62,21 +62,11 @@ returns c =
     let unbroken : first_bad_command c.in_ok-settings.settings.origin c.section-2.result.line (commands_at c.section-2.result) ≡ None = ap (λ (o : List ℕ). first_bad_command o c.section-2.result.line (commands_at c.section-2.result)) (sym c.as_bytes.ensures) ∙ c.in_ok-envelope.ensures.unbroken in
     job-read text _ lines c.section-2.result.line (commands_at c.section-2.result) found.unbroken part set.unbroken settings heading commands unbroken
     (record {
-      aliases = c.in_ok-aliases.ensures ∙ ap (flat_map (λ (l : JobLine). content_of l.raw)) c.section-3.ensures.lines ∙ sym (bytes_of text c.in_ok-parts.parts found Aliases);
-      includes = c.in_ok-includes.ensures ∙ ap (map include_at) c.deref.ensures.value ∙ found.includes;
-      mailboxes = c.in_ok-mailboxes.ensures ∙ ap (flat_map (λ (l : JobLine). content_of l.raw)) c.section-4.ensures.lines ∙ sym (bytes_of text c.in_ok-parts.parts found Mailboxes);
-      transport = c.in_ok-transport.ensures ∙ ap (flat_map (λ (l : JobLine). content_of l.raw)) c.section-5.ensures.lines ∙ sym (bytes_of text c.in_ok-parts.parts found Transport);
-      mx = c.in_ok-mx.ensures ∙ ap (flat_map (λ (l : JobLine). content_of l.raw)) c.section-6.ensures.lines ∙ sym (bytes_of text c.in_ok-parts.parts found Mx);
+      aliases = c.in_ok-files.ensures.aliases ∙ sym (bytes_of text c.in_ok-parts.parts found Aliases);
+      includes = c.in_ok-files.ensures.includes ∙ found.includes;
+      mailboxes = c.in_ok-files.ensures.mailboxes ∙ sym (bytes_of text c.in_ok-parts.parts found Mailboxes);
+      transport = c.in_ok-files.ensures.transport ∙ sym (bytes_of text c.in_ok-parts.parts found Transport);
+      mx = c.in_ok-files.ensures.mx ∙ sym (bytes_of text c.in_ok-parts.parts found Mx);
     })
     (c.in_ok-envelope.ensures.sender ∙ ap (λ (o : List ℕ). sender_of o (commands_at c.section-2.result)) c.as_bytes.ensures)
     (c.in_ok-envelope.ensures.recipients ∙ ap (λ (o : List ℕ). recipients_of o (drop 1 (commands_at c.section-2.result))) c.as_bytes.ensures)
-
-pub returns-in_err-transport : goal.returns-in_err-transport
-returns-in_err-transport c =
-    let p = err_from_is_err_and c.from_residual-in_err-transport.result c.from_residual-in_err-transport.ensures.1 in
-    rw (p.1, p.2) tt
-
-pub returns-in_err-mx : goal.returns-in_err-mx
-returns-in_err-mx c =
-    let p = err_from_is_err_and c.from_residual-in_err-mx.result c.from_residual-in_err-mx.ensures.1 in
-    rw (p.1, p.2) tt

@@ -1,0 +1,43 @@
+use Rattle.std.proofs.Common.{◌≡◌, ◌≢◌, ◌||◌, ◌∙◌, ℕ, List, AllPairs, IsTrue, map, ap, sym, subst}
+use Rattle.std.specs.List.{list_all, list_any}
+use Rattle.std.specs.Str.{bytes_eq}
+use Rattle.relay_text.specs.Bytes.{has_text}
+use Rattle.relay_aliasfile.specs.declared.fault.LineFault.{LineFault}
+use Rattle.relay_aliasfile.specs.AliasFiles.{alias_file_of}
+use Rattle.relay_aliasfile.specs.MailboxFiles.{mailbox_file_of}
+use Rattle.relay_job.specs.declared.job.JobInclude.{JobInclude}
+use Rattle.relay_tables.specs.declared.include_entry.IncludeEntry.{IncludeEntry}
+use Rattle.relay_tables.specs.Parts.{is_good_include}
+use Rattle.aliasplan.specs.declared.source.Source.TheVariants.{Aliases, Mailboxes}
+use Rattle.aliasplan.specs.Delivery.{entry_of_include}
+use Rattle.aliasplan.specs.Texts.{source_line, has_include_line, is_name_line}
+use Rattle.aliasplan.proofs.ReportFacts.{on_ok_given, reports_three}
+use Rattle.aliasplan.proofs.SourceFacts.{good_includes}
+use Rattle.aliasplan.proofs.StopFacts.{pairs_map}
+use Rattle.aliasplan.proofs.sources.read_tables.Goals as goal
+
+pub build-requires-clause-distinct : goal.build-requires-clause-distinct
+build-requires-clause-distinct c =
+    let is = c.in_ok-includes.ensures.entries ∙ ap (map entry_of_include) c.as_slice-3.ensures in
+    subst (AllPairs (λ (a b : IncludeEntry). a.path ≢ b.path)) (sym is) (pairs_map (λ (a b : IncludeEntry). a.path ≢ b.path) entry_of_include c.args.job.now.includes c.requires.paths)
+
+pub build-requires-clause-items : goal.build-requires-clause-items
+build-requires-clause-items c =
+    let is = c.in_ok-includes.ensures.entries ∙ ap (map entry_of_include) c.as_slice-3.ensures in
+    subst (λ (es : List IncludeEntry). IsTrue (list_all is_good_include es)) (sym is) (good_includes c.parsed_files.ensures.includes c.args.job.now.includes)
+
+pub returns-clause-lines : goal.returns-clause-lines
+returns-clause-lines c =
+    let job = c.args.job.now in
+    let old = c.args.lines.now in
+    let aliases : c.as_slice.result.now ≡ (alias_file_of job.aliases).faults = c.as_slice.ensures ∙ ap (λ f. f.faults) (c.in_ok-aliases.ensures ∙ ap alias_file_of c.as_bytes.ensures) in
+    let mailboxes : c.as_slice-2.result.now ≡ (mailbox_file_of job.mailboxes).faults = c.as_slice-2.ensures ∙ ap (λ f. f.faults) (c.in_ok-mailboxes.ensures ∙ ap mailbox_file_of c.as_bytes-2.ensures) in
+    on_ok_given c.build.result (λ q.
+    reports_three old c.report_file.new.lines c.report_file-2.new.lines c.read_includes.new.lines
+    (λ p. list_any (λ fault. bytes_eq p (source_line Aliases fault)) c.as_slice.result.now)
+    (λ p. list_any (λ fault. bytes_eq p (source_line Mailboxes fault)) c.as_slice-2.result.now)
+    (λ p. list_any (has_include_line p) c.as_slice-3.result.now)
+    c.in_ok-report_file.ensures c.in_ok-report_file-2.ensures c.in_ok-includes.ensures.lines q
+    ∙ ap (λ (f : List LineFault). has_text old q || is_name_line f c.as_slice-2.result.now c.as_slice-3.result.now q) aliases
+    ∙ ap (λ (f : List LineFault). has_text old q || is_name_line (alias_file_of job.aliases).faults f c.as_slice-3.result.now q) mailboxes
+    ∙ ap (λ (is : List JobInclude). has_text old q || is_name_line (alias_file_of job.aliases).faults (mailbox_file_of job.mailboxes).faults is q) c.as_slice-3.ensures)

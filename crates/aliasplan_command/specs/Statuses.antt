@@ -1,0 +1,39 @@
+-- What the process ends with.
+use Rattle.std.specs.Prelude.{◌≡◌, ◌≢◌, ℕ}
+use Rattle.aliasplan_command.specs.declared.command_line.Request.{Request}
+use Rattle.aliasplan_command.specs.declared.command_line.Request.TheVariants.{Plan, Domains, Gather, Help, Unknown, Fault}
+use Rattle.aliasplan_command.specs.declared.status.Status.{Status}
+use Rattle.aliasplan_command.specs.declared.status.Status.TheVariants.{Done, Found, Refused, OutOfMemory, Broken, CommandLine}
+use Rattle.relay_job.specs.declared.fault.RunFault.{RunFault}
+use Rattle.relay_job.specs.declared.fault.RunFault.TheVariants.{Read, TooLong, BadJob, BadSetting, BadEnvelope, TooManyNames, TooManyOwners, TooManyPairs, Write, Memory}
+
+-- 2 where the job is refused, 3 where memory ran out, 4 where a device failed
+abbrev pub code_of : RunFault → ℕ
+code_of Read = 4
+code_of TooLong = 2
+code_of (BadJob line) = 2
+code_of (BadSetting line) = 2
+code_of (BadEnvelope line) = 2
+code_of TooManyNames = 2
+code_of TooManyOwners = 2
+code_of TooManyPairs = 2
+code_of Write = 4
+code_of Memory = 3
+
+-- 0 and 1 where the plan is written, without findings and with them, 5 where the command line asks for nothing that there is
+abbrev pub code_after : Status → ℕ
+code_after Done = 0
+code_after Found = 1
+code_after Refused = 2
+code_after OutOfMemory = 3
+code_after Broken = 4
+code_after CommandLine = 5
+
+-- the command line is at fault where it asks for nothing that there is, and only there; only a plan has findings
+abbrev pub IsStatusOf : Request → Status → Type 0
+IsStatusOf (Plan options output path detail) status = status ≢ CommandLine
+IsStatusOf (Domains options path detail) status = (status ≢ Found) × (status ≢ CommandLine)
+IsStatusOf (Gather paths detail) status = (status ≢ Found) × (status ≢ CommandLine)
+IsStatusOf Help status = status ≡ Done
+IsStatusOf Unknown status = status ≡ CommandLine
+IsStatusOf (Fault fault) status = code_after status ≡ code_of fault

@@ -1,0 +1,259 @@
+//! The answer to what a command line asks for.
+ghost use Rattle.std.specs.Prelude.{◌≡◌, ◌≢◌, IfOk, IfErr};
+ghost use Rattle.aliasplan.specs.Outcomes.{AreOptions};
+ghost use Rattle.aliasplan_command.specs.Requests.{IsRequest};
+ghost use Rattle.aliasplan_command.specs.Statuses.{code_of, code_after, IsStatusOf};
+
+use crate::command_line::{Detail, Output, Request};
+use crate::explaining::{explain_file, explain_job, shown};
+use crate::explaining_items::explain_items;
+use crate::file_source;
+use crate::file_source::{FileSource, MOST};
+use crate::json_run::run_as_json;
+use crate::standard_input::StandardInput;
+use crate::status::Status;
+use aliasplan::{
+    Device, Limits, NoGate, Options, Paths, RunFault, SourceFault, gather, run, run_domains,
+};
+use relay_text::Text;
+use std::io;
+use std::io::{ErrorKind, Read};
+use std::rt::Files;
+use std::thread::Threads;
+
+/// How much a run takes.
+const LIMITS: Limits = Limits {
+    bytes: 67_108_864,
+    names: 16_777_216,
+    owners: 65_535,
+    pairs: 16_777_216,
+};
+
+/// What a run ends with that has this fault, which is said on standard error.
+fn refused<R: Eprint>(rt: &R, fault: RunFault) -> Status
+    ensures { code_after result ≡ code_of fault }
+{
+    let _ = eprintln!(rt; "aliasplan: {fault}");
+    Status::of_fault(fault)
+}
+
+/// What becomes of the answer to the job that a reader gives.
+fn planned<R: Print + Eprint + AllocGlobal + Threads + Sync, J: Read + Drop>(
+    rt: &R,
+    job: J,
+    options: Options,
+    output: Output,
+) -> Result<Status, RunFault>
+    requires { AreOptions options }
+    ensures asked { IfOk result (λ status. status ≢ Status.CommandLine) }
+    ensures domains { output ≡ Output.Domains → IfOk result (λ status. status ≢ Status.Found) }
+{
+    let mut reader = Device::new(job);
+    let mut writer = Device::new(io::writer(rt));
+    let alloc = rt.alloc();
+    let summary = match output {
+        Output::Text => run(
+            rt,
+            alloc,
+            &mut reader,
+            &mut writer,
+            options,
+            LIMITS,
+            &NoGate,
+        )?,
+        Output::Json => run_as_json(rt, &mut reader, &mut writer, options, LIMITS)?,
+        Output::Domains => {
+            run_domains(
+                rt,
+                alloc,
+                &mut reader,
+                &mut writer,
+                options,
+                LIMITS,
+                &NoGate,
+            )?;
+            return Ok(Status::Done);
+        }
+    };
+    if summary.findings == 0 {
+        Ok(Status::Done)
+    } else {
+        Ok(Status::Found)
+    }
+}
+
+/// Answers to the job that a reader gives.
+fn plan<R: Print + Eprint + AllocGlobal + Threads + Sync, J: Read + Drop>(
+    rt: &R,
+    job: J,
+    options: Options,
+    output: Output,
+) -> Status
+    requires { AreOptions options }
+    ensures asked { result ≢ Status.CommandLine }
+    ensures domains { output ≡ Output.Domains → result ≢ Status.Found }
+{
+    match planned(rt, job, options, output) {
+        Ok(status) => status,
+        Err(fault) => refused(rt, fault),
+    }
+}
+
+/// All bytes that a reader of this name gives, or what the process ends with, which is said.
+fn read_whole<R: Eprint + AllocGlobal, J: Read + Drop>(
+    rt: &R,
+    job: J,
+    name: &str,
+) -> Result<Vec<u8>, Status>
+    ensures { IfErr result (λ status. (status ≢ Status.Found) × (status ≢ Status.CommandLine)) }
+{
+    let mut bytes = Vec::new(rt.alloc());
+    match job.take(MOST).read_to_end(&mut bytes) {
+        Ok(_) => Ok(bytes),
+        Err(error) if error.kind() == ErrorKind::OutOfMemory => Err(refused(rt, RunFault::Memory)),
+        Err(error) => {
+            let status = refused(rt, RunFault::Read);
+            let _ = eprintln!(rt; "aliasplan: {name}: {error}");
+            Err(status)
+        }
+    }
+}
+
+/// Answers to the job that a reader of this name gives, and says what of it has a fault. It's read whole before, so that a line is there to
+/// be said.
+fn plan_verbosely<R: Print + Eprint + AllocGlobal + Threads + Sync, J: Read + Drop>(
+    rt: &R,
+    job: J,
+    name: &str,
+    options: Options,
+    output: Output,
+) -> Status
+    requires { AreOptions options }
+    ensures asked { result ≢ Status.CommandLine }
+    ensures domains { output ≡ Output.Domains → result ≢ Status.Found }
+{
+    let bytes = match read_whole(rt, job, name) {
+        Ok(bytes) => bytes,
+        Err(status) => return status,
+    };
+    match planned(rt, bytes.as_slice(), options, output) {
+        Ok(status) => {
+            if status == Status::Found {
+                explain_items(rt, bytes.as_slice());
+            }
+            status
+        }
+        Err(fault) => {
+            let status = refused(rt, fault);
+            explain_job(rt, bytes.as_slice(), fault);
+            status
+        }
+    }
+}
+
+/// Answers to the job on standard input.
+fn plan_input<R: Input + Print + Eprint + AllocGlobal + Threads + Sync>(
+    rt: &R,
+    options: Options,
+    output: Output,
+    detail: Detail,
+) -> Status
+    requires { AreOptions options }
+    ensures asked { result ≢ Status.CommandLine }
+    ensures domains { output ≡ Output.Domains → result ≢ Status.Found }
+{
+    let input = StandardInput::new(rt.reader());
+    match detail {
+        Detail::Line => plan(rt, input, options, output),
+        Detail::Culprit => plan_verbosely(rt, input, "standard input", options, output),
+    }
+}
+
+/// Answers to the job in the file of a path.
+fn plan_file<R: Files + Print + Eprint + AllocGlobal + Threads + Sync>(
+    rt: &R,
+    path: &Text,
+    options: Options,
+    output: Output,
+    detail: Detail,
+) -> Status
+    requires { AreOptions options }
+    ensures asked { result ≢ Status.CommandLine }
+    ensures domains { output ≡ Output.Domains → result ≢ Status.Found }
+{
+    match file_source::open(rt, path.as_bytes()) {
+        Ok(file) => match detail {
+            Detail::Line => plan(rt, file, options, output),
+            Detail::Culprit => plan_verbosely(rt, file, shown(path.as_bytes()), options, output),
+        },
+        Err(SourceFault::Memory) => refused(rt, RunFault::Memory),
+        Err(_) => {
+            let status = refused(rt, RunFault::Read);
+            if detail == Detail::Culprit {
+                explain_file(rt, path.as_bytes());
+            }
+            status
+        }
+    }
+}
+
+/// Answers to the job in the file of a path, or on standard input where there is none.
+fn plan_named<R: Input + Files + Print + Eprint + AllocGlobal + Threads + Sync>(
+    rt: &R,
+    path: Option<&Text>,
+    options: Options,
+    output: Output,
+    detail: Detail,
+) -> Status
+    requires { AreOptions options }
+    ensures asked { result ≢ Status.CommandLine }
+    ensures domains { output ≡ Output.Domains → result ≢ Status.Found }
+{
+    match path {
+        None => plan_input(rt, options, output, detail),
+        Some(path) => plan_file(rt, path, options, output, detail),
+    }
+}
+
+fn gather_job<R: Files + Print + Eprint + AllocGlobal>(
+    rt: &R,
+    paths: &Paths,
+    detail: Detail,
+) -> Status
+    ensures { (result ≢ Status.Found) × (result ≢ Status.CommandLine) }
+{
+    let mut source = FileSource::new(rt);
+    let mut writer = Device::new(io::writer(rt));
+    let Err(fault) = gather(rt.alloc(), &mut source, paths, &mut writer, LIMITS.bytes) else {
+        return Status::Done;
+    };
+    let status = refused(rt, fault);
+    if detail == Detail::Culprit && fault == RunFault::Read {
+        if let Some(path) = source.failed() {
+            explain_file(rt, path);
+        }
+    }
+    status
+}
+
+/// Answers to a request: writes what is asked for on standard output, and says on standard error why it can't.
+pub fn answer<R: Input + Files + Print + Eprint + AllocGlobal + Threads + Sync>(
+    rt: &R,
+    request: Request,
+) -> Status
+    requires { IsRequest request }
+    ensures { IsStatusOf request result }
+{
+    match request {
+        Request::Plan(options, output, path, detail) => {
+            plan_named(rt, path.as_ref(), options, output, detail)
+        }
+        Request::Domains(options, path, detail) => {
+            plan_named(rt, path.as_ref(), options, Output::Domains, detail)
+        }
+        Request::Gather(paths, detail) => gather_job(rt, &paths, detail),
+        Request::Help => Status::Done,
+        Request::Unknown => Status::CommandLine,
+        Request::Fault(fault) => refused(rt, fault),
+    }
+}

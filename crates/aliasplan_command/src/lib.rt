@@ -1,0 +1,20 @@
+//! What the program does with its command line: `plan` reads a job and writes its plan on standard output, `domains` the names that it
+//! asks for, and `gather` writes a job of files that lie apart.
+//!
+//! `read_words` reads the command line into a `Request`, `answer` carries it out and tells the `Status` that the process ends with.
+#![tactic(auto)]
+
+pub mod answering;
+mod bad_lists;
+pub mod command_line;
+mod explaining;
+mod explaining_items;
+mod file_source;
+mod json_form;
+mod json_run;
+mod standard_input;
+pub mod status;
+
+pub use answering::answer;
+pub use command_line::{Detail, Output, Request, read_words};
+pub use status::Status;
