@@ -1,20 +1,17 @@
--- What one more pair adds to what goes under its sender, and to the lines.
-use Rattle.std.proofs.Common.{◌≡◌, ◌⊎◌, ℕ, ◌+◌, ◌<◌, List, [], ◌∷◌, ◌++◌, length, get_or, set, take, sym, ap, subst, ◌∙◌, inl, inr, arith, length-set, get_or-set_same, get_or-set_other}
-use Rattle.std.specs.Prelude.{Contains, ◌↔◌, slice_get, Some}
-use Rattle.std.proofs.lemmas.Bool.{cases_eq}
-use Rattle.std.proofs.lemmas.List.{take_more, get_or_default}
+-- What one more pair adds to what is gathered.
+use Rattle.std.proofs.Common.{◌≡◌, ◌⊎◌, ℕ, ◌+◌, ◌<◌, List, [], ◌∷◌, ◌++◌, length, get_or, take, sym, ap, subst, ◌∙◌, inl, inr, arith}
+use Rattle.std.specs.Prelude.{All, Contains, ◌↔◌, slice_get, Some}
+use Rattle.std.proofs.lemmas.List.{take_more}
 use Rattle.std.proofs.lemmas.List.Elements.{Contains-push, Contains-push_cases, Contains-append_left}
-use Rattle.std.proofs.lemmas.Option.{same_Some}
-use Rattle.relay_text.specs.AddressParts.{AddressParts}
-use Rattle.relay_routes.specs.declared.transport.Transport.{Transport}
-use Rattle.relay_tables.specs.declared.node.Node.{Node}
+use Rattle.std.proofs.lemmas.Option.{same_Some, get_or_from_slice_get, slice_get_within}
+use Rattle.relay_routes.specs.declared.route.Route.{Route}
 use Rattle.relay_tables.specs.GraphParts.{GraphParts}
 use Rattle.relay_pairs.specs.declared.reached.Reached.{Reached}
+use Rattle.relay_delivery.specs.declared.stop.Stop.{Stop}
 use Rattle.relay_job.specs.declared.job.Job.{Job}
-use Rattle.aliasplan.specs.declared.lanes.Lanes.{Lanes}
-use Rattle.aliasplan.specs.declared.sender_lanes.SenderLanes.{SenderLanes}
-use Rattle.aliasplan.specs.Lanes.{HasStop, IsStopOf, IsLineOfNode}
-use Rattle.aliasplan.specs.Gathering.{AreNumbered, IsStopUnder, IsStopOfPair, IsLineOfPair}
+use Rattle.aliasplan.specs.declared.gathering.Known.{Known}
+use Rattle.aliasplan.specs.declared.gathering.Known.TheVariants.{Unseen, Recipient}
+use Rattle.aliasplan.specs.Routes.{IsWhatIsKnown, AreKnown, IsStopOfPair, AreGathered, StayKnown}
 
 -- some element is one of these and has P
 abbrev pub Some_has : {X : Type 0} → (X → Type 0) → List X → Type 0
@@ -42,80 +39,86 @@ module _ {X : Type 0} (P : X → Type 0) where
         ],
       )
 
-  -- the same where nothing held at the start
-  pub some_first : (ws : List X) (i : ℕ) (w : X) (O N : Type 0) → i < length ws → get_or ws i w ≡ w
-      → (O ↔ Some_has P (take i ws)) → (N ↔ (O ⊎ P w)) → N ↔ Some_has P (take (i + 1) ws)
-  some_first ws i w O N inside is old new =
-      let more = some_more ws i w ⊥ O N inside is (λ o. inr (old.0 o), λ either. elim either [ inl none ↦ absurd none | inr s ↦ old.1 s ]) new in
-      (λ n. elim (more.0 n) [ inl none ↦ absurd none | inr s ↦ s ], λ s. more.1 (inr s))
+same_number : (m n : ℕ) → Recipient m ≡ Recipient n → m ≡ n
+same_number m n e = cc
 
-  -- an element that is replaced, where Q is what it gains
-  pub some_set : (xs : List X) (i : ℕ) (x y : X) (Q : Type 0) → i < length xs → get_or xs i x ≡ x → (P y ↔ (P x ⊎ Q)) → Some_has P (set xs i y) ↔ (Some_has P xs ⊎ Q)
-  some_set xs i x y Q inside is gains = (from, to) where
-    inside' : i < length (set xs i y)
-    inside' = omega (arith, length-set xs i y, inside)
+module _ (job : Job) (g : GraphParts) (pairs : List Reached) (known known' : List Known) (stops : List Stop) (old : AreGathered job g pairs known stops) (stay : StayKnown known known') (pair : Reached) (k : Known) (at : slice_get known' pair.node ≡ Some k) (fresh : k ≡ Unseen → ⊥) where
+  all_seen : (p : Reached) → Contains (pairs ++ pair ∷ []) p → (k' : Known) × (slice_get known' p.node ≡ Some k') × (k' ≡ Unseen → ⊥)
+  all_seen p c =
+      elim (Contains-push_cases pairs pair p c) [
+        | inl early ↦ let s = old.seen p early in (s.0, stay p.node s.0 s.1 s.2, s.2)
+        | inr here ↦ (k, ap (λ (x : Reached). slice_get known' x.node) (sym here) ∙ at, fresh)
+      ]
 
-    at_i : (z : X) → get_or (set xs i y) i z ≡ y
-    at_i z = get_or-set_same xs i y z inside
+  -- the stops of pairs that were seen stay what they are
+  stop_stays : (stop : Stop) (p : Reached) → IsStopOfPair job g known stop p → IsStopOfPair job g known' stop p
+  stop_stays stop p h = record { under = h.under; goes = stay p.node (Recipient stop.recipient) h.goes (λ e. absurd (let no : ⊥ = cc in no)) }
 
-    from : Some_has P (set xs i y) → Some_has P xs ⊎ Q
-    from (z, (k, within, here), p) =
-        elim (cases_eq k i) [
-          | inl e ↦
-              let same : y ≡ z = sym (at_i z) ∙ ap (λ n. get_or (set xs i y) n z) (sym e) ∙ here in
-              elim (gains.0 (subst P (sym same) p)) [ inl old ↦ inl (x, (i, inside, is), old) | inr q ↦ inr q ]
-          | inr apart ↦ inl (z, (k, omega (arith, length-set xs i y, within), sym (get_or-set_other xs i k y z apart) ∙ here), p)
-        ]
+  stop_was : (stop : Stop) (p : Reached) → Contains pairs p → IsStopOfPair job g known' stop p → IsStopOfPair job g known stop p
+  stop_was stop p c h =
+      let s = old.seen p c in
+      let same : s.0 ≡ Recipient stop.recipient = same_Some s.0 (Recipient stop.recipient) (sym (stay p.node s.0 s.1 s.2) ∙ h.goes) in
+      record { under = h.under; goes = s.1 ∙ ap (λ x. Some x) same }
 
-    to : Some_has P xs ⊎ Q → Some_has P (set xs i y)
-    to (inr q) = (y, (i, inside', at_i y), gains.1 (inr q))
-    to (inl (z, (k, within, here), p)) =
-        elim (cases_eq k i) [
-          | inl e ↦
-              let same : z ≡ x = sym here ∙ ap (λ n. get_or xs n z) e ∙ get_or_default xs i z x inside ∙ is in
-              (y, (i, inside', at_i y), gains.1 (inl (subst P same p)))
-          | inr apart ↦ (z, (k, omega (arith, length-set xs i y, within), get_or-set_other xs i k y z apart ∙ here), p)
-        ]
+  abbrev HasPair : List Reached → List Known → Stop → Type 0
+  HasPair ps ks stop = (p : Reached) × Contains ps p × IsStopOfPair job g ks stop p
 
--- what is replaced keeps its sender
-pub numbered_set : (items : List SenderLanes) (i : ℕ) (y : SenderLanes) → y.sender ≡ i → AreNumbered items → AreNumbered (set items i y)
-numbered_set items i y is old k d within =
-    elim (cases_eq k i) [
-      | inl e ↦
-          let inside : i < length items = omega (arith, length-set items i y, within, e) in
-          let here : get_or (set items i y) k d ≡ y = ap (λ m. get_or (set items i y) m d) e ∙ get_or-set_same items i y d inside in
-          ap (λ (z : SenderLanes). z.sender) here ∙ is ∙ sym e
-      | inr apart ↦
-          let inside : k < length items = omega (arith, length-set items i y, within) in
-          ap (λ (z : SenderLanes). z.sender) (get_or-set_other items i k y d apart) ∙ old k d inside
-    ]
+  from_new : (stop : Stop) → HasPair (pairs ++ pair ∷ []) known' stop → Contains stops stop ⊎ IsStopOfPair job g known' stop pair
+  from_new stop h =
+      elim (Contains-push_cases pairs pair h.0 h.1) [
+        | inl early ↦ inl ((old.stops_are stop).1 (h.0, early, stop_was stop h.0 early h.2))
+        | inr here ↦ inr (subst (λ x. IsStopOfPair job g known' stop x) (sym here) h.2)
+      ]
 
-module _ (job : Job) (g : GraphParts) (pair : Reached) (node : Node) (at : slice_get g.nodes pair.node ≡ Some node) where
-  same_node : (other : Node) → slice_get g.nodes pair.node ≡ Some other → other ≡ node
-  same_node other is = same_Some other node (sym is ∙ at)
+  from_old : (stop : Stop) → Contains stops stop → HasPair (pairs ++ pair ∷ []) known' stop
+  from_old stop c =
+      let h = (old.stops_are stop).0 c in
+      (h.0, Contains-append_left pairs (pair ∷ []) h.0 h.1, stop_stays stop h.0 h.2)
 
-  -- what goes under the pair's sender with the node besides
-  pub pair_stops : (x : SenderLanes) (new : Lanes) (s : ℕ) (t : Transport) (n : List ℕ) (a : AddressParts) → x.sender ≡ pair.sender
-      → (HasStop new t n a ↔ (HasStop x.lanes t n a ⊎ IsStopOf job node t n a))
-      → IsStopUnder s t n a (record { sender = x.sender; lanes = new }) ↔ (IsStopUnder s t n a x ⊎ IsStopOfPair job g s t n a pair)
-  pair_stops x new s t n a numbered gains = (
-    λ h. elim (gains.0 h.goes) [
-      | inl old ↦ inl (record { sender = h.sender; goes = old })
-      | inr added ↦ inr (record { node = node; is = at; sender = sym numbered ∙ h.sender; goes = added })
-    ],
-    λ either. elim either [
-      | inl old ↦ record { sender = old.sender; goes = gains.1 (inl old.goes) }
-      | inr added ↦
-          record {
-            sender = numbered ∙ added.sender;
-            goes = gains.1 (inr (subst (λ m. IsStopOf job m t n a) (same_node added.node added.is) added.goes));
-          }
-    ],
-  )
+  -- a pair of a node that goes nowhere
+  pub gathered_none : ((n : ℕ) → k ≡ Recipient n → ⊥) → AreGathered job g (pairs ++ pair ∷ []) known' stops
+  gathered_none nowhere = record {
+    seen = all_seen;
+    stops_are = λ stop. (
+      from_old stop,
+      λ h. elim (from_new stop h) [ inl early ↦ early | inr here ↦ absurd (nowhere stop.recipient (same_Some k (Recipient stop.recipient) (sym at ∙ here.goes))) ],
+    );
+  }
 
-  -- the lines with those of the node besides
-  pub pair_lines : (q : List ℕ) (O N : Type 0) → (N ↔ (O ⊎ IsLineOfNode job node q)) → N ↔ (O ⊎ IsLineOfPair job g q pair)
-  pair_lines q O N gains = (
-    λ h. elim (gains.0 h) [ inl old ↦ inl old | inr added ↦ inr (record { node = node; is = at; reported = added }) ],
-    λ either. elim either [ inl old ↦ gains.1 (inl old) | inr added ↦ gains.1 (inr (subst (λ m. IsLineOfNode job m q) (same_node added.node added.is) added.reported)) ],
-  )
+  -- a pair of a recipient
+  pub gathered_more : (n : ℕ) → k ≡ Recipient n → AreGathered job g (pairs ++ pair ∷ []) known' (stops ++ record { sender = pair.sender; recipient = n } ∷ [])
+  gathered_more n is = record {
+    seen = all_seen;
+    stops_are = λ stop.
+        let more : Stop = record { sender = pair.sender; recipient = n } in (
+          λ c. elim (Contains-push_cases stops more stop c) [
+            | inl early ↦ from_old stop early
+            | inr here ↦ (pair, Contains-push pairs pair, record { under = ap (λ (x : Stop). x.sender) here; goes = at ∙ ap (λ x. Some x) (is ∙ ap (λ (x : Stop). Recipient x.recipient) here) })
+          ],
+          λ h. elim (from_new stop h) [
+            | inl early ↦ Contains-append_left stops (more ∷ []) stop early
+            | inr here ↦
+                let number : n ≡ stop.recipient = same_number n stop.recipient (sym is ∙ same_Some k (Recipient stop.recipient) (sym at ∙ here.goes)) in
+                let same : more ≡ stop = ap (λ s. record { sender = s; recipient = n }) here.under ∙ ap (λ r. record { sender = stop.sender; recipient = r }) number in
+                subst (λ x. Contains (stops ++ more ∷ []) x) same (Contains-push stops more)
+          ],
+        );
+  }
+
+-- ---- nothing gathered yet
+module _ (job : Job) (g : GraphParts) where
+  pub known_first : (routes : List Route) (known : List Known) (lines : List (List ℕ)) → length known ≡ length g.nodes → All (λ k. k ≡ Unseen) known → AreKnown job g routes [] known lines
+  known_first routes known lines len unseen = record {
+    len = len;
+    each = λ n k node is here. subst (λ x. IsWhatIsKnown job g routes [] node x) (sym (unseen_at known n k unseen is)) tt;
+    reported = λ n k node q is seen here line. absurd (seen (unseen_at known n k unseen is));
+    in_routes = λ k d below. absurd (omega (arith, below));
+  } where
+    unseen_at : (known : List Known) (n : ℕ) (k : Known) → All (λ k. k ≡ Unseen) known → slice_get known n ≡ Some k → k ≡ Unseen
+    unseen_at known n k unseen is = sym (get_or_from_slice_get known n k k is) ∙ unseen n k (slice_get_within known n k is)
+
+  pub gathered_first : (known : List Known) → AreGathered job g [] known []
+  gathered_first known = record {
+    seen = λ p c. absurd (omega (arith, c.1));
+    stops_are = λ stop. (λ c. absurd (omega (arith, c.1)), λ h. absurd (omega (arith, h.1.1)));
+  }

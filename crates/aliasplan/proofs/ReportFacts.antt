@@ -1,5 +1,5 @@
 -- Lines that are reported one part after another.
-use Rattle.std.proofs.Common.{◌≡◌, ℕ, Bool, ◌||◌, List, ap, ◌∙◌}
+use Rattle.std.proofs.Common.{ℕ, Bool, ◌||◌, List, ap, ◌∙◌}
 use Rattle.std.specs.Prelude.{Result, Ok, Err, OnOk}
 use Rattle.std.proofs.Math.Bool.{or_assoc}
 use Rattle.relay_text.specs.Bytes.{has_text}

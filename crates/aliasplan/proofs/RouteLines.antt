@@ -23,8 +23,7 @@ use Rattle.relay_job.specs.declared.job.Job.{Job}
 use Rattle.aliasplan.specs.Delivery.{routing_of, IsReachedNode, final_route, final_address}
 use Rattle.aliasplan.specs.Reaching.{AreReachedPairs}
 use Rattle.aliasplan.specs.Report.{reason_of, part_of, routes, IsFinding, IsLineOf}
-use Rattle.aliasplan.specs.Lanes.{IsLineAt, IsLineOfNode}
-use Rattle.aliasplan.specs.Gathering.{HaveLine}
+use Rattle.aliasplan.specs.Routes.{IsLineAt, IsLineOfNode, HaveLine}
 
 -- a line that is added is a line of the report
 line_added : (q line : List ℕ) (old new : Bool) → new ≡ (old || bytes_eq q line) → IsTrue new ↔ (IsTrue old ⊎ (q ≡ line))

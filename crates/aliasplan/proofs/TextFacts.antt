@@ -21,7 +21,7 @@ use Rattle.relay_job.specs.declared.job.JobInclude.{JobInclude}
 use Rattle.aliasplan.specs.declared.source.Source.TheVariants as sources
 use Rattle.aliasplan.specs.declared.table.Table.TheVariants as tables
 use Rattle.aliasplan.specs.Report.{word_of, table_word_of, file_words, table_words, texts, part_of, IsFinding, IsLineOf}
-use Rattle.aliasplan.specs.Lanes.{table_line}
+use Rattle.aliasplan.specs.Texts.{table_line}
 use Rattle.aliasplan.specs.Texts.{source_line, has_include_line, has_fault_line}
 use Rattle.aliasplan.proofs.Members.{In, in_from, contains_in}
 

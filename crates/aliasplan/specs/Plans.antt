@@ -1,87 +1,27 @@
 -- The plan of a job.
-use Rattle.std.specs.Prelude.{◌≡◌, ◌≢◌, ℕ, ◌≤◌, List, [], map, flat_map, length, Contains, ◌↔◌}
-use Rattle.std.specs.declared.cmp.Ordering.{Ordering}
-use Rattle.std.specs.Ordering.{ordering_then}
-use Rattle.relay_text.specs.AddressParts.{AddressParts}
-use Rattle.relay_text.specs.Addresses.{path_text_of}
+use Rattle.std.specs.Prelude.{◌≡◌, ℕ, List, Contains, ◌↔◌}
 use Rattle.relay_text.specs.TextSets.{text_cmp, IsAscendingBy}
-use Rattle.std.specs.Prelude.{Some}
-use Rattle.relay_routes.specs.declared.route.Route.{Route}
-use Rattle.relay_routes.specs.declared.transport.Transport.{Transport}
-use Rattle.relay_routes.specs.Transports.{transport_name}
-use Rattle.relay_rings.specs.Batches.{parts_of}
-use Rattle.relay_rings.specs.Sound.{IsSound}
 use Rattle.relay_wire.specs.declared.plan.Planned.{Planned}
 use Rattle.relay_wire.specs.declared.plan.Plan.{Plan}
+use Rattle.relay_delivery.specs.Groups as groups
 use Rattle.relay_job.specs.declared.job.Job.{Job}
 use Rattle.relay_job.specs.Settings.{limit_of}
-use Rattle.relay_tables.specs.Senders.{Sender}
 use Rattle.aliasplan.specs.Delivery.{IsPlaced}
 use Rattle.aliasplan.specs.Report.{IsFindingLine}
 
--- The addresses that share a sender, a transport and a nexthop, and so the hosts.
-pub record Group : Type 0 where
-  pub sender : Sender
-  pub route : Route
-  pub to : List AddressParts
-
--- Groups stand by the bytes of the sender's path, the transport's name and the nexthop; recipients by the bytes of their paths.
-abbrev pub group_cmp : Group → Group → Ordering
-group_cmp g h = ordering_then (text_cmp (path_text_of g.sender) (path_text_of h.sender))
-    (ordering_then (text_cmp (transport_name g.route.transport) (transport_name h.route.transport)) (text_cmp g.route.nexthop h.route.nexthop))
-
-abbrev pub path_cmp : AddressParts → AddressParts → Ordering
-path_cmp a b = text_cmp (path_text_of (Some a)) (path_text_of (Some b))
-
--- What a transaction delivers by: its sender, transport and nexthop.
-pub record DeliveryKey : Type 0 where
-  pub sender : Sender
-  pub transport : Transport
-  pub nexthop : List ℕ
-
-abbrev pub key_of : Planned → DeliveryKey
-key_of t = record { sender = t.from; transport = t.transport; nexthop = t.nexthop }
-
 module _ (job : Job) where
-  -- one of these groups has the address, under this sender and route
-  pub record IsGrouped (groups : List Group) (sender : Sender) (route : Route) (a : AddressParts) : Type 0 where
-    pub group : Group
-    pub in_groups : Contains groups group
-    pub sender_is : group.sender ≡ sender
-    pub route_is : group.route ≡ route
-    pub in_group : Contains group.to a
-
-  -- The groups of a job, in order: each has an address, and together they have what is placed and nothing else.
-  pub record IsGrouping (groups : List Group) : Type 0 where
-    pub ascending : IsAscendingBy group_cmp groups
-    pub nonempty : (g : Group) → Contains groups g → g.to ≢ []
-    pub recipients_ascending : (g : Group) → Contains groups g → IsAscendingBy path_cmp g.to
-    pub members : (sender : Sender) (route : Route) (a : AddressParts) → IsPlaced job sender route a ↔ IsGrouped groups sender route a
-
-  -- A group is cut into consecutive batches within its transport's limit, the last perhaps shorter.
-  abbrev pub planned : Group → List AddressParts → Planned
-  planned g part = record { from = g.sender; transport = g.route.transport; nexthop = g.route.nexthop; hosts = g.route.hosts; to = part }
-
-  abbrev pub batches_of : Group → List Planned
-  batches_of g = map (planned g) (parts_of (limit_of job.settings g.route.transport) g.to)
-
-  -- The transactions: the batches of the groups in order.
-  pub record AreTransactionsOf (transactions : List Planned) : Type 0 where
-    pub groups : List Group
-    pub grouping : IsGrouping groups
-    pub batches : transactions ≡ flat_map batches_of groups
-
-  -- an address that is placed under this sender, by this transport to this nexthop
-  abbrev pub IsPlacedAt : DeliveryKey → AddressParts → Type 0
-  IsPlacedAt key a = (route : Route) × IsPlaced job key.sender route a × (route.transport ≡ key.transport) × (route.nexthop ≡ key.nexthop)
+  -- The transactions of what is placed: its groups by sender, transport and nexthop, each cut into consecutive batches within its
+  -- transport's limit, the last perhaps shorter.
+  abbrev pub AreTransactionsOf : List Planned → Type 0
+  AreTransactionsOf transactions = groups.AreTransactionsOf (limit_of job.settings) (IsPlaced job) transactions
 
   -- Any list of transactions that delivers what is placed and nothing else, within the limits, in whatever order, however grouped or cut.
   abbrev pub IsSoundFor : List Planned → Type 0
-  IsSoundFor ts = IsSound key_of (λ (t : Planned). t.to) (λ key. limit_of job.settings key.transport) IsPlacedAt ts
+  IsSoundFor transactions = groups.IsSoundFor (limit_of job.settings) (IsPlaced job) transactions
 
   -- no sound list of transactions is shorter
   abbrev pub IsFewest : List Planned → Type 0
-  IsFewest ts = (other : List Planned) → IsSoundFor other → length ts ≤ length other
+  IsFewest transactions = groups.IsFewest (limit_of job.settings) (IsPlaced job) transactions
 
   -- The plan: its transactions, and the lines of the findings in byte order, each once.
   pub record IsPlanOf (plan : Plan) : Type 0 where

@@ -16,9 +16,9 @@ use Rattle.relay_job.specs.declared.job.Job.{Job}
 use Rattle.relay_job.specs.declared.job.JobInclude.{JobInclude}
 use Rattle.aliasplan.specs.declared.source.Source.{Source}
 use Rattle.aliasplan.specs.declared.source.Source.TheVariants.{Aliases, Include, Mailboxes}
+use Rattle.aliasplan.specs.declared.table.Table.{Table}
 use Rattle.aliasplan.specs.declared.table.Table.TheVariants as tables
-use Rattle.aliasplan.specs.Report.{word_of}
-use Rattle.aliasplan.specs.Lanes.{table_line}
+use Rattle.aliasplan.specs.Report.{word_of, table_word_of}
 
 abbrev pub source_finding : Source → LineFault → Finding
 source_finding Aliases fault = findings.Aliases fault.line (word_of fault.kind)
@@ -27,6 +27,13 @@ source_finding Mailboxes fault = findings.Mailboxes fault.line (word_of fault.ki
 
 abbrev pub source_line : Source → LineFault → List ℕ
 source_line source fault = finding_text_of (source_finding source fault)
+
+abbrev pub table_finding : Table → TableLineFault → Finding
+table_finding tables.Transport fault = findings.Transport fault.line (table_word_of fault.kind)
+table_finding tables.Mx fault = findings.Mx fault.line (table_word_of fault.kind)
+
+abbrev pub table_line : Table → TableLineFault → List ℕ
+table_line table fault = finding_text_of (table_finding table fault)
 
 -- one of an include file's lines at fault
 abbrev pub include_line : List ℕ → LineFault → List ℕ

@@ -19,6 +19,7 @@ use relay_rounds::Gate;
 use relay_routes::{Destination, Router, Unrouted};
 use relay_tables::{Graph, Node};
 use relay_text::{Seq, Text, TextSet};
+use relay_wire::FindingLines;
 use std::alloc::{AllocError, Global};
 use std::thread::Threads;
 
@@ -122,8 +123,7 @@ fn domains_of_sources<G: Gate, R: Threads + Sync>(
 {
     let graph = graph_of(crew.alloc, job, &sources.tables, crew.limits)?;
     let pairs = pairs_of(crew, job, &graph)?;
-    let router = sources.router.router();
-    match domains_of_pairs(crew.alloc, job, router, &graph, &pairs) {
+    match domains_of_pairs(crew.alloc, job, &sources.router, &graph, &pairs) {
         Ok(domains) => Ok(domains),
         Err(_) => Err(RunFault::Memory),
     }
@@ -152,7 +152,8 @@ pub fn domains<G: Gate, R: Threads + Sync>(
 {
     parsed_jobs();
     file_counts();
-    let Ok(sources) = Sources::read(alloc, job) else {
+    let mut lines = FindingLines::new(alloc);
+    let Ok(sources) = Sources::read(alloc, job, &mut lines) else {
         return Err(RunFault::Memory);
     };
     let crew = Crew {

@@ -1,192 +1,260 @@
-//! What the pairs that are reached lead to.
-ghost use Rattle.std.specs.Prelude.{◌≡◌, ◌⊎◌, ◌↔◌, ◌<◌, ◌≤◌, ◌^◌, ℕ, List, All, Err, length, IfOk, OnOk};
-ghost use Rattle.relay_text.specs.AddressParts.{AddressParts};
-ghost use Rattle.relay_routes.specs.declared.transport.Transport as kinds;
-ghost use Rattle.relay_routes.specs.Routes.{route_to};
+//! What the pairs that are reached lead to, by numbers.
+//!
+//! A node is looked at once, where the first pair with it comes: its route is found, or the line is added that tells why there is none.
+//! From then on a number says what is known of it, so each further sender of an address costs no look-up.
+use relay_delivery::{Routed, Stop};
+use relay_destinations::Destinations;
+use relay_tables::Graph;
+
+/// What is known of a node.
+#[derive(Clone, Copy, Debug, PartialEq, Eq)]
+pub enum Known {
+    Unseen,
+    /// No message goes there: it is no address, or one without a route.
+    Unrouted,
+    /// An address that has a route, by its number among the recipients.
+    Recipient(u32),
+}
+
+/// Recipients, and under which senders they are reached.
+#[derive(Drop)]
+pub struct Gathering<'a> {
+    graph: &'a Graph,
+    pub destinations: Destinations<'a>,
+    /// Each as often as nodes have it.
+    pub recipients: Vec<Routed<'a>>,
+    pub stops: Vec<Stop>,
+    /// By node.
+    known: Vec<Known>,
+}
+
+ghost use Rattle.std.specs.Prelude.{◌≡◌, ◌⊎◌, ◌↔◌, ◌<◌, ◌≤◌, ◌+◌, ◌-◌, ◌^◌, ◌++◌, ◌∷◌, ℕ, List, [], Some, Ok, Err, All, Result, length, slice_get, IfOk, OnOk};
+ghost use Rattle.relay_text.specs.Bytes.{has_text};
+ghost use Rattle.relay_tables.specs.declared.node.Node as nodes;
+ghost use Rattle.relay_routes.specs.declared.route.Route as routes;
+ghost use Rattle.relay_routes.specs.declared.unrouted.Unrouted as causes;
+ghost use Rattle.relay_destinations.specs.Ways.{Means, Keeps};
 ghost use Rattle.aliasplan.specs.Delivery.{routing_of};
 ghost use Rattle.aliasplan.specs.Findings.{Reports};
-ghost use Rattle.aliasplan.specs.Lanes.{HasStop, NoStops, AreStopsRouted, IsStopAt, IsLineAt, IsStopOf, IsLineOfNode};
-ghost use Rattle.aliasplan.specs.Gathering.{route_by_found, AreNumbered, HasStopUnder, HaveStop, HaveLine};
+ghost use Rattle.aliasplan.specs.Routes.{IsThere, IsLineAt, IsRoutedAt, IsLineOfNode, IsLineOfPair, HaveLine, IsRecipientIfAny, AreKnown, AreGathered, StayKnown};
+ghost use Rattle.relay_pairs.specs.declared.reached.Reached as reached;
 
-use crate::cached_router::CachedRouter;
 use crate::findings::reason_for;
-use crate::lanes::Lanes;
-use crate::sender_lanes::SenderLanes;
+use relay_destinations::Way;
 use relay_job::Job;
 use relay_pairs::Reached;
-use relay_routes::{Destination, Route, Unrouted, route_by_destination};
-use relay_tables::{Graph, Node};
+use relay_routes::Unrouted;
+use relay_tables::Node;
 use relay_text::Address;
 use relay_wire::{Finding, FindingLines};
 use std::alloc::{AllocError, Global};
 
-/// One more than the greatest number of a sender, 0 where there is none.
-fn sender_count(pairs: &[Reached]) -> usize
-    ensures above { All (λ p. p.sender < result) pairs.now }
-    ensures small { result ≤ 2 ^ 32 }
-    ensures least { (n : ℕ) → All (λ p. p.sender < n) pairs.now → result ≤ n }
-{
-    let mut count = 0;
-    for pair in pairs {
-        count = count.max(pair.sender as usize + 1);
-    }
-    count
-}
-
-/// No address under each sender of a number below `count`.
-fn no_lanes(alloc: Global, count: usize) -> Result<Vec<SenderLanes>, AllocError>
-    requires { count ≤ 2 ^ 32 }
-    ensures len { IfOk result (λ by_sender. length by_sender.items ≡ count) }
-    ensures numbers { IfOk result (λ by_sender. AreNumbered by_sender.items) }
-    ensures empty { IfOk result (λ by_sender. All (λ x. NoStops x.lanes) by_sender.items) }
-{
-    let mut by_sender = Vec::with_capacity(alloc, count)?;
-    for sender in 0..count {
-        by_sender.push(SenderLanes {
-            sender: sender as u32,
-            lanes: Lanes::new(alloc),
-        })?;
-    }
-    Ok(by_sender)
-}
-
-/// Adds the line of an address that has no route. `Err` where memory ran out, then or when the route was looked up.
+/// Adds the line of an address that has no route.
 fn add_unrouted(
     alloc: Global,
-    unrouted: Unrouted,
+    unrouted: &Unrouted,
     address: &Address,
     lines: &mut FindingLines,
 ) -> Result<(), AllocError>
-    ensures lines { OnOk result (Reports lines.old lines.new (IsLineAt (Err unrouted) address.now)) }
-    ensures memory { OnOk result (unrouted ≡ Unrouted.Memory → ⊥) }
+    ensures lines { OnOk result (Reports lines.old lines.new (IsLineAt (Err unrouted.now) address.now)) }
 {
     let address = address.copy(alloc)?;
-    let reason = reason_for(unrouted).ok_or(AllocError)?;
+    let reason = reason_for(unrouted.copy(alloc)?).ok_or(AllocError)?;
     lines.add(alloc, &Finding::Unrouted(address, reason))
 }
 
-/// Adds an address by what the router answered of it.
-fn add_routed(
+/// The recipient that an address is, by what was found for it. The line of an address without a route is added.
+fn recipient_at<'a>(
     alloc: Global,
-    answer: Result<Route, Unrouted>,
-    address: &Address,
-    lanes: &mut Lanes,
+    destinations: &Destinations<'a>,
+    way: Way,
+    address: &'a Address,
     lines: &mut FindingLines,
-) -> Result<(), AllocError>
-    ensures stops { OnOk result ((t : kinds.Transport) (n : List ℕ) (a : AddressParts) → HasStop lanes.new t n a ↔ (HasStop lanes.old t n a ⊎ IsStopAt answer address.now t n a)) }
-    ensures lines { OnOk result (Reports lines.old lines.new (IsLineAt answer address.now)) }
-    ensures memory { OnOk result (answer ≡ Err Unrouted.Memory → ⊥) }
+) -> Result<Option<Routed<'a>>, AllocError>
+    requires there { IsThere destinations.now way }
+    ensures recipient { IfOk result (λ r. (answer : Result routes.Route causes.Unrouted) → Means destinations.now way answer → IsRoutedAt destinations.now.routes answer address.now r) }
+    ensures lines { OnOk result ((answer : Result routes.Route causes.Unrouted) → Means destinations.now way answer → Reports lines.old lines.new (IsLineAt answer address.now)) }
 {
-    match answer {
-        Ok(route) => {
-            let address = address.copy(alloc)?;
-            lanes.add(alloc, route.transport, route.nexthop.as_bytes(), address)
+    match way {
+        Way::To(route) => Ok(Some(Routed { route, address })),
+        Way::Nowhere(number) => {
+            let reason = &destinations.reasons()[number as usize];
+            add_unrouted(alloc, reason, address, lines)?;
+            Ok(None)
         }
-        Err(unrouted) => add_unrouted(alloc, unrouted, address, lines),
     }
 }
 
-/// Adds an address by its destination.
-fn add_to(
-    alloc: Global,
-    router: &mut CachedRouter,
-    to: &Destination,
-    address: &Address,
-    lanes: &mut Lanes,
-    lines: &mut FindingLines,
-) -> Result<(), AllocError>
-    requires { AreStopsRouted router.old lanes.old }
-    ensures stops { OnOk result ((t : kinds.Transport) (n : List ℕ) (a : AddressParts) → HasStop lanes.new t n a ↔ (HasStop lanes.old t n a ⊎ IsStopAt (route_to router.old to.now.transport to.now.nexthop) address.now t n a)) }
-    ensures lines { OnOk result (Reports lines.old lines.new (IsLineAt (route_to router.old to.now.transport to.now.nexthop) address.now)) }
-    ensures kept { router.new ≡ router.old }
-{
-    let nexthop = to.nexthop.as_bytes();
-    if lanes.join(alloc, to.transport, nexthop, address)? {
-        return Ok(());
-    }
-    let answer = router.route_to(alloc, to.transport, nexthop);
-    add_routed(alloc, answer, address, lanes, lines)
-}
-
-/// Adds an address by the destination that was found for it.
-fn add_found(
-    alloc: Global,
-    router: &mut CachedRouter,
-    found: Result<Destination, Unrouted>,
-    address: &Address,
-    lanes: &mut Lanes,
-    lines: &mut FindingLines,
-) -> Result<(), AllocError>
-    requires { AreStopsRouted router.old lanes.old }
-    ensures stops { OnOk result ((t : kinds.Transport) (n : List ℕ) (a : AddressParts) → HasStop lanes.new t n a ↔ (HasStop lanes.old t n a ⊎ IsStopAt (route_by_found router.old found) address.now t n a)) }
-    ensures lines { OnOk result (Reports lines.old lines.new (IsLineAt (route_by_found router.old found) address.now)) }
-    ensures memory { OnOk result (found ≡ Err Unrouted.Memory → ⊥) }
-    ensures kept { router.new ≡ router.old }
-{
-    match found {
-        Ok(to) => add_to(alloc, router, &to, address, lanes, lines),
-        Err(unrouted) => add_unrouted(alloc, unrouted, address, lines),
-    }
-}
-
-/// Adds what a node leads to.
-fn add_node(
+/// The recipient that a node is. The line of an address without a route is added.
+fn recipient_of<'a>(
     alloc: Global,
     job: &Job,
-    router: &mut CachedRouter,
-    node: &Node,
-    lanes: &mut Lanes,
+    node: &'a Node,
+    destinations: &mut Destinations<'a>,
     lines: &mut FindingLines,
-) -> Result<(), AllocError>
-    requires router { router.old ≡ routing_of job.now }
-    requires routed { AreStopsRouted router.old lanes.old }
-    ensures stops { OnOk result ((t : kinds.Transport) (n : List ℕ) (a : AddressParts) → HasStop lanes.new t n a ↔ (HasStop lanes.old t n a ⊎ IsStopOf job.now node.now t n a)) }
+) -> Result<Option<Routed<'a>>, AllocError>
+    requires routing { destinations.old.routing ≡ routing_of job.now }
+    requires via { destinations.old.via ≡ job.now.settings.mailbox_transport }
+    ensures recipient { IfOk result (IsRecipientIfAny job.now destinations.new.routes node.now) }
     ensures lines { OnOk result (Reports lines.old lines.new (IsLineOfNode job.now node.now)) }
-    ensures kept { router.new ≡ router.old }
+    ensures kept { OnOk result (Keeps destinations.old destinations.new) }
 {
-    route_by_destination();
+    let _ = job;
     match node {
         Node::Mailbox(address) => {
-            let via = &job.settings.mailbox_transport;
-            let found = router.router().destination_via(alloc, via, address);
-            add_found(alloc, router, found, address, lanes, lines)
+            let way = destinations.find_mailbox(alloc, address)?;
+            recipient_at(alloc, destinations, way, address, lines)
         }
         Node::Remote(address) => {
-            let found = router.router().destination(alloc, address);
-            add_found(alloc, router, found, address, lanes, lines)
+            let way = destinations.find(alloc, address)?;
+            recipient_at(alloc, destinations, way, address, lines)
         }
         Node::Alias(_)
         | Node::Include(_)
         | Node::Missing(_)
         | Node::NoInclude(_)
         | Node::Command(_)
-        | Node::File(_) => Ok(()),
+        | Node::File(_) => Ok(None),
     }
 }
 
-/// What the pairs lead to, by the numbers of the senders. The lines of the addresses that have no route are added to those that are
-/// reported already.
-pub fn gather_stops(
+impl<'a> Gathering<'a> {
+    /// Nothing yet.
+    pub fn new(
+        alloc: Global,
+        graph: &'a Graph,
+        destinations: Destinations<'a>,
+    ) -> Result<Gathering<'a>, AllocError>
+        ensures graph { IfOk result (λ gathering. gathering.graph.now ≡ graph.now) }
+        ensures destinations { IfOk result (λ gathering. gathering.destinations ≡ destinations.entry) }
+        ensures empty { IfOk result (λ gathering. (gathering.recipients.items ≡ []) × (gathering.stops.items ≡ [])) }
+        ensures unseen { IfOk result (λ gathering. (length gathering.known.items ≡ length graph.now.nodes) × All (λ k. k ≡ Known.Unseen) gathering.known.items) }
+    {
+        Ok(Gathering {
+            graph,
+            destinations,
+            recipients: Vec::new(alloc),
+            stops: Vec::new(alloc),
+            known: vec![in alloc; Known::Unseen; graph.nodes()]?,
+        })
+    }
+
+    /// Finds out what a node is that wasn't seen yet.
+    fn settle(
+        &mut self,
+        alloc: Global,
+        job: &Job,
+        node: u32,
+        lines: &mut FindingLines,
+    ) -> Result<Known, AllocError>
+        requires node { node < length self.old.graph.now.nodes }
+        requires routing { self.old.destinations.routing ≡ routing_of job.now }
+        requires via { self.old.destinations.via ≡ job.now.settings.mailbox_transport }
+        requires few { length self.old.recipients.items < 2 ^ 32 }
+        requires known { AreKnown job.now self.old.graph.now self.old.destinations.routes self.old.recipients.items self.old.known.items lines.old }
+        requires unseen { slice_get self.old.known.items node ≡ Some Known.Unseen }
+        ensures known { OnOk result (AreKnown job.now self.new.graph.now self.new.destinations.routes self.new.recipients.items self.new.known.items lines.new) }
+        ensures there { IfOk result (λ k. slice_get self.new.known.items node ≡ Some k) }
+        ensures seen { IfOk result (λ k. k ≡ Known.Unseen → ⊥) }
+        ensures stay { OnOk result (StayKnown self.old.known.items self.new.known.items) }
+        ensures lines { OnOk result (Reports lines.old lines.new (λ q. IsLineOfPair job.now self.old.graph.now q (record { sender = 0; node = node }))) }
+        ensures few { OnOk result (length self.new.recipients.items ≤ length self.old.recipients.items + 1) }
+        ensures kept { OnOk result (Keeps self.old.destinations self.new.destinations) }
+        ensures same { (self.new.graph.now ≡ self.old.graph.now) × (self.new.stops.items ≡ self.old.stops.items) }
+    {
+        let at = self.graph.node(node);
+        let recipient = recipient_of(alloc, job, at, &mut self.destinations, lines)?;
+        let known = match recipient {
+            Some(routed) => {
+                let number = self.recipients.len() as u32;
+                self.recipients.push(routed)?;
+                Known::Recipient(number)
+            }
+            None => Known::Unrouted,
+        };
+        self.known[node as usize] = known;
+        Ok(known)
+    }
+
+    /// What a node is, which is found out where it wasn't seen yet.
+    fn know(
+        &mut self,
+        alloc: Global,
+        job: &Job,
+        node: u32,
+        lines: &mut FindingLines,
+    ) -> Result<Known, AllocError>
+        requires node { node < length self.old.graph.now.nodes }
+        requires routing { self.old.destinations.routing ≡ routing_of job.now }
+        requires via { self.old.destinations.via ≡ job.now.settings.mailbox_transport }
+        requires few { length self.old.recipients.items < 2 ^ 32 }
+        requires known { AreKnown job.now self.old.graph.now self.old.destinations.routes self.old.recipients.items self.old.known.items lines.old }
+        ensures known { OnOk result (AreKnown job.now self.new.graph.now self.new.destinations.routes self.new.recipients.items self.new.known.items lines.new) }
+        ensures there { IfOk result (λ k. slice_get self.new.known.items node ≡ Some k) }
+        ensures seen { IfOk result (λ k. k ≡ Known.Unseen → ⊥) }
+        ensures stay { OnOk result (StayKnown self.old.known.items self.new.known.items) }
+        ensures lines { OnOk result (Reports lines.old lines.new (λ q. IsLineOfPair job.now self.old.graph.now q (record { sender = 0; node = node }))) }
+        ensures few { OnOk result (length self.new.recipients.items ≤ length self.old.recipients.items + 1) }
+        ensures kept { OnOk result (Keeps self.old.destinations self.new.destinations) }
+        ensures same { (self.new.graph.now ≡ self.old.graph.now) × (self.new.stops.items ≡ self.old.stops.items) }
+    {
+        match self.known[node as usize] {
+            Known::Unseen => self.settle(alloc, job, node, lines),
+            known => Ok(known),
+        }
+    }
+
+    /// Adds what a pair leads to.
+    fn add(
+        &mut self,
+        alloc: Global,
+        job: &Job,
+        pair: Reached,
+        lines: &mut FindingLines,
+    ) -> Result<(), AllocError>
+        requires node { pair.node < length self.old.graph.now.nodes }
+        requires routing { self.old.destinations.routing ≡ routing_of job.now }
+        requires via { self.old.destinations.via ≡ job.now.settings.mailbox_transport }
+        requires few { length self.old.recipients.items < 2 ^ 32 }
+        requires known { AreKnown job.now self.old.graph.now self.old.destinations.routes self.old.recipients.items self.old.known.items lines.old }
+        ensures known { OnOk result (AreKnown job.now self.new.graph.now self.new.destinations.routes self.new.recipients.items self.new.known.items lines.new) }
+        ensures gathered { OnOk result ((pairs : List reached.Reached) → AreGathered job.now self.old.graph.now pairs self.old.known.items self.old.stops.items → AreGathered job.now self.old.graph.now (pairs ++ pair ∷ []) self.new.known.items self.new.stops.items) }
+        ensures lines { OnOk result (Reports lines.old lines.new (λ q. IsLineOfPair job.now self.old.graph.now q pair)) }
+        ensures few_recipients { OnOk result (length self.new.recipients.items ≤ length self.old.recipients.items + 1) }
+        ensures few_stops { OnOk result (length self.new.stops.items ≤ length self.old.stops.items + 1) }
+        ensures kept { OnOk result (Keeps self.old.destinations self.new.destinations) }
+        ensures same { self.new.graph.now ≡ self.old.graph.now }
+    {
+        if let Known::Recipient(recipient) = self.know(alloc, job, pair.node, lines)? {
+            let sender = pair.sender;
+            self.stops.push(Stop { sender, recipient })?;
+        }
+        Ok(())
+    }
+}
+
+/// What the pairs lead to. The lines of the addresses that have no route are added to those that are reported already.
+pub fn gather_pairs<'a>(
     alloc: Global,
     job: &Job,
-    router: &mut CachedRouter,
-    graph: &Graph,
+    graph: &'a Graph,
+    destinations: Destinations<'a>,
     pairs: &[Reached],
     lines: &mut FindingLines,
-) -> Result<Vec<SenderLanes>, AllocError>
-    requires router { router.old ≡ routing_of job.now }
-    requires in_graph { All (λ p. (p.sender < length graph.now.senders) × (p.node < length graph.now.nodes)) pairs.now }
-    ensures stops { IfOk result (λ by_sender. (s : ℕ) (t : kinds.Transport) (n : List ℕ) (a : AddressParts) → HasStopUnder by_sender.items s t n a ↔ HaveStop job.now graph.now pairs.now s t n a) }
+) -> Result<Gathering<'a>, AllocError>
+    requires routing { destinations.routing ≡ routing_of job.now }
+    requires via { destinations.via ≡ job.now.settings.mailbox_transport }
+    requires in_graph { All (λ p. p.node < length graph.now.nodes) pairs.now }
+    requires few { length pairs.now ≤ 16777216 }
+    ensures graph { IfOk result (λ gathering. gathering.graph.now ≡ graph.now) }
+    ensures known { IfOk result (λ gathering. AreKnown job.now graph.now gathering.destinations.routes gathering.recipients.items gathering.known.items lines.new) }
+    ensures gathered { IfOk result (λ gathering. AreGathered job.now graph.now pairs.now gathering.known.items gathering.stops.items) }
     ensures lines { OnOk result (Reports lines.old lines.new (HaveLine job.now graph.now pairs.now)) }
-    ensures numbers { IfOk result (λ by_sender. AreNumbered by_sender.items) }
-    ensures few { IfOk result (λ by_sender. length by_sender.items ≤ length graph.now.senders) }
-    ensures kept { router.new ≡ router.old }
+    ensures few { IfOk result (λ gathering. length gathering.stops.items ≤ length pairs.now) }
 {
-    let mut by_sender = no_lanes(alloc, sender_count(pairs))?;
+    let mut gathering = Gathering::new(alloc, graph, destinations)?;
     for pair in pairs {
-        let under = &mut by_sender[pair.sender as usize];
-        let node = graph.node(pair.node);
-        add_node(alloc, job, router, node, &mut under.lanes, lines)?;
+        gathering.add(alloc, job, *pair, lines)?;
     }
-    Ok(by_sender)
+    Ok(gathering)
 }

@@ -1,4 +1,5 @@
 //! What a run is asked for.
+ghost use Rattle.std.specs.Prelude.{◌≡◌};
 
 /// What a plan is written as.
 #[derive(Clone, Copy, Debug, PartialEq, Eq)]
@@ -19,6 +20,19 @@ pub struct Options {
     pub cut: usize,
 }
 
+impl Default for Options {
+    /// A plan's lines, by four threads that take 1,024 pairs at once.
+    fn default() -> Options
+        ensures { result ≡ record { form = Form.Plan; workers = 4; cut = 1024 } }
+    {
+        Options {
+            form: Form::Plan,
+            workers: 4,
+            cut: 1024,
+        }
+    }
+}
+
 /// How much a run takes.
 #[derive(Clone, Copy, Debug, PartialEq, Eq)]
 pub struct Limits {
@@ -30,4 +44,18 @@ pub struct Limits {
     pub owners: usize,
     /// How many pairs of a sender and a name that is reached under it, up to 16,777,216.
     pub pairs: usize,
+}
+
+impl Default for Limits {
+    /// As much as a run may ever take.
+    fn default() -> Limits
+        ensures { result ≡ record { bytes = 67108864; names = 16777216; owners = 65535; pairs = 16777216 } }
+    {
+        Limits {
+            bytes: 67_108_864,
+            names: 16_777_216,
+            owners: 65_535,
+            pairs: 16_777_216,
+        }
+    }
 }

@@ -1,5 +1,5 @@
 //! The plan of a job.
-ghost use Rattle.std.specs.Prelude.{◌≡◌, ◌⊎◌, ◌↔◌, ◌<◌, ◌≤◌, ℕ, List, IsTrue, IfOk, IfErr, OnOk};
+ghost use Rattle.std.specs.Prelude.{◌≡◌, ◌⊎◌, ◌↔◌, ◌<◌, ◌≤◌, ℕ, List, length, IsTrue, IfOk, IfErr, OnOk};
 ghost use Rattle.relay_text.specs.Bytes.{has_text};
 ghost use Rattle.relay_routes.specs.declared.transport.Transport as names;
 ghost use Rattle.relay_job.specs.Settings.{limit_of};
@@ -14,7 +14,6 @@ ghost use Rattle.aliasplan.specs.Texts.{has_fault_line};
 ghost use Rattle.aliasplan.specs.Reaching.{AreReachedPairs, AreReachedNodes};
 
 use crate::addresses::plan_addresses;
-use crate::cached_router::CachedRouter;
 use crate::crew::Crew;
 use crate::entries::report_entries;
 use crate::options::{Limits, Options};
@@ -71,6 +70,7 @@ pub(crate) fn pairs_of<G: Gate, R: Threads + Sync>(
     requires owners { owned_count job.now ≤ crew.now.limits.owners }
     ensures pairs { IfOk result (λ pairs. ArePairs graph.now pairs.items) }
     ensures reached { IfOk result (λ pairs. AreReachedPairs job.now graph.now pairs.items) }
+    ensures few { IfOk result (λ pairs. length pairs.items ≤ 16777216) }
     ensures at_most { OnOk result (HasAtMostPairs job.now crew.now.limits.pairs) }
     ensures refused { IfErr result (IsRefused crew.now.limits job.now) }
 {
@@ -145,8 +145,12 @@ fn plan_of(
     lines: FindingLines,
 ) -> Result<Plan, AllocError>
     requires transactions { AreTransactionsOf job.now transactions.items }
+    requires sound { IsSoundFor job.now transactions.items }
+    requires fewest { IsFewest job.now transactions.items }
     requires lines { (q : List ℕ) → IsTrue (has_text lines q) ↔ IsFindingLine job.now q }
-    ensures { IfOk result (IsPlanOf job.now) }
+    ensures plan { IfOk result (IsPlanOf job.now) }
+    ensures sound { IfOk result (λ plan. IsSoundFor job.now plan.transactions) }
+    ensures fewest { IfOk result (λ plan. IsFewest job.now plan.transactions) }
 {
     let hostname = Vec::from_slice(alloc, job.settings.hostname.as_bytes())?;
     Ok(Plan {
@@ -160,72 +164,53 @@ fn plan_of(
 fn plan_reached<G: Gate, R: Threads + Sync>(
     crew: &Crew<G, R>,
     job: &Job,
-    tables: &Tables,
-    router: &mut CachedRouter,
+    sources: &Sources,
     graph: &Graph,
     pairs: &[Reached],
     lines: FindingLines,
 ) -> Result<Plan, AllocError>
     requires batches { (t : names.Transport) → 0 < limit_of job.now.settings t }
-    requires tables { tables.now ≡ directory_of job.now }
-    requires router { router.old ≡ routing_of job.now }
+    requires tables { sources.now.tables ≡ directory_of job.now }
+    requires router { sources.now.router ≡ routing_of job.now }
     requires graph { IsJobGraph job.now graph.now }
     requires pairs { ArePairs graph.now pairs.now }
     requires reached { AreReachedPairs job.now graph.now pairs.now }
+    requires few { length pairs.now ≤ 16777216 }
     requires lines { (q : List ℕ) → has_text lines q ≡ has_fault_line job.now q }
-    ensures { IfOk result (IsPlanOf job.now) }
+    ensures plan { IfOk result (IsPlanOf job.now) }
+    ensures sound { IfOk result (λ plan. IsSoundFor job.now plan.transactions) }
+    ensures fewest { IfOk result (λ plan. IsFewest job.now plan.transactions) }
 {
     let mut lines = lines;
-    report_reached(crew, job, tables, graph, pairs, &mut lines)?;
+    report_reached(crew, job, &sources.tables, graph, pairs, &mut lines)?;
+    let router = &sources.router;
     let transactions = plan_addresses(crew.alloc, job, router, graph, pairs, &mut lines)?;
     plan_of(crew.alloc, job, transactions, lines)
 }
 
-/// The plan of a job by what its names stand for and what routes its addresses. The lines of its files and tables that are at fault are
-/// given.
-fn plan_graph<G: Gate, R: Threads + Sync>(
+/// The plan of a job whose files and tables are read. Their lines that are at fault are given.
+pub(crate) fn plan_sources<G: Gate, R: Threads + Sync>(
     crew: &Crew<G, R>,
     job: &Job,
-    tables: &Tables,
-    router: &mut CachedRouter,
+    sources: &Sources,
     lines: FindingLines,
 ) -> Result<Plan, RunFault>
     requires batches { (t : names.Transport) → 0 < limit_of job.now.settings t }
-    requires tables { tables.now ≡ directory_of job.now }
-    requires router { router.old ≡ routing_of job.now }
+    requires tables { sources.now.tables ≡ directory_of job.now }
+    requires router { sources.now.router ≡ routing_of job.now }
     requires lines { (q : List ℕ) → has_text lines q ≡ has_fault_line job.now q }
     ensures plan { IfOk result (IsPlanOf job.now) }
+    ensures sound { IfOk result (λ plan. IsSoundFor job.now plan.transactions) }
+    ensures fewest { IfOk result (λ plan. IsFewest job.now plan.transactions) }
     ensures within { OnOk result (IsWithin crew.now.limits job.now) }
     ensures refused { IfErr result (IsRefused crew.now.limits job.now) }
 {
-    let graph = graph_of(crew.alloc, job, tables, crew.limits)?;
+    let graph = graph_of(crew.alloc, job, &sources.tables, crew.limits)?;
     let pairs = pairs_of(crew, job, &graph)?;
-    match plan_reached(crew, job, tables, router, &graph, &pairs, lines) {
+    match plan_reached(crew, job, sources, &graph, &pairs, lines) {
         Ok(plan) => Ok(plan),
         Err(_) => Err(RunFault::Memory),
     }
-}
-
-/// The plan of a job whose files and tables are read.
-fn plan_sources<G: Gate, R: Threads + Sync>(
-    crew: &Crew<G, R>,
-    job: &Job,
-    sources: Sources,
-) -> Result<Plan, RunFault>
-    requires batches { (t : names.Transport) → 0 < limit_of job.now.settings t }
-    requires tables { sources.tables ≡ directory_of job.now }
-    requires router { sources.router ≡ routing_of job.now }
-    requires lines { (q : List ℕ) → has_text sources.lines q ≡ has_fault_line job.now q }
-    ensures plan { IfOk result (IsPlanOf job.now) }
-    ensures within { OnOk result (IsWithin crew.now.limits job.now) }
-    ensures refused { IfErr result (IsRefused crew.now.limits job.now) }
-{
-    let Sources {
-        tables,
-        mut router,
-        lines,
-    } = sources;
-    plan_graph(crew, job, &tables, &mut router, lines)
 }
 
 /// The plan of a job: each address that an entry or recipient leads to, once under each sender that a chain of entries gives it, in
@@ -253,7 +238,8 @@ pub fn plan_job<G: Gate, R: Threads + Sync>(
 {
     parsed_jobs();
     file_counts();
-    let Ok(sources) = Sources::read(alloc, job) else {
+    let mut lines = FindingLines::new(alloc);
+    let Ok(sources) = Sources::read(alloc, job, &mut lines) else {
         return Err(RunFault::Memory);
     };
     let crew = Crew {
@@ -263,5 +249,5 @@ pub fn plan_job<G: Gate, R: Threads + Sync>(
         limits,
         gate,
     };
-    plan_sources(&crew, job, sources)
+    plan_sources(&crew, job, &sources, lines)
 }

@@ -1,18 +1,16 @@
 //! What a job's files and tables say.
-use crate::cached_router::CachedRouter;
+use relay_routes::Router;
 use relay_tables::Tables;
-use relay_wire::FindingLines;
 
-/// What names stand for, what routes addresses, and the lines of files and tables that are at fault.
+/// What names stand for, and what routes addresses.
 #[derive(Drop)]
 pub struct Sources {
     pub tables: Tables,
-    pub router: CachedRouter,
-    pub lines: FindingLines,
+    pub router: Router,
 }
 
-ghost use Rattle.std.specs.Prelude.{◌≡◌, ◌≢◌, ◌<◌, ◌-◌, ◌^◌, ℕ, List, length, All, AllPairs, IsTrue, IfOk, OnOk};
-ghost use Rattle.relay_text.specs.Bytes.{folded, has_text};
+ghost use Rattle.std.specs.Prelude.{◌≡◌, ◌≢◌, ◌<◌, ◌-◌, ◌^◌, length, All, AllPairs, IsTrue, IfOk, OnOk};
+ghost use Rattle.relay_text.specs.Bytes.{folded};
 ghost use Rattle.relay_text.specs.Addresses.{is_origin};
 ghost use Rattle.relay_aliasfile.specs.AliasFiles.{alias_file_of};
 ghost use Rattle.relay_aliasfile.specs.MailboxFiles.{mailbox_file_of};
@@ -28,9 +26,10 @@ use crate::table::Table;
 use crate::texts::{read_includes, report_file, report_table};
 use relay_aliasfile::{parse_aliases, parse_mailboxes};
 use relay_job::{Job, Settings};
-use relay_routes::{MxTable, Router, TransportTable};
+use relay_routes::{MxTable, TransportTable};
 use relay_tables::{Local, parsed_files};
 use relay_text::{Seq, Text};
+use relay_wire::FindingLines;
 use std::alloc::{AllocError, Global};
 
 /// Which domains are local, and how a local name is read.
@@ -81,8 +80,8 @@ fn read_router(alloc: Global, job: &Job, lines: &mut FindingLines) -> Result<Rou
 }
 
 impl Sources {
-    /// What the files and tables of a job say. `Err` where memory runs out.
-    pub fn read(alloc: Global, job: &Job) -> Result<Sources, AllocError>
+    /// What the files and tables of a job say. Adds the lines of those that are at fault. `Err` where memory runs out.
+    pub fn read(alloc: Global, job: &Job, lines: &mut FindingLines) -> Result<Sources, AllocError>
         requires origin { IsTrue (is_origin job.now.settings.origin) }
         requires domains { All (λ domain. folded domain ≡ domain) job.now.settings.destinations }
         requires paths { AllPairs (λ a b. a.path ≢ b.path) job.now.includes }
@@ -91,16 +90,10 @@ impl Sources {
         requires few_mailboxes { length (mailbox_file_of job.now.mailboxes).names < 2 ^ 32 - 2 }
         ensures tables { IfOk result (λ sources. sources.tables ≡ directory_of job.now) }
         ensures router { IfOk result (λ sources. sources.router ≡ routing_of job.now) }
-        ensures lines { IfOk result (λ sources. (q : List ℕ) → has_text sources.lines q ≡ has_fault_line job.now q) }
+        ensures lines { OnOk result (ReportsWhere lines.old lines.new (has_fault_line job.now)) }
     {
-        let mut lines = FindingLines::new(alloc);
-        let tables = read_tables(alloc, job, &mut lines)?;
-        let router = read_router(alloc, job, &mut lines)?;
-        let router = CachedRouter::new(alloc, job, router)?;
-        Ok(Sources {
-            tables,
-            router,
-            lines,
-        })
+        let tables = read_tables(alloc, job, lines)?;
+        let router = read_router(alloc, job, lines)?;
+        Ok(Sources { tables, router })
     }
 }

@@ -12,7 +12,7 @@ pub enum Table {
 impl Table {
     ghost use Rattle.std.specs.Prelude.{◌≡◌};
     ghost use Rattle.aliasplan.specs.Report.{table_word_of};
-    ghost use Rattle.aliasplan.specs.Lanes.{table_finding};
+    ghost use Rattle.aliasplan.specs.Texts.{table_finding};
 
     fn word(kind: FaultKind) -> LineWord
         ensures { result ≡ table_word_of kind }

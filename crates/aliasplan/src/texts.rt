@@ -4,7 +4,7 @@ ghost use Rattle.std.specs.List.{list_any};
 ghost use Rattle.std.specs.Str.{bytes_eq};
 ghost use Rattle.aliasplan.specs.Delivery.{entry_of_include};
 ghost use Rattle.aliasplan.specs.Findings.{ReportsWhere};
-ghost use Rattle.aliasplan.specs.Lanes.{table_line};
+ghost use Rattle.aliasplan.specs.Texts.{table_line};
 ghost use Rattle.aliasplan.specs.Texts.{source_line, has_include_line};
 
 use crate::source::Source;

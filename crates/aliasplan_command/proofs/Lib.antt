@@ -1,1 +1,2 @@
 pub mod AsciiLists
+pub mod CheckFaults

@@ -1,7 +1,7 @@
 -- What the process ends with.
 use Rattle.std.specs.Prelude.{◌≡◌, ◌≢◌, ℕ}
 use Rattle.aliasplan_command.specs.declared.command_line.Request.{Request}
-use Rattle.aliasplan_command.specs.declared.command_line.Request.TheVariants.{Plan, Domains, Gather, Help, Unknown, Fault}
+use Rattle.aliasplan_command.specs.declared.command_line.Request.TheVariants.{Plan, Domains, Check, Gather, Help, Unknown, Fault}
 use Rattle.aliasplan_command.specs.declared.status.Status.{Status}
 use Rattle.aliasplan_command.specs.declared.status.Status.TheVariants.{Done, Found, Refused, OutOfMemory, Broken, CommandLine}
 use Rattle.relay_job.specs.declared.fault.RunFault.{RunFault}
@@ -29,10 +29,11 @@ code_after OutOfMemory = 3
 code_after Broken = 4
 code_after CommandLine = 5
 
--- the command line is at fault where it asks for nothing that there is, and only there; only a plan has findings
+-- the command line is at fault where it asks for nothing that there is, and only there; only a plan and a check have findings
 abbrev pub IsStatusOf : Request → Status → Type 0
 IsStatusOf (Plan options output path detail) status = status ≢ CommandLine
 IsStatusOf (Domains options path detail) status = (status ≢ Found) × (status ≢ CommandLine)
+IsStatusOf (Check options scope path detail) status = status ≢ CommandLine
 IsStatusOf (Gather paths detail) status = (status ≢ Found) × (status ≢ CommandLine)
 IsStatusOf Help status = status ≡ Done
 IsStatusOf Unknown status = status ≡ CommandLine

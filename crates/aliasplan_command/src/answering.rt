@@ -4,6 +4,7 @@ ghost use Rattle.aliasplan.specs.Outcomes.{AreOptions};
 ghost use Rattle.aliasplan_command.specs.Requests.{IsRequest};
 ghost use Rattle.aliasplan_command.specs.Statuses.{code_of, code_after, IsStatusOf};
 
+use crate::check_run::run_check;
 use crate::command_line::{Detail, Output, Request};
 use crate::explaining::{explain_file, explain_job, shown};
 use crate::explaining_items::explain_items;
@@ -21,20 +22,23 @@ use std::io::{ErrorKind, Read};
 use std::rt::Files;
 use std::thread::Threads;
 
-/// How much a run takes.
-const LIMITS: Limits = Limits {
-    bytes: 67_108_864,
-    names: 16_777_216,
-    owners: 65_535,
-    pairs: 16_777_216,
-};
-
 /// What a run ends with that has this fault, which is said on standard error.
 fn refused<R: Eprint>(rt: &R, fault: RunFault) -> Status
     ensures { code_after result ≡ code_of fault }
 {
     let _ = eprintln!(rt; "aliasplan: {fault}");
     Status::of_fault(fault)
+}
+
+/// What a run ends with that wrote so many findings.
+fn status_of(findings: usize) -> Status
+    ensures { (findings ≡ 0 → result ≡ Status.Done) × (findings ≢ 0 → result ≡ Status.Found) }
+{
+    if findings == 0 {
+        Status::Done
+    } else {
+        Status::Found
+    }
 }
 
 /// What becomes of the answer to the job that a reader gives.
@@ -51,6 +55,7 @@ fn planned<R: Print + Eprint + AllocGlobal + Threads + Sync, J: Read + Drop>(
     let mut reader = Device::new(job);
     let mut writer = Device::new(io::writer(rt));
     let alloc = rt.alloc();
+    let limits = Limits::default();
     let summary = match output {
         Output::Text => run(
             rt,
@@ -58,10 +63,10 @@ fn planned<R: Print + Eprint + AllocGlobal + Threads + Sync, J: Read + Drop>(
             &mut reader,
             &mut writer,
             options,
-            LIMITS,
+            limits,
             &NoGate,
         )?,
-        Output::Json => run_as_json(rt, &mut reader, &mut writer, options, LIMITS)?,
+        Output::Json => run_as_json(rt, &mut reader, &mut writer, options, limits)?,
         Output::Domains => {
             run_domains(
                 rt,
@@ -69,17 +74,17 @@ fn planned<R: Print + Eprint + AllocGlobal + Threads + Sync, J: Read + Drop>(
                 &mut reader,
                 &mut writer,
                 options,
-                LIMITS,
+                limits,
                 &NoGate,
             )?;
             return Ok(Status::Done);
         }
+        Output::Check(scope) => {
+            let findings = run_check(rt, &mut reader, &mut writer, scope, options, limits)?;
+            return Ok(status_of(findings));
+        }
     };
-    if summary.findings == 0 {
-        Ok(Status::Done)
-    } else {
-        Ok(Status::Found)
-    }
+    Ok(status_of(summary.findings))
 }
 
 /// Answers to the job that a reader gives.
@@ -224,7 +229,8 @@ fn gather_job<R: Files + Print + Eprint + AllocGlobal>(
 {
     let mut source = FileSource::new(rt);
     let mut writer = Device::new(io::writer(rt));
-    let Err(fault) = gather(rt.alloc(), &mut source, paths, &mut writer, LIMITS.bytes) else {
+    let most = Limits::default().bytes;
+    let Err(fault) = gather(rt.alloc(), &mut source, paths, &mut writer, most) else {
         return Status::Done;
     };
     let status = refused(rt, fault);
@@ -250,6 +256,9 @@ pub fn answer<R: Input + Files + Print + Eprint + AllocGlobal + Threads + Sync>(
         }
         Request::Domains(options, path, detail) => {
             plan_named(rt, path.as_ref(), options, Output::Domains, detail)
+        }
+        Request::Check(options, scope, path, detail) => {
+            plan_named(rt, path.as_ref(), options, Output::Check(scope), detail)
         }
         Request::Gather(paths, detail) => gather_job(rt, &paths, detail),
         Request::Help => Status::Done,

@@ -6,6 +6,7 @@ ghost use Rattle.clap.specs.Values.{kind_of};
 ghost use Rattle.aliasplan.specs.Outcomes.{AreOptions};
 ghost use Rattle.aliasplan_command.specs.Requests.{IsRequest};
 
+use crate::check_run::Scope;
 use aliasplan::{Form, Options, Paths, RunFault};
 use clap::error::ErrorKind;
 use clap::{Arg, ArgAction, ArgMatches, Command, value_parser};
@@ -21,6 +22,8 @@ pub enum Request {
     Plan(Options, Output, Option<Text>, Detail),
     /// The domains that the job asks for, which is read likewise.
     Domains(Options, Option<Text>, Detail),
+    /// What is wrong with the job's files and tables, which is read likewise.
+    Check(Options, Scope, Option<Text>, Detail),
     /// A job of the files of these paths.
     Gather(Paths, Detail),
     /// The help or the version, which is printed.
@@ -40,6 +43,8 @@ pub enum Output {
     Json,
     /// The domains that it asks for.
     Domains,
+    /// What is wrong with its files and tables.
+    Check(Scope),
 }
 
 /// How much is said of a fault.
@@ -51,13 +56,8 @@ pub enum Detail {
     Culprit,
 }
 
-/// How many threads take part where the command line says nothing, and how many pairs one of them takes at once.
-const WORKERS: usize = 4;
-
-const CUT: usize = 1024;
-
 /// The version of the program, as the file VERSION has it, and the kit that it is proved with.
-const VERSION: &str = "0.1.0, proved with rattle-kit-13b";
+const VERSION: &str = "0.1.0, proved with rattle-kit-13f";
 
 /// What stands below the options in the help of `plan`.
 const AFTER_PLAN: &str =
@@ -75,6 +75,14 @@ const AFTER_DOMAINS: &str =
       Exit status: 0 the names are written, perhaps none, 2 the job is refused, 3 out of memory, 4 the job\n\
       can't be read or the names can't be written, 5 a fault of the command line.\n\n\
       Example: aliasplan domains examples/first.job";
+
+/// What stands below the options in the help of `check`.
+const AFTER_CHECK: &str =
+    "The job needs no envelope, and one that is there isn't looked at. The text says how many findings and notes\n\
+      follow, and ends with the line end. A note is no fault: it names a setting that Postfix reads otherwise.\n\n\
+      Exit status: 0 no findings, 1 findings, 2 the job is refused, 3 out of memory, 4 the job can't be read or\n\
+      the text can't be written, 5 a fault of the command line.\n\n\
+      Example: aliasplan check --all examples/first.job";
 
 /// What stands below the options in the help of `gather`.
 const AFTER_GATHER: &str =
@@ -153,6 +161,23 @@ fn domains_command<'a>(alloc: Global) -> Result<Command<'a>, AllocError> {
         .arg(job_file(alloc))
 }
 
+fn check_command<'a>(alloc: Global) -> Result<Command<'a>, AllocError> {
+    let all = Arg::new(alloc, "all")
+        .long("all")
+        .action(ArgAction::SetTrue)
+        .help(
+            "Also follows every alias, as if a message went to all of them: loops, missing names, addresses without a route",
+        );
+    Command::new(alloc, "check")
+        .about("Reads a job and writes what is wrong with its files and tables")
+        .after_help(AFTER_CHECK)
+        .arg(all)?
+        .arg(workers(alloc))?
+        .arg(cut(alloc))?
+        .arg(verbose(alloc))?
+        .arg(job_file(alloc))
+}
+
 /// The files that a job is gathered of, each by the name of its section, and what naming several does.
 const FILES: [(&str, ArgAction, &str); 6] = [
     ("settings", ArgAction::Set, "The settings"),
@@ -198,16 +223,18 @@ fn command<'a>(alloc: Global) -> Result<Command<'a>, AllocError> {
         .subcommand_required(true)
         .arg_required_else_help(false)
         .subcommand(plan_command(alloc)?)?
+        .subcommand(check_command(alloc)?)?
         .subcommand(domains_command(alloc)?)?
         .subcommand(gather_command(alloc)?)
 }
 
-/// The options that the words after `plan` or `domains` say, or their defaults. What is out of range is refused before.
+/// The options that the words after `plan`, `check` or `domains` say, or their defaults. What is out of range is refused before.
 fn options_of(words: &ArgMatches<'_>, form: Form) -> Options
     ensures { AreOptions result }
 {
-    let workers = words.get_one::<usize>("workers").unwrap_or(WORKERS);
-    let cut = words.get_one::<usize>("cut").unwrap_or(CUT);
+    let usual = Options::default();
+    let workers = words.get_one::<usize>("workers").unwrap_or(usual.workers);
+    let cut = words.get_one::<usize>("cut").unwrap_or(usual.cut);
     Options {
         form,
         workers: workers.clamp(1, 64),
@@ -276,6 +303,20 @@ fn domains_of(alloc: Global, words: &ArgMatches<'_>) -> Result<Request, AllocErr
     Ok(Request::Domains(options, path, detail_of(words)))
 }
 
+/// What the words after `check` ask for. There is one form.
+fn check_of(alloc: Global, words: &ArgMatches<'_>) -> Result<Request, AllocError>
+    ensures { IfOk result (λ request. IsRequest request) }
+{
+    let path = job_path_of(alloc, words)?;
+    let options = options_of(words, Form::Plan);
+    let scope = if words.get_flag("all") {
+        Scope::Aliases
+    } else {
+        Scope::Texts
+    };
+    Ok(Request::Check(options, scope, path, detail_of(words)))
+}
+
 /// The paths that the words after `gather` say.
 fn paths_of(alloc: Global, gather: &ArgMatches<'_>) -> Result<Paths, AllocError> {
     Ok(Paths {
@@ -303,6 +344,7 @@ fn request_of(alloc: Global, name: &str, words: &ArgMatches<'_>) -> Request
     let request = match name {
         "plan" => plan_of(alloc, words),
         "domains" => domains_of(alloc, words),
+        "check" => check_of(alloc, words),
         _ => gather_of(alloc, words),
     };
     request.unwrap_or(Request::Fault(RunFault::Memory))

@@ -1,14 +1,14 @@
-//! What `--verbose` says of bad items, behind a plan that has findings.
+//! What `--verbose` says of bad items, behind a plan or a check that has findings.
 use crate::bad_lists::BadLists;
 use relay_aliasfile::{bad_items, item_reason};
-use relay_job::{Job, parse_job};
+use relay_job::{Job, parse_tables};
 use relay_text::logical_lines;
 use std::alloc::{AllocError, Global};
 
 /// Each bad item of a job's alias file and include files and the rule that it breaks, in the order of their findings. Where memory
 /// runs out no more is said.
 pub fn explain_items<R: Eprint + AllocGlobal>(rt: &R, bytes: &[u8]) {
-    let Ok(job) = parse_job(rt.alloc(), bytes) else {
+    let Ok(job) = parse_tables(rt.alloc(), bytes) else {
         return;
     };
     let _ = explain_files(rt, &job);

@@ -1,11 +1,12 @@
-//! What the program does with its command line: `plan` reads a job and writes its plan on standard output, `domains` the names that it
-//! asks for, and `gather` writes a job of files that lie apart.
+//! What the program does with its command line: `plan` reads a job and writes its plan on standard output, `check` what is wrong with
+//! its files and tables, `domains` the names that it asks for, and `gather` writes a job of files that lie apart.
 //!
 //! `read_words` reads the command line into a `Request`, `answer` carries it out and tells the `Status` that the process ends with.
 #![tactic(auto)]
 
 pub mod answering;
 mod bad_lists;
+pub mod check_run;
 pub mod command_line;
 mod explaining;
 mod explaining_items;
@@ -16,5 +17,6 @@ mod standard_input;
 pub mod status;
 
 pub use answering::answer;
+pub use check_run::Scope;
 pub use command_line::{Detail, Output, Request, read_words};
 pub use status::Status;

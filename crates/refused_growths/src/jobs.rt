@@ -3,7 +3,7 @@ use crate::inputs::{are_texts, is_address};
 use crate::teller::{Teller, call};
 use crate::unready::Unready;
 use growth_answers::Answer;
-use relay_job::{Job, RunFault, Settings, parse_job};
+use relay_job::{Job, RunFault, Settings, parse_job, parse_tables};
 use relay_routes::Transport;
 use std::alloc::Global;
 
@@ -170,6 +170,22 @@ fn reads_a_job(alloc: Global) -> Result<Answer, Unready> {
     }
 }
 
+/// Whether these are the first job's settings and mailboxes, for nobody.
+fn are_first_tables(tables: &Job) -> bool {
+    are_settings(&tables.settings)
+        && tables.mailboxes.as_bytes() == b"joe\n".as_slice()
+        && tables.sender.is_none()
+        && tables.recipients.is_empty()
+}
+
+fn reads_tables(alloc: Global) -> Result<Answer, Unready> {
+    match parse_tables(alloc, FIRST_JOB) {
+        Ok(tables) => Ok(Answer::given(are_first_tables(&tables))),
+        Err(RunFault::Memory) => Ok(Answer::Refused),
+        Err(_) => Ok(Answer::Wrong),
+    }
+}
+
 fn has_lists(job: &Job) -> bool {
     match job.includes.as_slice() {
         [include] => {
@@ -193,4 +209,5 @@ pub(crate) fn tell<R: Print + AllocGlobal>(teller: &mut Teller<'_, R>) {
     let alloc = teller.rt.alloc();
     call!(teller, "parse_job", reads_a_job(alloc));
     call!(teller, "parse_job, lists", reads_a_job_of_lists(alloc));
+    call!(teller, "parse_tables", reads_tables(alloc));
 }

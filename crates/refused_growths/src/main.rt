@@ -7,7 +7,10 @@
 
 mod alias_files;
 mod chains;
+mod checks;
 mod claims;
+mod deliveries;
+mod destinations;
 mod devices;
 mod gathering;
 mod inputs;
@@ -17,6 +20,7 @@ mod pairs;
 mod planning;
 mod rings;
 mod rounds;
+mod route_finders;
 mod routes;
 mod running;
 mod tables;
@@ -43,10 +47,14 @@ fn tell_all<R: Print + AllocGlobal + Threads + Sync>(teller: &mut Teller<'_, R>)
     pairs::tell(teller);
     loops::tell(teller);
     routes::tell(teller);
+    route_finders::tell(teller);
+    destinations::tell(teller);
+    deliveries::tell(teller);
     wire::tell(teller);
     jobs::tell(teller);
     gathering::tell(teller);
     planning::tell(teller);
+    checks::tell(teller);
     running::tell(teller);
 }
 

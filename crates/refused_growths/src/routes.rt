@@ -159,7 +159,7 @@ fn routed(alloc: Global) -> Result<Result<Router, AllocError>, Unready> {
     Ok(Router::new(alloc, settings, transports, exchanges))
 }
 
-fn router(alloc: Global) -> Result<Router, Unready> {
+pub(crate) fn router(alloc: Global) -> Result<Router, Unready> {
     let router = routed(alloc)??;
     Ok(router)
 }
@@ -191,7 +191,7 @@ fn leads_to_gateway(route: &Result<Route, Unrouted>) -> Answer {
     )
 }
 
-fn leads_to_hub(route: &Result<Route, Unrouted>) -> Answer {
+pub(crate) fn leads_to_hub(route: &Result<Route, Unrouted>) -> Answer {
     leads(
         route,
         Transport::Relay,
@@ -235,10 +235,15 @@ fn routes_to_a_nexthop(alloc: Global) -> Result<Seen, Unready> {
     }))
 }
 
+/// How mailboxes are reached: by LMTP at a socket.
+pub(crate) fn mailbox_transport(alloc: Global) -> Result<Via, Unready> {
+    Via::parse(alloc, b"lmtp:unix:mbox")?.ok_or(Unready::Wrong)
+}
+
 fn routes_a_mailbox(alloc: Global) -> Result<Seen, Unready> {
     let router = router(alloc)?;
     let address = address(alloc, b"joe")?;
-    let via = Via::parse(alloc, b"lmtp:unix:mbox")?.ok_or(Unready::Wrong)?;
+    let via = mailbox_transport(alloc)?;
     Ok(twice!({ leads_to_socket(&router.route_via(alloc, &via, &address)) }))
 }
 
@@ -273,7 +278,7 @@ fn finds_a_destination(alloc: Global) -> Result<Seen, Unready> {
 fn finds_a_mailboxs_destination(alloc: Global) -> Result<Seen, Unready> {
     let router = router(alloc)?;
     let address = address(alloc, b"joe")?;
-    let via = Via::parse(alloc, b"lmtp:unix:mbox")?.ok_or(Unready::Wrong)?;
+    let via = mailbox_transport(alloc)?;
     Ok(twice!({
         let found = router.destination_via(alloc, &via, &address);
         is_destination(&found, Transport::Lmtp, b"unix:mbox")

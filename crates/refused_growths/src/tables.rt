@@ -118,6 +118,26 @@ fn gives_an_owners_address(alloc: Global) -> Result<Seen, Unready> {
     )
 }
 
+/// Whether these are the aliases of the long file, at the origin.
+fn are_aliases(addresses: &[Address]) -> bool {
+    match addresses {
+        [outer, inner, owner] => {
+            is_address(outer, b"outer", b"example.org")
+                && is_address(inner, b"inner-alias-with-a-long-name", b"example.org")
+                && is_address(owner, b"owner-inner-alias-with-a-long-name", b"example.org")
+        }
+        _ => false,
+    }
+}
+
+fn lists_aliases(alloc: Global) -> Result<Seen, Unready> {
+    let tables = tables(alloc, false, LONG_OWNED)?;
+    Ok(twice!(match tables.alias_addresses(alloc) {
+        Ok(addresses) => Answer::given(are_aliases(&addresses)),
+        Err(_) => Answer::Refused,
+    }))
+}
+
 fn is_remote(node: &Node, local: &[u8]) -> bool {
     matches!(node, Node::Remote(address) if is_address(address, local, b"example.net"))
 }
@@ -191,6 +211,7 @@ pub(crate) fn tell<R: Print + AllocGlobal>(teller: &mut Teller<'_, R>) {
         "Tables::owner_sender, expanded",
         gives_an_owners_address(alloc)
     );
+    case!(teller, "Tables::alias_addresses", lists_aliases(alloc));
     case!(teller, "Graph::build", builds_a_graph(alloc));
     case!(
         teller,

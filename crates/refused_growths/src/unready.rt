@@ -64,6 +64,15 @@ impl From<RunFault> for Unready {
     }
 }
 
+impl From<Unrouted> for Unready {
+    fn from(reason: Unrouted) -> Unready {
+        match reason {
+            Unrouted::Memory => Unready::NoMemory,
+            _ => Unready::Wrong,
+        }
+    }
+}
+
 /// How a case went of which the first call was refused, after the same call with inputs of its own.
 pub(crate) fn made_anew(second: Result<Answer, Unready>) -> Result<Seen, Unready> {
     match second {

@@ -7,8 +7,8 @@ use growth_answers::{Answer, Seen};
 use relay_routes::{Hosts, Transport};
 use relay_text::{Address, Seq, Text};
 use relay_wire::{
-    Finding, Greeting, Place, Plan, Planned, Script, finding_line, is_hostname, plan_text,
-    read_script, script, wire_text,
+    Finding, Greeting, Place, Plan, Planned, Script, check_text, finding_line, is_hostname,
+    plan_text, read_script, script, wire_text,
 };
 use std::alloc::{AllocError, Global};
 
@@ -90,6 +90,17 @@ fn writes_a_finding(alloc: Global) -> Result<Seen, Unready> {
     }))
 }
 
+fn writes_a_check(alloc: Global) -> Result<Seen, Unready> {
+    let finding = [Text::copy_of(alloc, b"finding aliases line 1 badline")?];
+    let note = [Text::copy_of(alloc, b"note something")?];
+    Ok(twice!({
+        is_written(
+            check_text(alloc, &finding, &note),
+            b"check 1 findings 1 notes\nfinding aliases line 1 badline\nnote something\nend\n",
+        )
+    }))
+}
+
 fn writes_a_script(alloc: Global) -> Result<Seen, Unready> {
     let planned = planned(alloc)?;
     if !is_hostname(HOSTNAME) {
@@ -128,6 +139,7 @@ pub(crate) fn tell<R: Print + AllocGlobal>(teller: &mut Teller<'_, R>) {
     case!(teller, "plan_text", writes_a_plan(alloc));
     case!(teller, "wire_text", writes_commands(alloc));
     case!(teller, "finding_line", writes_a_finding(alloc));
+    case!(teller, "check_text", writes_a_check(alloc));
     case!(teller, "script", writes_a_script(alloc));
     call!(teller, "read_script", reads_a_script(alloc));
 }

@@ -8,8 +8,12 @@ use Rattle.relay_routes.specs.declared.transport.Transport.{Transport}
 use Rattle.relay_job.specs.declared.job.Job.{Job}
 use Rattle.relay_job.specs.declared.settings.Settings.{Settings}
 use Rattle.relay_job.specs.Settings.{limit_of}
-use Rattle.relay_job.specs.JobText.{job_of, settings_part}
+use Rattle.relay_job.specs.JobText.{job_of, job_settings, settings_part}
 use Rattle.relay_job.proofs.JobFacts.{settings_of-origin, settings_of-destinations, settings_of-limit, job-settings}
+
+-- the local domains of a text's settings are folded
+pub all_destinations : (text : List ℕ) → All (λ domain. folded domain ≡ domain) (job_settings text).destinations
+all_destinations text = All-from_recursion (λ (domain : List ℕ). folded domain ≡ domain) _ (settings_of-destinations (settings_part text))
 
 module _ (text : List ℕ) (job : Job) (h : job_of text ≡ Ok job) where
   -- the origin is one
@@ -18,9 +22,7 @@ module _ (text : List ℕ) (job : Job) (h : job_of text ≡ Ok job) where
 
   -- the local domains are folded
   pub text_destinations : All (λ domain. folded domain ≡ domain) job.settings.destinations
-  text_destinations =
-      subst (λ (s : Settings). All (λ domain. folded domain ≡ domain) s.destinations) (sym (job-settings text job h))
-      (All-from_recursion (λ (domain : List ℕ). folded domain ≡ domain) _ (settings_of-destinations (settings_part text)))
+  text_destinations = subst (λ (s : Settings). All (λ domain. folded domain ≡ domain) s.destinations) (sym (job-settings text job h)) (all_destinations text)
 
   -- each limit is at least 1
   pub text_limit : (transport : Transport) → 1 ≤ limit_of job.settings transport

@@ -3,10 +3,12 @@ pub mod EnvelopeFacts
 pub mod HeadingFacts
 pub mod JobFacts
 pub mod ParseFacts
+pub mod TablesFacts
 pub mod PathFacts
 pub mod Rows
 pub mod SectionFacts
 pub mod SettingFacts
 pub mod SizeFacts
 pub mod JobBounds
+pub mod TablesBounds
 pub mod ReasonFacts

@@ -72,12 +72,13 @@ unfolding job_of
 job-fault text fault h = rw h
 
 -- The three faults in their order.
-pub job-broken : (text : List ℕ) (fault : RunFault) → option_map BadJob (bad_job text) ≡ Some fault → job_of text ≡ Err fault
-job-broken text fault h = job-fault text fault (first-some _ _ fault h) where
-  first-some : (o : Option RunFault) (more : List (Option RunFault)) (f : RunFault) → o ≡ Some f → first_of (o ∷ more) ≡ Some f
-  first-some o more f e = rw e
+pub first : (a : Option RunFault) (more : List (Option RunFault)) (f : RunFault) → a ≡ Some f → first_of (a ∷ more) ≡ Some f
+first a more f e = rw e
 
-second : (a b : Option RunFault) (more : List (Option RunFault)) (f : RunFault) → a ≡ None → b ≡ Some f → first_of (a ∷ b ∷ more) ≡ Some f
+pub job-broken : (text : List ℕ) (fault : RunFault) → option_map BadJob (bad_job text) ≡ Some fault → job_of text ≡ Err fault
+job-broken text fault h = job-fault text fault (first _ _ fault h)
+
+pub second : (a b : Option RunFault) (more : List (Option RunFault)) (f : RunFault) → a ≡ None → b ≡ Some f → first_of (a ∷ b ∷ more) ≡ Some f
 second a b more f e g = rw (e, g)
 
 third : (a b c : Option RunFault) (f : RunFault) → a ≡ None → b ≡ None → c ≡ Some f → first_of (a ∷ b ∷ c ∷ []) ≡ Some f

@@ -10,7 +10,7 @@ use Rattle.std.proofs.lemmas.Slice.Eq.{bytes_eq-Decides}
 use Rattle.relay_job.specs.declared.job.Job.{Job}
 use Rattle.relay_job.specs.declared.job.JobInclude.{JobInclude}
 use Rattle.relay_job.specs.declared.fault.RunFault.TheVariants.{BadJob}
-use Rattle.relay_job.specs.JobText.{JobLine, named, include, job_lines, text_of, is_heading, section_of, has_section, breaks_job, bad_job, job_of}
+use Rattle.relay_job.specs.JobText.{JobLine, named, include, job_lines, text_of, is_heading, section_of, has_section, breaks_job, bad_job, sections_of, job_of}
 use Rattle.relay_job.specs.JobText as texts
 use Rattle.relay_job.proofs.SectionFacts.{content_before, include_if, includes_in, includes_of-are, broken_after, breaks-heading, seen-heading}
 use Rattle.relay_job.proofs.ParseFacts.{job-broken}
@@ -84,11 +84,11 @@ unbroken_job text job h = at (bad_job text) refl where
   at None e = refl
   at (Some n) e = let refused : job_of text ≡ Err (BadJob n) = job-broken text (BadJob n) (ap (option_map BadJob) e) in absurd (let no : ⊥ = cc in no)
 
-pub job_includes : (text : List ℕ) (job : Job) → job_of text ≡ Ok job → job.includes ≡ includes_in (job_lines text)
-job_includes text job h = sym (ap (λ (j : Job). j.includes) (job_is-sections text job h)) ∙ includes_of-are text
+-- each path has one include file, where no line breaks the job
+pub sections_paths : (text : List ℕ) → bad_job text ≡ None → AllPairs (λ a b. a.path ≢ b.path) (sections_of text).includes
+sections_paths text unbroken =
+    subst (λ (files : List JobInclude). AllPairs Differ files) (sym (includes_of-are text))
+    (distinct [] (job_lines text) (no_numbers (broken_after [] (job_lines text)) unbroken)).apart
 
--- each path has one include file
 pub job_paths : (text : List ℕ) (job : Job) → job_of text ≡ Ok job → AllPairs (λ a b. a.path ≢ b.path) job.includes
-job_paths text job h =
-    subst (λ (files : List JobInclude). AllPairs Differ files) (sym (job_includes text job h))
-    (distinct [] (job_lines text) (no_numbers (broken_after [] (job_lines text)) (unbroken_job text job h))).apart
+job_paths text job h = subst (λ (j : Job). AllPairs Differ j.includes) (job_is-sections text job h) (sections_paths text (unbroken_job text job h))

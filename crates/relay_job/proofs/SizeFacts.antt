@@ -1,5 +1,5 @@
 -- A job is no larger than its text.
-use Rattle.std.proofs.Common.{◌≡◌, ℕ, ◌+◌, ◌≤◌, Bool, true, false, cond, List, [], ◌∷◌, length, drop, Option, Some, None, Ok, refl, sym, ap, ◌∙◌, subst, arith, codes}
+use Rattle.std.proofs.Common.{◌≡◌, ℕ, ◌+◌, ◌≤◌, Bool, true, false, cond, List, [], ◌∷◌, length, drop, Option, Some, None, Ok, refl, ap, ◌∙◌, subst, arith, codes}
 use Rattle.std.specs.List.{flat_map, cons_option, sum_by, All}
 use Rattle.std.specs.Str.{bytes_eq}
 use Rattle.std.proofs.lemmas.Bool.{and_parts}
@@ -11,14 +11,13 @@ use Rattle.relay_text.specs.Lines.{raw_lines, Cut, cut_before}
 use Rattle.relay_text.proofs.Sizes.{length-trimmed, length-line_text, total, total-raw_lines}
 use Rattle.relay_job.specs.declared.job.Job.{Job}
 use Rattle.relay_job.specs.declared.job.JobInclude.{JobInclude}
-use Rattle.relay_job.specs.JobText.{JobLine, named, include, section_words, include_path, is_include_heading, job_lines, text_of, is_heading, section_of, content_of, Part, section_bytes, job_of}
+use Rattle.relay_job.specs.JobText.{JobLine, named, include, section_words, include_path, is_include_heading, job_lines, text_of, is_heading, section_of, content_of, Part, section_bytes, sections_of, job_of}
 use Rattle.relay_job.specs.JobText as texts
 use Rattle.relay_job.specs.Places.{numbered_from}
 use Rattle.relay_job.specs.JobSizes.{include_size, job_size}
-use Rattle.relay_job.proofs.SectionFacts.{content_before, part_if, or_later, part_in, part_at-is, include_if, includes_in}
+use Rattle.relay_job.proofs.SectionFacts.{content_before, part_if, or_later, part_in, part_at-is, include_if, includes_in, includes_of-are}
 use Rattle.relay_job.proofs.ParseFacts.{bytes_in, section_bytes-is}
 use Rattle.relay_job.proofs.JobFacts.{job_is-sections}
-use Rattle.relay_job.proofs.PathFacts.{job_includes}
 
 -- how many bytes lines have together, and how many stand for themselves
 abbrev lines_size : List JobLine → ℕ
@@ -138,16 +137,26 @@ length-section : (text word : List ℕ) → length (section_bytes text word) ≡
 length-section text word = ap length (section_bytes-is text word ∙ ap bytes_in (part_at-is text (named word)))
 
 -- the bytes that a job keeps of its sections and include files, and the number of these
+pub sections_fit : (text : List ℕ) → job_size (sections_of text) + length (sections_of text).includes ≤ length text
+sections_fit text =
+    let files : files_size (sections_of text).includes ≡ files_size (includes_in (job_lines text)) = ap files_size (includes_of-are text) in
+    omega (
+      arith,
+      length-section text (codes "%aliases"),
+      length-section text (codes "%mailboxes"),
+      length-section text (codes "%transport"),
+      length-section text (codes "%mx"),
+      files,
+      parts_fit (job_lines text),
+      lines_size-job text,
+    )
+
 pub job_fits : (text : List ℕ) (job : Job) → job_of text ≡ Ok job → job_size job + length job.includes ≤ length text
-job_fits text job h =
-    let is = job_is-sections text job h in
-    let aliases : length job.aliases ≡ section_size (codes "%aliases") (job_lines text) = sym (ap (λ (j : Job). length j.aliases) is) ∙ length-section text (codes "%aliases") in
-    let mailboxes : length job.mailboxes ≡ section_size (codes "%mailboxes") (job_lines text) = sym (ap (λ (j : Job). length j.mailboxes) is) ∙ length-section text (codes "%mailboxes") in
-    let transport : length job.transport ≡ section_size (codes "%transport") (job_lines text) = sym (ap (λ (j : Job). length j.transport) is) ∙ length-section text (codes "%transport") in
-    let mx : length job.mx ≡ section_size (codes "%mx") (job_lines text) = sym (ap (λ (j : Job). length j.mx) is) ∙ length-section text (codes "%mx") in
-    let files : files_size job.includes ≡ files_size (includes_in (job_lines text)) = ap files_size (job_includes text job h) in
-    omega (arith, aliases, mailboxes, transport, mx, files, parts_fit (job_lines text), lines_size-job text)
+job_fits text job h = subst (λ (j : Job). job_size j + length j.includes ≤ length text) (job_is-sections text job h) (sections_fit text)
 
 -- the path and the bytes of each include file
+pub sections_includes_fit : (text : List ℕ) → All (λ i. include_size i ≤ length text) (sections_of text).includes
+sections_includes_fit text = λ k d inside. omega (arith, get_or-le-sum_by include_size (sections_of text).includes k d inside, sections_fit text)
+
 pub includes_fit : (text : List ℕ) (job : Job) → job_of text ≡ Ok job → All (λ i. include_size i ≤ length text) job.includes
-includes_fit text job h = λ k d inside. omega (arith, get_or-le-sum_by include_size job.includes k d inside, job_fits text job h)
+includes_fit text job h = subst (λ (j : Job). All (λ i. include_size i ≤ length text) j.includes) (job_is-sections text job h) (sections_includes_fit text)

@@ -1,5 +1,6 @@
 pub mod Settings
 pub mod JobText
+pub mod Tables
 pub mod JobAnswers
 pub mod Places
 pub mod SectionPlaces

@@ -1,6 +1,7 @@
 //! What a job's text says.
 ghost use Rattle.std.specs.Prelude.{◌≡◌};
 ghost use Rattle.relay_job.specs.JobText.{job_of};
+ghost use Rattle.relay_job.specs.Tables.{tables_of};
 ghost use Rattle.relay_job.specs.JobAnswers.{Answers};
 
 use crate::envelope::Envelope;
@@ -10,6 +11,7 @@ use crate::job_files::JobFiles;
 use crate::parts::Parts;
 use crate::section::Section;
 use crate::setting_values::SettingValues;
+use relay_text::Seq;
 use std::alloc::Global;
 
 /// The job that a text is: its settings, the bytes of its mailboxes and tables, and the envelope.
@@ -41,5 +43,29 @@ pub fn parse_job(alloc: Global, bytes: &[u8]) -> Result<Job, RunFault>
         mx: files.mx,
         sender,
         recipients,
+    })
+}
+
+/// The settings, files and tables of a text, as the job of a null sender who writes to nobody. An envelope may stand in the text or
+/// not: it isn't looked at.
+///
+/// BadJob and BadSetting come as from `parse_job`, and BadEnvelope never. Memory comes where a growth was refused.
+pub fn parse_tables(alloc: Global, bytes: &[u8]) -> Result<Job, RunFault>
+    ensures { Answers result (tables_of bytes.now) }
+{
+    let parts = Parts::find(alloc, bytes)?;
+    let sections = parts.sections;
+    let values = SettingValues::read(alloc, sections.section(Section::Settings))?;
+    let settings = values.settings(alloc)?;
+    let tables = JobFiles::read(alloc, &parts)?;
+    Ok(Job {
+        settings,
+        aliases: tables.aliases,
+        includes: tables.includes,
+        mailboxes: tables.mailboxes,
+        transport: tables.transport,
+        mx: tables.mx,
+        sender: None,
+        recipients: Seq::of(Vec::new(alloc)),
     })
 }

@@ -1,5 +1,5 @@
 -- A destination determines the route.
-use Rattle.std.proofs.Common.{◌≡◌, ℕ, List, refl, sym, ap, ◌∙◌, subst}
+use Rattle.std.proofs.Common.{◌≡◌, ℕ, List, false, refl, sym, ap, ◌∙◌, subst}
 use Rattle.std.specs.Prelude.{Option, Some, None, unwrap_or, Result, Ok, Err}
 use Rattle.relay_text.specs.AddressParts.{AddressParts}
 use Rattle.relay_routes.specs.declared.transport.Transport as names
@@ -12,10 +12,13 @@ use Rattle.relay_routes.specs.declared.unrouted.Unrouted.{Unrouted}
 use Rattle.relay_routes.specs.declared.unrouted.Unrouted.TheVariants.{Domain, MxSelf, Transport, Refused, NullMx, Memory}
 use Rattle.relay_routes.specs.Nexthops.{Nexthop, nexthop_of}
 use Rattle.relay_routes.specs.Routing.{Routing}
-use Rattle.relay_routes.specs.Transports.{choice_for}
+use Rattle.relay_routes.specs.declared.transport_line.TransportLine.{TransportLine}
+use Rattle.relay_routes.specs.Transports.{choice_of, choice_for, found_result}
+use Rattle.relay_routes.specs.TableSteps.{domain_keys, has_address}
 use Rattle.relay_routes.specs.Routes.{Answers, Fails, route_to, route_by, route_for, route_of, route_via_of}
 use Rattle.relay_routes.specs.Destinations.{destination_by, destination_to, destination_for, destination_of, destination_via_of, Determines}
 use Rattle.relay_routes.proofs.NexthopFacts.{nexthop_again}
+use Rattle.relay_routes.proofs.KeyFacts.{keys_of_domain}
 use Rattle.relay_routes.proofs.RouteFacts.{route_parts}
 
 -- where nothing is found, for a reason
@@ -63,6 +66,16 @@ of_address r a = by_choice r (choice_for r.transports.entries r.settings.delimit
 
 pub of_mailbox : (r : Routing) (via : settings.Via) (a : AddressParts) → Determines r (destination_via_of via a) (route_via_of r via a)
 of_mailbox r via a = to_nexthop r via.transport (unwrap_or via.nexthop a.domain)
+
+-- Where no pattern is that of an address, the choice and so the destination go by the domain.
+choice_by_domain : (es : List TransportLine) (delimiter : Option ℕ) (a b : AddressParts) → has_address es ≡ false → a.domain ≡ b.domain → choice_for es delimiter a ≡ choice_for es delimiter b
+choice_by_domain es delimiter a b none same =
+    ap choice_of (sym (keys_of_domain es a delimiter none) ∙ ap (λ (d : List ℕ). found_result es (domain_keys d)) same ∙ keys_of_domain es b delimiter none)
+
+pub destination_by_domain : (r : Routing) (a b : AddressParts) → has_address r.transports.entries ≡ false → a.domain ≡ b.domain → destination_of r a ≡ destination_of r b
+destination_by_domain r a b none same =
+    ap (λ (choice : Choice). destination_for r.settings.default_transport choice a.domain) (choice_by_domain r.transports.entries r.settings.delimiter a b none same)
+    ∙ ap (λ (d : List ℕ). destination_for r.settings.default_transport (choice_for r.transports.entries r.settings.delimiter b) d) same
 
 -- ---- calls: where a destination isn't found, and where the route of one is answered
 fails_too : {r : Routing} {found : Result Destination Unrouted} {route : Result Route Unrouted} (reason : Unrouted) → Determines r found route → Fails reason found → Fails reason route

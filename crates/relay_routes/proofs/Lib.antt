@@ -18,3 +18,4 @@ pub mod PatternFacts
 pub mod TableFacts
 pub mod KeyFacts
 pub mod Rows
+pub mod FinderFacts

@@ -15,7 +15,7 @@ use Rattle.relay_routes.specs.Exchanges.{domain_of}
 use Rattle.relay_routes.specs.MxRecords.{is_of, places_from, places_at, AreNumbered, ArePlaces, IsIndex}
 
 -- a domain that has a number stands there
-domain_there : (ds : List (List ℕ)) (d : List ℕ) (n : ℕ) → number_of bytes_eq ds d ≡ Some n → (n < length ds) × (d ≡ get_or ds n [])
+pub domain_there : (ds : List (List ℕ)) (d : List ℕ) (n : ℕ) → number_of bytes_eq ds d ≡ Some n → (n < length ds) × (d ≡ get_or ds n [])
 domain_there ds d n h = let at = position-Some (bytes_eq d) ds n [] h in (at.0, (bytes_eq-Decides d (get_or ds n [])).0 at.1)
 
 pub number_below : (ds : List (List ℕ)) (d : List ℕ) (n : ℕ) → number_of bytes_eq ds d ≡ Some n → n < length ds

@@ -14,9 +14,13 @@ use Rattle.relay_routes.specs.Nexthops.{Nexthop, nexthop_of}
 use Rattle.relay_routes.specs.Exchanges.{hosts_of}
 use Rattle.relay_routes.specs.Routing.{Routing}
 
+-- the mail exchangers of a domain
+abbrev pub exchangers_of : Routing → List ℕ → Result (List (List ℕ)) Unrouted
+exchangers_of r domain = hosts_of r.exchanges domain r.settings.own_names r.settings.seed
+
 -- a nexthop's hosts without their ports: its mail exchangers where they are looked up, else the one host
 abbrev pub nexthop_hosts : Routing → Nexthop → Result (List (List ℕ)) Unrouted
-nexthop_hosts r n = if n.looks_up then hosts_of r.exchanges n.host r.settings.own_names r.settings.seed else Ok (n.host ∷ [])
+nexthop_hosts r n = if n.looks_up then exchangers_of r n.host else Ok (n.host ∷ [])
 
 -- the route by a transport and a nexthop, whose port follows each host
 abbrev pub route_with : names.Transport → Nexthop → List (List ℕ) → Route

@@ -35,11 +35,11 @@ impl Model for Router {
     ghost invariant = { λ a. (q : List ℕ) → has_text a.own_names q ≡ has_text a.settings.own_names q };
 }
 
-ghost use Rattle.std.specs.Prelude.{◌≡◌, Some, IfOk};
-ghost use Rattle.relay_text.specs.Bytes.{folded};
+ghost use Rattle.std.specs.Prelude.{◌≡◌, Some, not, IsTrue, IfOk};
+ghost use Rattle.relay_text.specs.AddressParts.{AddressParts};
 ghost use Rattle.relay_routes.specs.Forms.{hosted};
-ghost use Rattle.relay_routes.specs.Exchanges.{hosts_of};
-ghost use Rattle.relay_routes.specs.Routes.{Answers, route_by, route_to, route_of, route_via_of};
+ghost use Rattle.relay_routes.specs.Routes.{Answers, exchangers_of, route_by, route_to, route_of, route_via_of};
+ghost use Rattle.relay_routes.specs.TableSteps.{has_address};
 ghost use Rattle.relay_routes.specs.Destinations.{destination_of, destination_via_of};
 
 impl Router {
@@ -84,6 +84,15 @@ impl Router {
             Choice::Refused(text) => Err(Unrouted::Refused(text)),
             Choice::Unknown => Err(Unrouted::Transport),
         }
+    }
+
+    /// Whether all addresses of a domain have one destination: no pattern of the transport table is that of an address (transport(5),
+    /// "TABLE FORMAT"). Callers may then keep what they found for a domain.
+    pub fn goes_by_domain(&self) -> bool
+        ensures patterns { result ≡ not (has_address self.now.transports.entries) }
+        ensures by_domain { IsTrue result → (a b : AddressParts) → a.domain ≡ b.domain → destination_of self.now a ≡ destination_of self.now b }
+    {
+        !self.transports.has_addresses()
     }
 
     /// Where a mailbox goes, by its setting: to the nexthop that it names, else to the address's domain (transport(5)). The table
@@ -157,21 +166,17 @@ impl Router {
             let route = route_to_host(alloc, transport, form)?;
             return Ok(route);
         }
-        let exchangers = self.exchangers(alloc, form)?;
+        let domain = Text::folded_copy_of(alloc, form.host)?;
+        let exchangers = self.exchangers(alloc, domain.as_bytes())?;
         let route = route_to_exchangers(alloc, transport, form, exchangers)?;
         Ok(route)
     }
 
-    /// The mail exchangers of a host.
-    fn exchangers(&self, alloc: Global, form: &HostForm) -> Result<Hosts, Unrouted>
-        ensures { Answers result (hosts_of self.now.exchanges (folded form.now.host.now) self.now.settings.own_names self.now.settings.seed) }
+    /// The mail exchangers of a domain, which is given in lower case.
+    pub(crate) fn exchangers(&self, alloc: Global, domain: &[u8]) -> Result<Hosts, Unrouted>
+        ensures { Answers result (exchangers_of self.now domain.now) }
     {
-        let domain = Text::folded_copy_of(alloc, form.host)?;
-        self.exchanges.hosts_beside(
-            alloc,
-            domain.as_bytes(),
-            &self.own_names,
-            self.settings.seed,
-        )
+        self.exchanges
+            .hosts_beside(alloc, domain, &self.own_names, self.settings.seed)
     }
 }

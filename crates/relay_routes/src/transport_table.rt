@@ -29,7 +29,7 @@ impl Model for TransportTable {
 ghost use Rattle.std.specs.Prelude.{◌≡◌, ◌∷◌, [], ◌++◌, codes, map, Some, option_map, IfOk, OnOk};
 ghost use Rattle.relay_routes.specs.declared.fault.FaultKind.TheVariants.{BadLine};
 ghost use Rattle.relay_routes.specs.Transports.{transport_table_of, choice_for, found_result, keys_of, parent_keys, result_at, line_of, fault};
-ghost use Rattle.relay_routes.specs.TableSteps.{with_line, domain_keys, later_keys};
+ghost use Rattle.relay_routes.specs.TableSteps.{with_line, domain_keys, has_address, later_keys};
 
 use crate::choice::Choice;
 use crate::fault::FaultKind;
@@ -59,6 +59,13 @@ impl TransportTable {
         ensures { result.now ≡ self.now.faults }
     {
         self.faults.as_slice()
+    }
+
+    /// Whether a pattern has an `@`, as that of an address has.
+    pub(crate) fn has_addresses(&self) -> bool
+        ensures { result ≡ has_address self.now.entries }
+    {
+        self.has_addresses
     }
 
     /// What the table says of an address (transport(5), "TABLE SEARCH ORDER"): the result of the whole address, of the address without

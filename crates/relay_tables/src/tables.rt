@@ -41,7 +41,7 @@ impl Model for Tables {
     ghost invariant = { λ a. AreTables (record { local = a.local; aliases = a.aliases; includes = a.includes; mailboxes = a.mailboxes }) a.key a.domains a.alias_links a.include_links a.mailbox_links a.owners.items };
 }
 
-ghost use Rattle.std.specs.Prelude.{◌≡◌, ◌≢◌, ◌<◌, ◌-◌, ◌^◌, ◌||◌, [], ◌∷◌, length, Some, option_map, option_and_then, option_to_list, IsTrue, IsSome, IfOk, IfSome, All, AllPairs};
+ghost use Rattle.std.specs.Prelude.{◌≡◌, ◌≢◌, ◌<◌, ◌-◌, ◌^◌, ◌||◌, [], ◌∷◌, length, map, Some, option_map, option_and_then, option_to_list, IsTrue, IsSome, IfOk, IfSome, All, AllPairs};
 ghost use Rattle.std.specs.List.{list_all, list_any};
 ghost use Rattle.relay_text.specs.Bytes.{folded, first_of};
 ghost use Rattle.relay_text.specs.Addresses.{is_origin};
@@ -154,6 +154,17 @@ impl Tables {
         ensures lawful { IsLawful self.now }
     {
         self.aliases.as_slice()
+    }
+
+    /// The address of each entry's name at the origin, in the order of the entries. `Err` where memory runs out.
+    pub fn alias_addresses(&self, alloc: Global) -> Result<Vec<Address>, AllocError>
+        ensures { IfOk result (λ addresses. addresses.items ≡ map (λ entry. at_origin self.now entry.name) self.now.aliases) }
+    {
+        let mut addresses = Vec::with_capacity(alloc, self.aliases.len())?;
+        for entry in self.aliases() {
+            addresses.push(self.at_origin(alloc, entry.name.as_bytes())?)?;
+        }
+        Ok(addresses)
     }
 
     /// The include files, by their numbers.

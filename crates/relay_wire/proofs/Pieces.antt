@@ -55,6 +55,18 @@ counts_are out x y z =
     ∙ append_assoc out (codes "plan") first
     ∙ ap (λ l. out ++ l) (counts_joined x y z)
 
+check_joined : (x y : List ℕ) → codes "check" ++ (32 ∷ (x ++ (32 ∷ (codes "findings" ++ (32 ∷ (y ++ (32 ∷ (codes "notes" ++ 10 ∷ [])))))))) ≡ line (spaced (codes "check" ∷ x ∷ codes "findings" ∷ y ∷ codes "notes" ∷ []))
+check_joined x y = simp append_assoc
+
+pub check_counts_are : (out x y : List ℕ) → (((out ++ codes "check") ++ after_spaces (x ∷ codes "findings" ∷ [])) ++ after_spaces (y ∷ codes "notes" ∷ [])) ++ 10 ∷ [] ≡ out ++ line (spaced (codes "check" ∷ x ∷ codes "findings" ∷ y ∷ codes "notes" ∷ []))
+check_counts_are out x y =
+    let second : List ℕ = 32 ∷ (y ++ (32 ∷ (codes "notes" ++ 10 ∷ []))) in
+    let first : List ℕ = 32 ∷ (x ++ (32 ∷ (codes "findings" ++ second))) in
+    pair_more ((out ++ codes "check") ++ after_spaces (x ∷ codes "findings" ∷ [])) y (codes "notes") (10 ∷ [])
+    ∙ pair_more (out ++ codes "check") x (codes "findings") second
+    ∙ append_assoc out (codes "check") first
+    ∙ ap (λ l. out ++ l) (check_joined x y)
+
 ends_here : (out a b rest : List ℕ) → (out ++ (a ++ (b ++ []))) ++ rest ≡ out ++ (a ++ (b ++ rest))
 ends_here out a b rest = simp (append-nil, append_assoc)
 

@@ -4,3 +4,4 @@ pub mod PlanText
 pub mod Lengths
 pub mod FrontedLines
 pub mod FindingLines
+pub mod CheckText

@@ -1,6 +1,7 @@
 //! The texts of a plan, and the commands of its transactions.
 #![tactic(auto)]
 
+mod check;
 pub mod commands;
 pub mod finding;
 mod finding_lines;
@@ -14,6 +15,7 @@ pub mod wire;
 mod words;
 mod writing;
 
+pub use check::check_text;
 pub use commands::{Greeting, Script};
 pub use finding::{Finding, LineWord, Place, Reason, finding_line};
 pub use finding_lines::FindingLines;

@@ -47,7 +47,7 @@ pub(crate) fn recipient_count(plan: &Plan) -> Option<usize>
 }
 
 // Puts a number at the end, and what it counts.
-fn put_count(number: usize, counted: &[u8], out: &mut Vec<u8>) -> Result<(), AllocError>
+pub(crate) fn put_count(number: usize, counted: &[u8], out: &mut Vec<u8>) -> Result<(), AllocError>
     ensures { OnOk result (out.new.items ≡ out.old.items ++ after_spaces (decimal number ∷ counted.now ∷ [])) }
 {
     put_number(number, out)?;

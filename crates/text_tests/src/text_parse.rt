@@ -104,101 +104,142 @@ fn finds_the_first_fault(rt: HostRuntime) {
 }
 
 #[test]
+fn reads_the_longest_local_part(rt: HostRuntime) -> Result<(), Fail> {
+    let local = long_text(rt.alloc(), b"", 60, b"..")?;
+    let text = long_text(rt.alloc(), b"", 60, b"..@x")?;
+    reads(&rt, rt.alloc(), &text, &local, b"x")?;
+    Ok(())
+}
+
+#[test]
+fn reads_the_longest_domain(rt: HostRuntime) -> Result<(), Fail> {
+    let domain = long_text(rt.alloc(), b"", 252, b"")?;
+    let text = long_text(rt.alloc(), b"a@", 252, b"")?;
+    reads(&rt, rt.alloc(), &text, b"a", &domain)?;
+    Ok(())
+}
+
+const LIMITS: [(&[u8], usize, &[u8], Option<TextFault>); 5] = [
+    (b"", 61, b"..@x", Some(TextFault::TooLong)),
+    (b"", 64, b"@x", None),
+    (b"", 65, b"@x", Some(TextFault::TooLong)),
+    (b"a@", 253, b"", Some(TextFault::TooLong)),
+    (b"", 1000, b"@a..b", Some(TextFault::BadDomain)),
+];
+
+#[test]
 fn keeps_the_limits(rt: HostRuntime) -> Result<(), Fail> {
-    let alloc = rt.alloc();
-    let longest_local = long_text(alloc, b"", 60, b"..")?;
-    let text = long_text(alloc, b"", 60, b"..@x")?;
-    reads(&rt, alloc, &text, &longest_local, b"x")?;
-    let longest_domain = long_text(alloc, b"", 252, b"")?;
-    let text = long_text(alloc, b"a@", 252, b"")?;
-    reads(&rt, alloc, &text, b"a", &longest_domain)?;
-    for (front, letters, end, fault) in [
-        (
-            b"".as_slice(),
-            61,
-            b"..@x".as_slice(),
-            Some(TextFault::TooLong),
-        ),
-        (b"", 64, b"@x", None),
-        (b"", 65, b"@x", Some(TextFault::TooLong)),
-        (b"a@", 253, b"", Some(TextFault::TooLong)),
-        (b"", 1000, b"@a..b", Some(TextFault::BadDomain)),
-    ] {
-        let text = long_text(alloc, front, letters, end)?;
-        assert_eq!(rt; fault_of(alloc, &text), fault, "{letters} letters");
+    for (front, letters, end, fault) in LIMITS {
+        let text = long_text(rt.alloc(), front, letters, end)?;
+        assert_eq!(rt; fault_of(rt.alloc(), &text), fault, "{letters} letters");
     }
     Ok(())
 }
 
 #[test]
 fn spells_paths(rt: HostRuntime) -> Result<(), Fail> {
-    let alloc = rt.alloc();
-    assert!(rt; path(alloc, b"<>")?.is_none());
-    let postmaster = path(alloc, b"<Postmaster>")?.ok_or("an address")?;
-    assert_eq!(rt; postmaster.local(), b"Postmaster".as_slice());
-    assert_eq!(rt; postmaster.domain(), b"example.org".as_slice());
-    for (text, fault) in [
-        (b"".as_slice(), TextFault::Empty),
-        (b"x", TextFault::BadByte),
-        (b"<x", TextFault::BadByte),
-        (b"<", TextFault::BadByte),
-        (b"<a@>", TextFault::BadDomain),
-    ] {
-        assert_eq!(rt; path_fault_of(alloc, text), Some(fault), "{text:?}");
+    assert!(rt; path(rt.alloc(), b"<>")?.is_none());
+    let postmaster = path(rt.alloc(), b"<Postmaster>")?.ok_or("an address")?;
+    assert!(rt; postmaster.local() == b"Postmaster".as_slice());
+    assert!(rt; postmaster.domain() == b"example.org".as_slice());
+    Ok(())
+}
+
+const PATH_FAULTS: [(&[u8], TextFault); 5] = [
+    (b"", TextFault::Empty),
+    (b"x", TextFault::BadByte),
+    (b"<x", TextFault::BadByte),
+    (b"<", TextFault::BadByte),
+    (b"<a@>", TextFault::BadDomain),
+];
+
+#[test]
+fn tells_faults_of_paths(rt: HostRuntime) {
+    for (text, fault) in PATH_FAULTS {
+        assert_eq!(rt; path_fault_of(rt.alloc(), text), Some(fault), "{text:?}");
     }
+}
+
+fn spells_name<R: Abort>(rt: &R, alloc: Global, text: &[u8], name: &[u8]) -> Result<(), TextFault> {
+    assert_eq!(rt; parse_name(alloc, text)?.as_bytes(), name);
     Ok(())
 }
 
 #[test]
 fn spells_names(rt: HostRuntime) -> Result<(), Fail> {
-    let alloc = rt.alloc();
-    let plain = parse_name(alloc, b"Joe.x")?;
-    assert_eq!(rt; plain.as_bytes(), b"Joe.x".as_slice());
-    let quoted = parse_name(alloc, b"\"a @\\\\b\"")?;
-    assert_eq!(rt; quoted.as_bytes(), b"a @\\b".as_slice());
-    for (text, fault) in [
-        (b"a@b".as_slice(), TextFault::BadDomain),
-        (b"a@", TextFault::BadDomain),
-        (b"\"\"", TextFault::Empty),
-        (b"a:b@c", TextFault::BadByte),
-        (b"\"a\"b@c", TextFault::BadQuote),
-    ] {
-        assert_eq!(rt; name_fault_of(alloc, text), Some(fault), "{text:?}");
+    spells_name(&rt, rt.alloc(), b"Joe.x", b"Joe.x")?;
+    spells_name(&rt, rt.alloc(), b"\"a @\\\\b\"", b"a @\\b")?;
+    Ok(())
+}
+
+const NAME_FAULTS: [(&[u8], TextFault); 5] = [
+    (b"a@b", TextFault::BadDomain),
+    (b"a@", TextFault::BadDomain),
+    (b"\"\"", TextFault::Empty),
+    (b"a:b@c", TextFault::BadByte),
+    (b"\"a\"b@c", TextFault::BadQuote),
+];
+
+#[test]
+fn tells_faults_of_names(rt: HostRuntime) {
+    for (text, fault) in NAME_FAULTS {
+        assert_eq!(rt; name_fault_of(rt.alloc(), text), Some(fault), "{text:?}");
     }
-    for (letters, end, fault) in [
-        (63, b"\"".as_slice(), None),
-        (62, b" \"", Some(TextFault::TooLong)),
-    ] {
-        let text = long_text(alloc, b"\"", letters, end)?;
-        assert_eq!(rt; name_fault_of(alloc, &text), fault, "{letters} letters");
+}
+
+const NAME_LIMITS: [(usize, &[u8], Option<TextFault>); 2] = [
+    (63, b"\"", None),
+    (62, b" \"", Some(TextFault::TooLong)),
+];
+
+#[test]
+fn keeps_the_limits_of_names(rt: HostRuntime) -> Result<(), Fail> {
+    for (letters, end, fault) in NAME_LIMITS {
+        let text = long_text(rt.alloc(), b"\"", letters, end)?;
+        assert_eq!(rt;
+            name_fault_of(rt.alloc(), &text),
+            fault,
+            "{letters} letters"
+        );
     }
     Ok(())
 }
 
+const WHOLE_STRINGS: [(&str, &str); 4] = [
+    ("\"\"", ""),
+    ("\"|p -x, y\"", "|p -x, y"),
+    ("\"a\\\"b\\\\\"", "a\"b\\"),
+    ("\"\\a\t\"", "a\t"),
+];
+
 #[test]
 fn reads_the_content_of_a_whole_string(rt: HostRuntime) -> Result<(), Fail> {
-    let alloc = rt.alloc();
-    for (text, content) in [
-        ("\"\"", ""),
-        ("\"|p -x, y\"", "|p -x, y"),
-        ("\"a\\\"b\\\\\"", "a\"b\\"),
-        ("\"\\a\t\"", "a\t"),
-    ] {
-        let found = quoted_content(alloc, text.as_bytes())?.ok_or("a content")?;
+    for (text, content) in WHOLE_STRINGS {
+        let found = quoted_content(rt.alloc(), text.as_bytes())?.ok_or("a content")?;
         assert_eq!(rt; found.as_bytes(), content.as_bytes(), "{text}");
     }
-    for text in [
-        "",
-        "a",
-        "\"",
-        "\"a",
-        "\"a\\\"",
-        "\"a\"b",
-        "\"a\" ",
-        " \"a\"",
-        "\"a\"\"b\"",
-    ] {
-        assert!(rt; quoted_content(alloc, text.as_bytes())?.is_none(), "{text}");
+    Ok(())
+}
+
+const NO_WHOLE_STRINGS: [&str; 9] = [
+    "",
+    "a",
+    "\"",
+    "\"a",
+    "\"a\\\"",
+    "\"a\"b",
+    "\"a\" ",
+    " \"a\"",
+    "\"a\"\"b\"",
+];
+
+#[test]
+fn reads_no_content_of_other_texts(rt: HostRuntime) -> Result<(), Fail> {
+    for text in NO_WHOLE_STRINGS {
+        assert!(rt;
+            quoted_content(rt.alloc(), text.as_bytes())?.is_none(),
+            "{text}"
+        );
     }
     Ok(())
 }

@@ -1,6 +1,6 @@
 //! Decimal numbers, sets of texts and kept lines, from outside.
 use relay_text::{KeptLines, Text, TextSet, number_within};
-use std::alloc::Global;
+use std::alloc::{AllocError, Global};
 use std::process::Abort;
 use std::test::Fail;
 
@@ -51,36 +51,45 @@ fn has<R: Abort>(rt: &R, set: &TextSet, texts: &[(&str, bool)]) {
     }
 }
 
-#[test]
-fn keeps_each_text_once_in_order(rt: HostRuntime) -> Result<(), Fail> {
-    let alloc = rt.alloc();
+const INSERTED: [(&str, bool); 7] = [
+    ("b", true),
+    ("a", true),
+    ("ab", true),
+    ("b", false),
+    ("", true),
+    ("B", true),
+    ("\u{ff}", true),
+];
+
+// A set of these texts, each of which is new or not, as it says.
+fn inserted<R: Abort>(rt: &R, alloc: Global) -> Result<TextSet, AllocError> {
     let mut set = TextSet::new(alloc);
-    for (text, is_new) in [
-        ("b", true),
-        ("a", true),
-        ("ab", true),
-        ("b", false),
-        ("", true),
-        ("B", true),
-        ("\u{ff}", true),
-    ] {
+    for (text, is_new) in INSERTED {
         let answer = set.insert(Vec::from_slice(alloc, text.as_bytes())?)?;
         assert_eq!(rt; answer, is_new, "{text:?}");
     }
-    has(
-        &rt,
-        &set,
-        &[
-            ("a", true),
-            ("ab", true),
-            ("", true),
-            ("b", true),
-            ("B", true),
-            ("A", false),
-            ("abc", false),
-        ],
-    );
-    let texts = set.into_seq(alloc)?;
+    Ok(set)
+}
+
+#[test]
+fn keeps_each_text(rt: HostRuntime) -> Result<(), Fail> {
+    let set = inserted(&rt, rt.alloc())?;
+    let wanted = [
+        ("a", true),
+        ("ab", true),
+        ("", true),
+        ("b", true),
+        ("B", true),
+        ("A", false),
+        ("abc", false),
+    ];
+    has(&rt, &set, &wanted);
+    Ok(())
+}
+
+#[test]
+fn gives_each_text_once_in_order(rt: HostRuntime) -> Result<(), Fail> {
+    let texts = inserted(&rt, rt.alloc())?.into_seq(rt.alloc())?;
     assert_eq!(rt; texts.len(), 6);
     for (text, wanted) in texts
         .as_slice()

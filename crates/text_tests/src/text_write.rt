@@ -29,22 +29,31 @@ fn writes_local_parts(rt: HostRuntime) -> Result<(), Fail> {
     Ok(())
 }
 
+// Writes the path of the address that a text spells.
+fn write_spelled(alloc: Global, text: &[u8], out: &mut Vec<u8>) -> Result<(), Fail> {
+    let address = address(alloc, text)?;
+    write_path(Some(&address), out)?;
+    Ok(())
+}
+
 #[test]
 fn writes_paths(rt: HostRuntime) -> Result<(), Fail> {
     let mut out = Vec::new(rt.alloc());
-    let quote = address(rt.alloc(), b"\"a\\\"b\"@X.net")?;
-    write_path(Some(&quote), &mut out)?;
-    let dots = address(rt.alloc(), b"a..b@x")?;
-    write_path(Some(&dots), &mut out)?;
+    write_spelled(rt.alloc(), b"\"a\\\"b\"@X.net", &mut out)?;
+    write_spelled(rt.alloc(), b"a..b@x", &mut out)?;
     write_path(None, &mut out)?;
-    let bare = address(rt.alloc(), b"Postmaster")?;
-    write_path(Some(&bare), &mut out)?;
+    write_spelled(rt.alloc(), b"Postmaster", &mut out)?;
     assert_eq!(rt;
         out.as_slice(),
         b"<\"a\\\"b\"@x.net><\"a..b\"@x><><Postmaster@example.org>".as_slice()
     );
-    assert_eq!(rt; path_len(Some(&quote)), 14);
-    assert_eq!(rt; path_len(None), 2);
+    Ok(())
+}
+
+#[test]
+fn tells_the_lengths_of_paths(rt: HostRuntime) -> Result<(), Fail> {
+    let quoted = address(rt.alloc(), b"\"a\\\"b\"@X.net")?;
+    assert_eq!(rt; (path_len(Some(&quoted)), path_len(None)), (14, 2));
     Ok(())
 }
 

@@ -1,5 +1,6 @@
 //! Worked examples of the lines of findings.
 use crate::wire_values::{address, text};
+use relay_text::Text;
 use relay_wire::{Finding, LineWord, Place, Reason, finding_line};
 use std::alloc::{AllocError, Global};
 use std::process::Abort;
@@ -13,13 +14,19 @@ fn include(alloc: Global, path: &[u8]) -> Result<Place, AllocError> {
     Ok(Place::Include(text(alloc, path)?))
 }
 
+/// The line of a finding that is dropped before the line is compared.
+fn line_of(alloc: Global, finding: Finding) -> Result<Text, AllocError> {
+    finding_line(alloc, &finding)
+}
+
 fn expect_line<R: Abort>(
     rt: &R,
     alloc: Global,
     finding: Finding,
     line: &[u8],
 ) -> Result<(), AllocError> {
-    assert_eq!(rt; finding_line(alloc, &finding)?.as_bytes(), line);
+    let written = line_of(alloc, finding)?;
+    assert_eq!(rt; written.as_bytes(), line);
     Ok(())
 }
 

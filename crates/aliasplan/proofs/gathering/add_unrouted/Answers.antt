@@ -1,28 +1,19 @@
-use Rattle.std.proofs.Common.{◌≡◌, sym, ap, ◌∙◌}
-use Rattle.std.specs.Prelude.{Some, None}
+use Rattle.std.proofs.Common.{sym, ap, ◌∙◌}
 use Rattle.std.specs.Str.{bytes_eq}
 use Rattle.std.proofs.lemmas.Result.{on_ok_weaker}
 use Rattle.relay_text.specs.Bytes.{has_text}
 use Rattle.relay_wire.specs.declared.finding.Finding.TheVariants.{Unrouted}
 use Rattle.relay_wire.specs.Findings.{finding_text_of}
-use Rattle.relay_wire.specs.declared.finding.Reason.{Reason}
 use Rattle.aliasplan.specs.Findings.{ReportsWhere}
 use Rattle.aliasplan.specs.Report.{reason_of}
 use Rattle.aliasplan.proofs.RouteLines.{unrouted_added}
 use Rattle.aliasplan.proofs.gathering.add_unrouted.Goals as goal
 
-pub returns-clause-lines : goal.returns-clause-lines
-returns-clause-lines c =
-    on_ok_weaker {P = ReportsWhere c.args.lines.now c.add.new.self (λ q. bytes_eq q (finding_text_of (Unrouted c.in_ok-address.address c.in_ok-reason.reason)))} c.add.result
-    (λ h q. unrouted_added c.args.unrouted c.in_ok-reason.reason c.in_ok-address.address c.args.address.now q (has_text c.args.lines.now q) (has_text c.add.new.self q)
-    c.in_ok-address.ensures.same (sym c.in_ok-reason.ensures.ok_part ∙ c.reason_for.ensures) (h q))
-    c.add.ensures.ok
-
-no_reason : (reason : Reason) → Some reason ≡ None → ⊥
-no_reason reason e = let none : ⊥ = cc in none
-
-pub returns-clause-memory : goal.returns-clause-memory
-returns-clause-memory c =
-    on_ok_weaker {P = ReportsWhere c.args.lines.now c.add.new.self (λ q. bytes_eq q (finding_text_of (Unrouted c.in_ok-address.address c.in_ok-reason.reason)))} c.add.result
-    (λ h is. no_reason c.in_ok-reason.reason (sym c.in_ok-reason.ensures.ok_part ∙ c.reason_for.ensures ∙ ap reason_of is))
-    c.add.ensures.ok
+pub returns : goal.returns
+returns c = record {
+  lines =
+      on_ok_weaker {P = ReportsWhere c.args.lines.now c.add.new.self (λ q. bytes_eq q (finding_text_of (Unrouted c.in_ok-address.address c.in_ok-reason.reason)))} c.add.result
+      (λ h q. unrouted_added c.args.unrouted.now c.in_ok-reason.reason c.in_ok-address.address c.args.address.now q (has_text c.args.lines.now q) (has_text c.add.new.self q)
+      c.in_ok-address.ensures.same (sym c.in_ok-reason.ensures.ok_part ∙ c.reason_for.ensures ∙ ap reason_of c.in_ok-copy.ensures) (h q))
+      c.add.ensures.ok;
+}

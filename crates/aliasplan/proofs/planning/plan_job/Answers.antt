@@ -1,5 +1,4 @@
 use Rattle.std.proofs.Common.{arith}
-use Rattle.aliasplan.proofs.Fewest.{plans_sound, plans_fewest}
 use Rattle.aliasplan.proofs.planning.plan_job.Goals as goal
 
 pub read-requires-clause-origin : goal.read-requires-clause-origin
@@ -25,11 +24,3 @@ read-requires-clause-few_mailboxes g c =
 
 pub plan_sources-requires-clause-batches : goal.plan_sources-requires-clause-batches
 plan_sources-requires-clause-batches g c = λ l m t. omega (arith, c.parsed_jobs.ensures.limits c.requires.job.0 c.args.job.now c.requires.job.2 t)
-
-pub returns-clause-sound : goal.returns-clause-sound
-returns-clause-sound g c =
-    plans_sound c.args.job.now (λ t. omega (arith, c.parsed_jobs.ensures.limits c.requires.job.0 c.args.job.now c.requires.job.2 t)) c.plan_sources.result c.plan_sources.ensures.plan
-
-pub returns-clause-fewest : goal.returns-clause-fewest
-returns-clause-fewest g c =
-    plans_fewest c.args.job.now (λ t. omega (arith, c.parsed_jobs.ensures.limits c.requires.job.0 c.args.job.now c.requires.job.2 t)) c.plan_sources.result c.plan_sources.ensures.plan

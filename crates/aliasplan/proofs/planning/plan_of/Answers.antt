@@ -1,12 +1,17 @@
 use Rattle.std.proofs.Common.{◌∙◌, List, sym, subst}
 use Rattle.relay_wire.specs.declared.plan.Planned.{Planned}
-use Rattle.aliasplan.specs.Plans.{AreTransactionsOf}
+use Rattle.aliasplan.specs.Plans.{AreTransactionsOf, IsSoundFor, IsFewest}
 use Rattle.aliasplan.proofs.PlanFacts.{plan_is}
 use Rattle.aliasplan.proofs.planning.plan_of.Goals as goal
 
 pub returns : goal.returns
 returns c =
     let job = c.args.job.now in
-    let transactions = subst (λ (ts : List Planned). AreTransactionsOf job ts) (sym c.of-2.ensures) c.requires.transactions in
-    plan_is job _ c.args.lines (c.of.ensures ∙ c.in_ok-hostname.ensures.items ∙ c.as_bytes.ensures) transactions
-    c.in_ok-into_seq.ensures.all c.in_ok-into_seq.ensures.ascending c.requires.lines
+    let same = sym c.of-2.ensures in
+    record {
+      plan =
+          plan_is job _ c.args.lines (c.of.ensures ∙ c.in_ok-hostname.ensures.items ∙ c.as_bytes.ensures) (subst (λ (ts : List Planned). AreTransactionsOf job ts) same c.requires.transactions)
+          c.in_ok-into_seq.ensures.all c.in_ok-into_seq.ensures.ascending c.requires.lines;
+      sound = subst (λ (ts : List Planned). IsSoundFor job ts) same c.requires.sound;
+      fewest = subst (λ (ts : List Planned). IsFewest job ts) same c.requires.fewest;
+    }

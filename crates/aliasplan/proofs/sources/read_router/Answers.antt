@@ -1,4 +1,4 @@
-use Rattle.std.proofs.Common.{◌≡◌, ◌||◌, ◌∙◌, ℕ, List, ap}
+use Rattle.std.proofs.Common.{◌≡◌, ◌||◌, ◌∙◌, List, ap}
 use Rattle.std.specs.List.{list_any}
 use Rattle.std.specs.Str.{bytes_eq}
 use Rattle.relay_text.specs.Bytes.{has_text}
@@ -6,8 +6,7 @@ use Rattle.relay_routes.specs.declared.fault.LineFault.{LineFault}
 use Rattle.relay_routes.specs.Transports.{transport_table_of}
 use Rattle.relay_routes.specs.Exchanges.{mx_table_of}
 use Rattle.aliasplan.specs.declared.table.Table.TheVariants.{Transport, Mx}
-use Rattle.aliasplan.specs.Lanes.{table_line}
-use Rattle.aliasplan.specs.Texts.{is_route_line}
+use Rattle.aliasplan.specs.Texts.{table_line, is_route_line}
 use Rattle.aliasplan.proofs.ReportFacts.{on_ok_given, reports_two}
 use Rattle.aliasplan.proofs.sources.read_router.Goals as goal
 

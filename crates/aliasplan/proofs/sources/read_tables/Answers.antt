@@ -1,4 +1,4 @@
-use Rattle.std.proofs.Common.{◌≡◌, ◌≢◌, ◌||◌, ◌∙◌, ℕ, List, AllPairs, IsTrue, map, ap, sym, subst}
+use Rattle.std.proofs.Common.{◌≡◌, ◌≢◌, ◌||◌, ◌∙◌, List, AllPairs, IsTrue, map, ap, sym, subst}
 use Rattle.std.specs.List.{list_all, list_any}
 use Rattle.std.specs.Str.{bytes_eq}
 use Rattle.relay_text.specs.Bytes.{has_text}
@@ -12,8 +12,7 @@ use Rattle.aliasplan.specs.declared.source.Source.TheVariants.{Aliases, Mailboxe
 use Rattle.aliasplan.specs.Delivery.{entry_of_include}
 use Rattle.aliasplan.specs.Texts.{source_line, has_include_line, is_name_line}
 use Rattle.aliasplan.proofs.ReportFacts.{on_ok_given, reports_three}
-use Rattle.aliasplan.proofs.SourceFacts.{good_includes}
-use Rattle.aliasplan.proofs.StopFacts.{pairs_map}
+use Rattle.aliasplan.proofs.SourceFacts.{good_includes, pairs_map}
 use Rattle.aliasplan.proofs.sources.read_tables.Goals as goal
 
 pub build-requires-clause-distinct : goal.build-requires-clause-distinct

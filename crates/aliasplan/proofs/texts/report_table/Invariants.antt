@@ -2,7 +2,7 @@ use Rattle.std.proofs.Common.{take}
 use Rattle.std.specs.List.{list_any}
 use Rattle.std.specs.Str.{bytes_eq}
 use Rattle.aliasplan.specs.Findings.{ReportsWhere}
-use Rattle.aliasplan.specs.Lanes.{table_line}
+use Rattle.aliasplan.specs.Texts.{table_line}
 use Rattle.aliasplan.proofs.texts.report_table.Given as goal
 
 abbrev pub invariant-loop-fault : goal.invariant-loop-fault

@@ -1,0 +1,125 @@
+//! What is wrong with files and tables before a message comes.
+//!
+//! `check_texts` judges their lines; `check_aliases` also finds where every alias leads, as if the null sender wrote to all of them;
+//! `notes` says which settings Postfix reads otherwise.
+ghost use Rattle.std.specs.Prelude.{◌≡◌, IfOk, IfErr, OnOk};
+ghost use Rattle.relay_text.specs.Bytes.{has_text};
+ghost use Rattle.relay_job.specs.Tables.{AreTablesWithin};
+ghost use Rattle.aliasplan.specs.Checks.{to_each_alias, AreLines, notes_of};
+ghost use Rattle.aliasplan.specs.Delivery.{directory_of};
+ghost use Rattle.aliasplan.specs.Outcomes.{AreOptions, AreLimits, IsWithin, IsRefused};
+ghost use Rattle.aliasplan.specs.Report.{texts, IsFindingLine, IsLineOf};
+
+use crate::crew::Crew;
+use crate::options::{Limits, Options};
+use crate::planning::plan_sources;
+use crate::sources::Sources;
+use relay_aliasfile::file_counts;
+use relay_job::{Job, RunFault, Settings, parsed_tables};
+use relay_rounds::Gate;
+use relay_tables::Tables;
+use relay_text::{Seq, Text, same_bytes};
+use relay_wire::FindingLines;
+use std::alloc::{AllocError, Global};
+use std::thread::Threads;
+
+/// The job of the null sender who writes to every alias, by files and tables that are read.
+fn to_each_alias(alloc: Global, tables: Job, read: &Tables) -> Result<Job, AllocError>
+    requires { read.now ≡ directory_of tables }
+    ensures { IfOk result (λ job. job ≡ to_each_alias tables) }
+{
+    let recipients = read.alias_addresses(alloc)?;
+    Ok(Job {
+        settings: tables.settings,
+        aliases: tables.aliases,
+        includes: tables.includes,
+        mailboxes: tables.mailboxes,
+        transport: tables.transport,
+        mx: tables.mx,
+        sender: None,
+        recipients: Seq::of(recipients),
+    })
+}
+
+/// The lines of findings that say which lines of the files and tables are at fault, in the order of their bytes, each once. `Err` where
+/// memory runs out.
+pub fn check_texts(alloc: Global, tables: &Job, limits: Limits) -> Result<Seq<Text>, AllocError>
+    requires limits { AreLimits limits }
+    requires tables { AreTablesWithin limits.bytes tables.now }
+    ensures { IfOk result (AreLines (IsLineOf tables.now texts)) }
+{
+    parsed_tables();
+    file_counts();
+    let _ = limits;
+    let mut lines = FindingLines::new(alloc);
+    let _ = Sources::read(alloc, tables, &mut lines)?;
+    let lines = lines.into_seq(alloc)?;
+    Ok(lines)
+}
+
+/// The same lines, and with them those of all that is found where the null sender writes to every alias: loops, missing names and include
+/// files, items that aren't delivered to, entries without good items, and addresses without a route.
+///
+/// The errors are those of `plan_job` of that message. The form of the options is not regarded, and neither the number of threads nor
+/// how the work is cut changes the answer.
+pub fn check_aliases<G: Gate, R: Threads + Sync>(
+    rt: &R,
+    alloc: Global,
+    tables: Job,
+    options: Options,
+    limits: Limits,
+    gate: &G,
+) -> Result<Seq<Text>, RunFault>
+    requires options { AreOptions options }
+    requires limits { AreLimits limits }
+    requires tables { AreTablesWithin limits.bytes tables }
+    ensures lines { IfOk result (AreLines (IsFindingLine (to_each_alias tables))) }
+    ensures within { OnOk result (IsWithin limits (to_each_alias tables)) }
+    ensures refused { IfErr result (IsRefused limits (to_each_alias tables)) }
+{
+    parsed_tables();
+    file_counts();
+    let mut lines = FindingLines::new(alloc);
+    let Ok(sources) = Sources::read(alloc, &tables, &mut lines) else {
+        return Err(RunFault::Memory);
+    };
+    let Ok(job) = to_each_alias(alloc, tables, &sources.tables) else {
+        return Err(RunFault::Memory);
+    };
+    let crew = Crew {
+        rt,
+        alloc,
+        options,
+        limits,
+        gate,
+    };
+    match plan_sources(&crew, &job, &sources, lines) {
+        Ok(plan) => Ok(plan.findings),
+        Err(fault) => Err(fault),
+    }
+}
+
+/// Whether mydestination has myorigin.
+fn has_origin(settings: &Settings) -> bool
+    ensures { result ≡ has_text settings.now.destinations settings.now.origin }
+{
+    let origin = settings.origin.as_bytes();
+    settings
+        .destinations
+        .as_slice()
+        .iter()
+        .any(|domain| same_bytes(origin, domain.as_bytes()))
+}
+
+/// A line for each setting that Postfix reads otherwise, which is no fault: names at myorigin are local here, and there only where
+/// mydestination has it (postconf(5)). `Err` where memory runs out.
+pub fn notes(alloc: Global, settings: &Settings) -> Result<Seq<Text>, AllocError>
+    ensures { IfOk result (λ notes. notes ≡ notes_of settings.now) }
+{
+    if has_origin(settings) {
+        return Ok(Seq::of(Vec::new(alloc)));
+    }
+    let note = Text::copy_of(alloc, b"note myorigin isn't in mydestination")?;
+    let notes = Vec::from_array(alloc, [note])?;
+    Ok(Seq::of(notes))
+}

@@ -1,0 +1,52 @@
+use Rattle.std.proofs.Common.{◌≡◌, ◌∙◌, List, ℕ, map, ap, subst}
+use Rattle.std.specs.Prelude.{◌↔◌, Contains}
+use Rattle.relay_delivery.specs.declared.routed.Routed.{Routed}
+use Rattle.relay_delivery.specs.declared.stop.Stop.{Stop}
+use Rattle.relay_delivery.specs.Placings.{senders_of, routes_of}
+use Rattle.relay_delivery.specs.Orders.{AreRecipientsInOrder, moved_to, stop_at}
+use Rattle.relay_delivery.proofs.PlaceFacts.{in_order, placed}
+use Rattle.relay_delivery.proofs.placing.Placing.of.Goals as goal
+
+pub returns-clause-order : goal.returns-clause-order
+returns-clause-order c =
+    let senders = senders_of c.args.senders.now in
+    let new_senders = senders_of c.in_ok-sender_order.sender_order.senders.items in
+    let sender_places = c.in_ok-sender_order.sender_order.place_of.items in
+    let routes = c.args.routes.now in
+    let new_routes = routes_of c.in_ok-route_order.route_order.routes.items in
+    let route_places = c.in_ok-route_order.route_order.place_of.items in
+    let recipients = c.args.recipients.now in
+    let new_recipients = c.in_ok-recipient_order.recipient_order.recipients.items in
+    let recipient_places = c.in_ok-recipient_order.recipient_order.place_of.items in
+    let stops = c.args.stops.items in
+    let new_stops = c.stops_in_order-stops.result.items in
+    let is_moved : c.as_slice-2.result.now ≡ map (moved_to route_places) recipients =
+    c.as_slice-2.ensures.value ∙ c.in_ok-moved.ensures ∙ ap (λ places. map (moved_to places) recipients) c.as_slice.ensures.value in
+    let IsOrdered : List Routed → Type 0 = λ moved. AreRecipientsInOrder moved new_recipients recipient_places in
+    let ordered : IsOrdered (map (moved_to route_places) recipients) = subst IsOrdered is_moved c.in_ok-recipient_order.ensures in
+    let IsSame : List ℕ → List ℕ → Type 0 = λ ss rs. (x : Stop) → Contains new_stops x ↔ Contains (map (stop_at ss rs) stops) x in
+    let same : IsSame sender_places recipient_places =
+    subst (λ ss. IsSame ss recipient_places) c.as_slice-3.ensures.value (subst (λ rs. IsSame c.as_slice-3.result.now rs) c.as_slice-4.ensures.value c.stops_in_order-stops.ensures.same) in
+    in_order senders new_senders routes new_routes recipients new_recipients stops new_stops sender_places route_places recipient_places c.in_ok-sender_order.ensures c.in_ok-route_order.ensures ordered same c.requires.range c.stops_in_order-stops.ensures.ascending
+
+pub returns-clause-placed : goal.returns-clause-placed
+returns-clause-placed c =
+    let senders = senders_of c.args.senders.now in
+    let new_senders = senders_of c.in_ok-sender_order.sender_order.senders.items in
+    let sender_places = c.in_ok-sender_order.sender_order.place_of.items in
+    let routes = c.args.routes.now in
+    let new_routes = routes_of c.in_ok-route_order.route_order.routes.items in
+    let route_places = c.in_ok-route_order.route_order.place_of.items in
+    let recipients = c.args.recipients.now in
+    let new_recipients = c.in_ok-recipient_order.recipient_order.recipients.items in
+    let recipient_places = c.in_ok-recipient_order.recipient_order.place_of.items in
+    let stops = c.args.stops.items in
+    let new_stops = c.stops_in_order-stops.result.items in
+    let is_moved : c.as_slice-2.result.now ≡ map (moved_to route_places) recipients =
+    c.as_slice-2.ensures.value ∙ c.in_ok-moved.ensures ∙ ap (λ places. map (moved_to places) recipients) c.as_slice.ensures.value in
+    let IsOrdered : List Routed → Type 0 = λ moved. AreRecipientsInOrder moved new_recipients recipient_places in
+    let ordered : IsOrdered (map (moved_to route_places) recipients) = subst IsOrdered is_moved c.in_ok-recipient_order.ensures in
+    let IsSame : List ℕ → List ℕ → Type 0 = λ ss rs. (x : Stop) → Contains new_stops x ↔ Contains (map (stop_at ss rs) stops) x in
+    let same : IsSame sender_places recipient_places =
+    subst (λ ss. IsSame ss recipient_places) c.as_slice-3.ensures.value (subst (λ rs. IsSame c.as_slice-3.result.now rs) c.as_slice-4.ensures.value c.stops_in_order-stops.ensures.same) in
+    placed senders new_senders routes new_routes recipients new_recipients stops new_stops sender_places route_places recipient_places c.in_ok-sender_order.ensures c.in_ok-route_order.ensures ordered same c.requires.range

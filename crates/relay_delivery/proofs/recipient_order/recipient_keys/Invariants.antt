@@ -1,0 +1,8 @@
+use Rattle.std.specs.Prelude.{IsTrue}
+use Rattle.relay_text.specs.Addresses.{is_address}
+use Rattle.relay_delivery.specs.Orders.{recipient_key}
+use Rattle.relay_delivery.proofs.KeyFacts.{AreSoFar}
+use Rattle.relay_delivery.proofs.recipient_order.recipient_keys.Given as goal
+
+abbrev pub invariant-loop-index : goal.invariant-loop-index
+invariant-loop-index l = AreSoFar recipient_key (λ r. IsTrue (is_address r.address.now)) l.recipients l.keys.items l.index

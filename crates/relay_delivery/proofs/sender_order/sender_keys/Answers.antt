@@ -1,0 +1,29 @@
+use Rattle.std.proofs.Common.{◌≡◌, ◌+◌, ◌<◌, ◌^◌, ◌∙◌, length, get_or, sym, ap, subst, arith}
+use Rattle.std.specs.Prelude.{option_copied}
+use Rattle.std.proofs.lemmas.List.{length-map, get_or-map}
+use Rattle.relay_delivery.specs.Placings.{senders_of, IsSender}
+use Rattle.relay_delivery.specs.Ranks.{key_parts}
+use Rattle.relay_delivery.specs.Orders.{sender_key}
+use Rattle.relay_delivery.proofs.KeyFacts.{AreSoFar, parts_are, so_far_more}
+use Rattle.relay_delivery.proofs.SenderFacts.{sender_key_of}
+use Rattle.relay_delivery.proofs.sender_order.sender_keys.Goals as goal
+
+pub loop-index-preserved : goal.loop-index-preserved
+loop-index-preserved c =
+    let given = c.args.senders.now in
+    let senders = senders_of given in
+    let keys = c.loop-index.keys.items in
+    let i = c.loop-index.index in
+    let k = c.new.result in
+    let x = option_copied c.index-senders-index.result in
+    let before : i < length given = c.loop-index-test.true in
+    let inside : i < length senders = omega (arith, before, length-map given option_copied) in
+    let is : x ≡ get_or senders i x = ap option_copied c.index-senders-index.is ∙ sym (get_or-map option_copied given i c.index-senders-index.result x before) in
+    let text = c.in_ok-sender_text.field-0.items in
+    let parts : key_parts k ≡ sender_key x = parts_are k 0 text c.new.ensures.group c.new.ensures.text ∙ sym (sender_key_of x text c.in_ok-sender_text.ensures.path) in
+    let told = c.in-Ok.ensures in
+    let told_is = c.in-Ok.is in
+    let small : i < 2 ^ 32 = omega arith in
+    let number : k.number ≡ i = c.new.ensures.number ∙ omega arith in
+    subst (λ ks. AreSoFar sender_key IsSender senders ks (i + 1)) (sym c.in_ok-push.ensures.items)
+    (so_far_more sender_key IsSender senders keys i k x c.loop-index.invariant inside is parts number small c.in_ok-sender_text.ensures.valid)

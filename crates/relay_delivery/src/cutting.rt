@@ -1,0 +1,58 @@
+//! Transactions of what is placed.
+ghost use Rattle.std.specs.Prelude.{◌≡◌, ◌<◌, ◌≤◌, ◌-◌, ◌^◌, length, map, All, IfOk};
+ghost use Rattle.relay_routes.specs.declared.transport.Transport as names;
+ghost use Rattle.relay_delivery.specs.Cuts.{route_at, IsOrdered};
+ghost use Rattle.relay_delivery.specs.Groups.{limit_at, AreTransactionsOf, IsSoundFor, IsFewest};
+ghost use Rattle.relay_delivery.specs.Placings.{senders_of, routes_of, IsPlacedBy};
+
+use crate::group_numbers::GroupNumbers;
+use crate::keyed::Keyed;
+use crate::limits::BatchLimits;
+use crate::placing::Placing;
+use crate::planned::planned;
+use relay_rings::batches;
+use relay_routes::Route;
+use relay_wire::Planned;
+use std::alloc::{AllocError, Global};
+
+/// The limit of each group, which is that of its transport.
+fn limits_by_key(
+    alloc: Global,
+    routes: &[&Route],
+    groups: &[GroupNumbers],
+    limits: BatchLimits,
+) -> Result<Vec<u32>, AllocError>
+    requires range { All (λ g. g.route < length routes.now) groups.now }
+    ensures { IfOk result (λ ls. ls.items ≡ map (λ g. limit_at limits (route_at (routes_of routes.now) g.route).transport) groups.now) }
+{
+    let mut by_key = Vec::with_capacity(alloc, groups.len())?;
+    for group in groups {
+        let transport = routes[group.route as usize].transport;
+        by_key.push(limits.of(transport))?;
+    }
+    Ok(by_key)
+}
+
+/// The transactions: the recipients of each group in turn, in batches within the limit of its transport.
+pub fn cut(
+    alloc: Global,
+    placing: &Placing<'_>,
+    limits: BatchLimits,
+) -> Result<Vec<Planned>, AllocError>
+    requires order { IsOrdered placing.now }
+    requires limits { (t : names.Transport) → 0 < limit_at limits t }
+    requires count { length placing.now.stops.items ≤ 2 ^ 32 - 2 }
+    ensures transactions { IfOk result (λ ts. AreTransactionsOf (limit_at limits) (IsPlacedBy (senders_of placing.now.senders.items) (routes_of placing.now.routes.items) placing.now.recipients.items placing.now.stops.items) ts.items) }
+    ensures sound { IfOk result (λ ts. IsSoundFor (limit_at limits) (IsPlacedBy (senders_of placing.now.senders.items) (routes_of placing.now.routes.items) placing.now.recipients.items placing.now.stops.items) ts.items) }
+    ensures fewest { IfOk result (λ ts. IsFewest (limit_at limits) (IsPlacedBy (senders_of placing.now.senders.items) (routes_of placing.now.routes.items) placing.now.recipients.items placing.now.stops.items) ts.items) }
+{
+    let Keyed { groups, placed } = Keyed::of(alloc, placing)?;
+    let by_key = limits_by_key(alloc, &placing.routes, &groups, limits)?;
+    let cuts = batches(alloc, &placed, &by_key)?;
+    let mut transactions = Vec::with_capacity(alloc, cuts.len())?;
+    for t in &cuts {
+        let items = t.items.as_slice();
+        transactions.push(planned(alloc, placing, groups[t.key as usize], items)?)?;
+    }
+    Ok(transactions)
+}

@@ -1,0 +1,30 @@
+//! Which transactions bring each address its message, in the fewest.
+//!
+//! Callers number senders, routes and addresses, and say by numbers which address goes out under which sender. [`placing`] brings the
+//! three into the order of a plan, where an address under a sender is two numbers; [`cutting`] gives each group of a sender and a route
+//! a key, lets relay_rings cut what has one key within the limit of its transport, and writes the cuts as transactions. That none is too
+//! many follows from what relay_rings says of its batches.
+#![tactic(auto)]
+
+mod cutting;
+mod delivery;
+mod group_numbers;
+mod keyed;
+mod limits;
+mod picks;
+mod placing;
+mod planned;
+mod ranks;
+mod recipient_order;
+mod route_order;
+mod routed;
+mod sender_order;
+mod sort_key;
+mod stop;
+mod stop_order;
+mod written_path;
+
+pub use delivery::transactions;
+pub use limits::BatchLimits;
+pub use routed::Routed;
+pub use stop::Stop;

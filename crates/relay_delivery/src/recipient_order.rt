@@ -1,0 +1,71 @@
+//! Recipients in the order of their routes and their written paths.
+ghost use Rattle.std.specs.Prelude.{◌≡◌, ◌<◌, ◌≤◌, ◌^◌, length, map, All, IfOk, IsTrue};
+ghost use Rattle.relay_text.specs.Addresses.{is_address};
+ghost use Rattle.relay_delivery.specs.Ranks.{AreKeysOf};
+ghost use Rattle.relay_delivery.specs.Orders.{recipient_key, moved_to, AreRecipientsInOrder};
+
+use crate::picks::picked;
+use crate::ranks::Ranks;
+use crate::routed::Routed;
+use crate::sort_key::SortKey;
+use crate::written_path::address_text;
+use relay_text::one_spelling;
+use std::alloc::{AllocError, Global};
+
+/// Recipients in order, each once, and where each of them stands there, by its old number.
+#[derive(Drop)]
+pub struct RecipientOrder<'a> {
+    pub recipients: Vec<Routed<'a>>,
+    pub place_of: Vec<u32>,
+}
+
+/// The recipients with the new numbers of their routes.
+pub fn with_routes<'a>(
+    alloc: Global,
+    recipients: &[Routed<'a>],
+    route_places: &[u32],
+) -> Result<Vec<Routed<'a>>, AllocError>
+    requires { All (λ r. r.route < length route_places.now) recipients.now }
+    ensures { IfOk result (λ moved. moved.items ≡ map (moved_to route_places.now) recipients.now) }
+{
+    let mut moved = Vec::with_capacity(alloc, recipients.len())?;
+    for recipient in recipients {
+        moved.push(Routed {
+            route: route_places[recipient.route as usize],
+            address: recipient.address,
+        })?;
+    }
+    Ok(moved)
+}
+
+/// What recipients are sorted by.
+fn recipient_keys(alloc: Global, recipients: &[Routed]) -> Result<Vec<SortKey>, AllocError>
+    ensures keys { IfOk result (λ keys. AreKeysOf (map recipient_key recipients.now) keys.items) }
+    ensures few { IfOk result (λ keys. length keys.items ≤ 2 ^ 32) }
+    ensures valid { IfOk result (λ keys. All (λ r. IsTrue (is_address r.address.now)) recipients.now) }
+{
+    let mut keys = Vec::with_capacity(alloc, recipients.len())?;
+    for (index, recipient) in recipients.iter().enumerate() {
+        let Ok(number) = u32::try_from(index) else {
+            return Err(AllocError);
+        };
+        let text = address_text(alloc, recipient.address)?;
+        keys.push(SortKey::new(recipient.route, text, number))?;
+    }
+    Ok(keys)
+}
+
+impl<'a> RecipientOrder<'a> {
+    /// `Err` where memory runs out, or where there are more recipients than numbers.
+    pub fn of(alloc: Global, recipients: &[Routed<'a>]) -> Result<RecipientOrder<'a>, AllocError>
+        ensures { IfOk result (λ order. AreRecipientsInOrder recipients.now order.recipients.items order.place_of.items) }
+    {
+        one_spelling();
+        let Ranks { order, place_of } = Ranks::of(alloc, recipient_keys(alloc, recipients)?)?;
+        let recipients = picked(alloc, recipients, order.as_slice())?;
+        Ok(RecipientOrder {
+            recipients,
+            place_of,
+        })
+    }
+}

@@ -1,0 +1,4 @@
+pub mod Pairs
+pub mod Meanings
+pub mod Numbered
+pub mod ByDomain

@@ -1,0 +1,61 @@
+//! Ways by text.
+use crate::way::Way;
+use relay_chains::Interner;
+use std::marker::Model;
+
+/// Distinct texts, each with its way. Contracts see them as a list of pairs, in the order in which they came.
+#[derive(Drop)]
+pub struct KnownWays {
+    texts: Interner,
+    ways: Vec<Way>,
+}
+
+impl Model for KnownWays {
+    ghost use Rattle.std.specs.Prelude.{◌≡◌, List, ℕ, length, zip};
+    ghost use Rattle.relay_destinations.specs.declared.way.Way as found;
+
+    ghost Value = { List (List ℕ × found.Way) };
+
+    ghost view = { λ a. zip a.texts.keys a.ways.items };
+
+    ghost invariant = { λ a. length a.ways.items ≡ length a.texts.keys };
+}
+
+ghost use Rattle.std.specs.Prelude.{◌≡◌, [], ◌∷◌, ◌++◌, None, IfOk, OnOk, OnErr};
+ghost use Rattle.relay_destinations.specs.KnownWays.{way_in};
+
+use std::alloc::{AllocError, Global};
+
+impl KnownWays {
+    /// No texts yet. The key is that of their hashes.
+    pub fn new(alloc: Global, key: u64) -> Result<KnownWays, AllocError>
+        ensures { IfOk result (λ known. known ≡ []) }
+    {
+        Ok(KnownWays {
+            texts: Interner::with_key(alloc, key, 1, u32::MAX as usize - 1)?,
+            ways: Vec::new(alloc),
+        })
+    }
+
+    /// The way of a text, if it's known.
+    pub fn find(&self, text: &[u8]) -> Option<Way>
+        ensures { result ≡ way_in self.now text.now }
+    {
+        let number = self.texts.find(text)?;
+        Some(self.ways[number as usize])
+    }
+
+    /// Keeps the way of a new text. `Err` where memory runs out, or the numbers of texts do.
+    pub fn keep(&mut self, text: &[u8], way: Way) -> Result<(), AllocError>
+        requires { way_in self.old text.now ≡ None }
+        ensures ok { OnOk result (self.new ≡ self.old ++ (text.now, way) ∷ []) }
+        ensures err { OnErr result (self.new ≡ self.old) }
+    {
+        self.ways.reserve(1)?;
+        let Ok(_) = self.texts.intern(text) else {
+            return Err(AllocError);
+        };
+        self.ways.push_reserved(way);
+        Ok(())
+    }
+}

@@ -1,0 +1,8 @@
+use Rattle.std.proofs.Common.{◌≡◌, take, map}
+use Rattle.relay_aliasfile.specs.declared.entry.Entry.{Entry}
+use Rattle.relay_tables.specs.Targets.{at_origin}
+use Rattle.relay_tables.proofs.tables.Tables.alias_addresses.Given as goal
+
+-- the addresses of the first entries
+abbrev pub invariant-loop-entry : goal.invariant-loop-entry
+invariant-loop-entry l = l.addresses.items ≡ map (λ (entry : Entry). at_origin l.self entry.name) (take l.entry-index l.entry-items)
