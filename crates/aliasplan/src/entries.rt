@@ -1,18 +1,20 @@
 //! The lines of what entries and recipients lead to and shouldn't.
-ghost use Rattle.std.specs.Prelude.{◌≡◌, ◌<◌, length, All, OnOk};
+ghost use Rattle.std.specs.Prelude.{◌≡◌, ◌<◌, None, length, All, IsTrue, OnOk};
 ghost use Rattle.relay_tables.specs.Graphs.{child_numbers};
 ghost use Rattle.relay_loops.specs.Loops.{AreLoopsOf};
 ghost use Rattle.aliasplan.specs.Delivery.{directory_of, IsJobGraph};
 ghost use Rattle.aliasplan.specs.Reaching.{AreReachedNodes};
 ghost use Rattle.aliasplan.specs.Report.{IsLineOf};
 ghost use Rattle.aliasplan.specs.Report.{entries};
-ghost use Rattle.aliasplan.specs.Listing.{place_at};
+ghost use Rattle.relay_wire.specs.declared.finding.Place as places;
+ghost use Rattle.aliasplan.specs.Listing.{place_at, target_finding};
 ghost use Rattle.aliasplan.specs.Findings.{Reports};
 ghost use Rattle.aliasplan.specs.Entries.{LeadsWithin, IsLineIn, HaveLine, IsTargetLine, IsListLine, IsNodeLine, IsLoopLine};
 
 use crate::listing::Listing;
+use crate::reach::Reach;
 use relay_job::Job;
-use relay_tables::{Graph, Tables};
+use relay_tables::{Graph, Node, Tables};
 use relay_wire::{Finding, FindingLines};
 use std::alloc::{AllocError, Global};
 
@@ -30,6 +32,16 @@ fn report_any(
     }
 }
 
+/// Whether mail can go to a node or on from it, so that nothing is reported of it as a target.
+fn is_reachable(node: &Node) -> bool
+    ensures { IsTrue result → (place : places.Place) → target_finding place node.now ≡ None }
+{
+    match node {
+        Node::Alias(_) | Node::Include(_) | Node::Mailbox(_) | Node::Remote(_) => true,
+        Node::Missing(_) | Node::NoInclude(_) | Node::Command(_) | Node::File(_) => false,
+    }
+}
+
 /// Adds the line of one target of a listing.
 fn report_target(
     alloc: Global,
@@ -41,7 +53,11 @@ fn report_target(
     requires { target < length graph.now.nodes }
     ensures { OnOk result (Reports lines.old lines.new (IsTargetLine graph.now (place_at listing.entry) target)) }
 {
-    let finding = listing.target(alloc, graph.node(target))?;
+    let node = graph.node(target);
+    if is_reachable(node) {
+        return Ok(());
+    }
+    let finding = listing.target(alloc, node)?;
     report_any(alloc, finding, lines)
 }
 
@@ -160,18 +176,17 @@ pub fn report_entries(
     job: &Job,
     tables: &Tables,
     graph: &Graph,
-    nodes: &[u32],
-    loops: &[u32],
+    reach: &Reach<'_>,
     lines: &mut FindingLines,
 ) -> Result<(), AllocError>
     requires tables { tables.now ≡ directory_of job.now }
     requires graph { IsJobGraph job.now graph.now }
-    requires nodes { AreReachedNodes job.now graph.now nodes.now }
-    requires loops { AreLoopsOf graph.now nodes.now loops.now }
+    requires nodes { AreReachedNodes job.now graph.now reach.now.nodes.now }
+    requires loops { AreLoopsOf graph.now reach.now.nodes.now reach.now.loops.now }
     ensures { OnOk result (Reports lines.old lines.new (IsLineOf job.now entries)) }
 {
     let _ = job;
     report_targets(alloc, graph, Listing::Envelope, graph.roots(), lines)?;
-    report_nodes(alloc, tables, graph, nodes, lines)?;
-    report_loops(alloc, tables, graph, loops, lines)
+    report_nodes(alloc, tables, graph, reach.nodes, lines)?;
+    report_loops(alloc, tables, graph, reach.loops, lines)
 }

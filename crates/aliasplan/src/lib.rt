@@ -15,6 +15,7 @@ mod listing;
 mod listing_domains;
 pub mod options;
 pub mod planning;
+mod reach;
 pub mod reading;
 mod routing;
 mod running;

@@ -17,6 +17,7 @@ use crate::addresses::plan_addresses;
 use crate::crew::Crew;
 use crate::entries::report_entries;
 use crate::options::{Limits, Options};
+use crate::reach::Reach;
 use crate::sources::Sources;
 use relay_aliasfile::file_counts;
 use relay_job::{Job, RunFault, parsed_jobs};
@@ -134,7 +135,11 @@ fn report_reached<G: Gate, R: Threads + Sync>(
         crew.options.cut,
         crew.gate,
     )?;
-    report_entries(alloc, job, tables, graph, &nodes, &loops, lines)
+    let reach = Reach {
+        nodes: &nodes,
+        loops: &loops,
+    };
+    report_entries(alloc, job, tables, graph, &reach, lines)
 }
 
 /// The plan of transactions and lines.

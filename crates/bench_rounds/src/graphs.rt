@@ -1,35 +1,40 @@
 //! Graphs to search.
-ghost use Rattle.std.specs.Prelude.{◌+◌, ◌*◌, ◌%◌, ◌∷◌, [], cond, nat_eq};
+ghost use Rattle.std.specs.Prelude.{◌+◌, ◌*◌, ◌%◌, ◌∷◌, [], cond, nat_lt};
 ghost use Rattle.std.proofs.Common.{rules};
 ghost use Rattle.std.proofs.lemmas.Grind.{common_steps};
 
 use relay_rounds::{Key, Steps};
 
-/// A key leads to the next one, up to the last.
+/// A key leads to the next one, up to the last; they stand so far apart.
 #[derive(Drop)]
 pub struct Path {
     pub keys: u32,
+    pub apart: u32,
 }
 
 impl Steps for Path {
-    ghost key_bound = { λ s. s.keys };
+    ghost key_bound = { λ s. s.keys * s.apart };
 
-    ghost next_keys = { λ s k. cond (nat_eq (k + 1) s.keys) [] ((k + 1) ∷ []) };
+    ghost next_keys = { λ s k. cond (nat_lt (k + s.apart) (s.keys * s.apart)) ((k + s.apart) ∷ []) [] };
 
     ghost stays_below = { Prim.search (rules, common_steps) };
 
     fn bound(&self) -> u64 {
-        self.keys as u64
+        self.keys as u64 * self.apart as u64
     }
 
     fn count(&self, key: Key) -> usize {
-        let keys = self.keys as u64;
-        if key + 1 == keys { 0 } else { 1 }
+        let bound = self.keys as u64 * self.apart as u64;
+        if key + (self.apart as u64) < bound {
+            1
+        } else {
+            0
+        }
     }
 
     fn at(&self, key: Key, _i: usize) -> Key {
         let _keys = self.keys;
-        key + 1
+        key + self.apart as u64
     }
 }
 

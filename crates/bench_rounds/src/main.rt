@@ -75,6 +75,7 @@ fn main(rt: HostRuntime) -> Result<()> {
         return Ok(());
     }
     let watch = Watch::new(&rt, timed);
-    compare(&watch, "path", &Path { keys })?;
+    compare(&watch, "path", &Path { keys, apart: 1 })?;
+    compare(&watch, "path, 64 apart", &Path { keys, apart: 64 })?;
     compare(&watch, "wide", &Wide { keys })
 }

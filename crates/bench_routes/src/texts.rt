@@ -9,7 +9,8 @@ use std::alloc::{AllocError, Global};
 fn shuffled(number: u32, count: u32) -> u32
     ensures { result < max count 1 }
 {
-    (u64::from(number).wrapping_mul(2_654_435_761) % u64::from(count.max(1))) as u32
+    let many = u64::from(count.max(1));
+    (u64::from(number) * 40_507 % many) as u32
 }
 
 // The domain whose mail exchangers a pattern names: one for each two patterns.

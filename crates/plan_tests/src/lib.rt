@@ -2,8 +2,6 @@
 #![tactic(auto)]
 
 #[cfg(test)]
-mod aliases;
-#[cfg(test)]
 mod devices;
 #[cfg(test)]
 mod domains;
@@ -16,12 +14,8 @@ mod gathering;
 #[cfg(test)]
 mod limits;
 #[cfg(test)]
-mod options;
-#[cfg(test)]
 mod plans;
 #[cfg(test)]
 mod proved;
 #[cfg(test)]
 mod signals;
-#[cfg(test)]
-mod tables;

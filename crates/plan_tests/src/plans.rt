@@ -1,9 +1,8 @@
 //! Jobs through `run`, by example.
-ghost use Rattle.aliasplan.specs.Outcomes.{AreOptions, AreLimits};
+ghost use Rattle.aliasplan.specs.Outcomes.{AreLimits};
 
 use crate::devices::{Endless, Full, Paper, Pieces};
-use crate::limits::LIMITS;
-use crate::options::{LISTS, PLAN};
+use crate::limits::{LIMITS, LISTS, PLAN};
 use aliasplan::{Device, Form, Limits, NoGate, Options, RunFault, Summary, run};
 use std::alloc::Global;
 use std::process::Abort;
@@ -33,7 +32,7 @@ pub(crate) fn job_of(alloc: Global, lines: &[u8]) -> Result<Vec<u8>, Fail> {
 }
 
 /// What a run answers, and what it wrote.
-fn planned<R: AllocGlobal + Threads + Sync>(
+pub(crate) fn planned<R: AllocGlobal + Threads + Sync>(
     rt: &R,
     job: &[u8],
     piece: usize,
@@ -62,57 +61,6 @@ fn planned<R: AllocGlobal + Threads + Sync>(
     (answer, text)
 }
 
-/// A job that is planned whole.
-pub(crate) fn expect_plan(
-    rt: &(impl Abort + AllocGlobal + Threads + Sync),
-    job: &[u8],
-    plan: &[u8],
-) {
-    let (answer, text) = planned(rt, job, usize::MAX, usize::MAX, LIMITS, usize::MAX);
-    assert!(rt; answer.is_ok(), "{answer:?}");
-    assert_eq!(rt; text.as_slice(), plan);
-}
-
-/// What a run with these options answers, and what it wrote.
-pub(crate) fn planned_by<R: AllocGlobal + Threads + Sync>(
-    rt: &R,
-    job: &[u8],
-    options: Options,
-    limits: Limits,
-) -> (Result<Summary, RunFault>, Vec<u8>)
-    requires options { AreOptions options }
-    requires limits { AreLimits limits }
-{
-    let mut reader = Pieces::new(job, usize::MAX, usize::MAX);
-    let mut writer = Paper {
-        text: Vec::new(rt.alloc()),
-        room: usize::MAX,
-        failed: false,
-    };
-    let answer = run(
-        rt,
-        rt.alloc(),
-        &mut reader,
-        &mut writer,
-        options,
-        limits,
-        &NoGate,
-    );
-    let Paper { text, .. } = writer;
-    (answer, text)
-}
-
-/// A job of the worked settings and these lines that is planned whole.
-pub(crate) fn expect_plan_of(
-    rt: &(impl Abort + AllocGlobal + Threads + Sync),
-    lines: &[u8],
-    plan: &[u8],
-) -> Result<(), Fail> {
-    let job = job_of(rt.alloc(), lines)?;
-    expect_plan(rt, job.as_slice(), plan);
-    Ok(())
-}
-
 /// A job that is refused, and nothing is written.
 fn expect_fault(
     rt: &(impl Abort + AllocGlobal + Threads + Sync),
@@ -137,99 +85,6 @@ fn plans_the_first_job(rt: HostRuntime) {
     };
     assert_eq!(rt; answer, Ok(summary));
     assert_eq!(rt; text.as_slice(), FIRST_PLAN);
-}
-
-#[test]
-fn plans_local_names_once(rt: HostRuntime) -> Result<(), Fail> {
-    let job = job_of(
-        rt.alloc(),
-        b"%mailboxes\njoe\n%envelope\nMAIL FROM:<>\nRCPT TO:<joe@localhost>\nRCPT TO:<JOE@example.org>\n",
-    )?;
-    expect_plan(
-        &rt,
-        job.as_slice(),
-        b"plan 1 transactions 1 recipients 0 findings\ntransaction 1\nfrom <>\nvia lmtp unix:mbox\nhost unix:mbox\nto <joe@example.org>\nend\n",
-    );
-    let job = job_of(
-        rt.alloc(),
-        b"%mailboxes\nlee\nbad name\n%envelope\nMAIL FROM:<>\nRCPT TO:<Lee+a@example.org>\nRCPT TO:<lee@example.org>\nRCPT TO:<kim@localhost>\nRCPT TO:<u@example.net>\nRCPT TO:<u@[192.0.2.1]>\n",
-    )?;
-    expect_plan(
-        &rt,
-        job.as_slice(),
-        b"plan 2 transactions 3 recipients 3 findings\ntransaction 1\nfrom <>\nvia lmtp unix:mbox\nhost unix:mbox\nto <lee+a@example.org>\nto <lee@example.org>\ntransaction 2\nfrom <>\nvia smtp [192.0.2.1]\nhost 192.0.2.1\nto <u@[192.0.2.1]>\nfinding mailboxes line 2 badline\nfinding missing kim in envelope\nfinding unrouted <u@example.net> domain\nend\n",
-    );
-    Ok(())
-}
-
-#[test]
-fn cuts_batches_by_the_limit(rt: HostRuntime) -> Result<(), Fail> {
-    let job = job_of(
-        rt.alloc(),
-        b"lmtp_destination_recipient_limit = 2\n%mailboxes\na\nb\nc\n%envelope\nMAIL FROM:<>\nRCPT TO:<c@example.org>\nRCPT TO:<a@example.org>\nRCPT TO:<b@example.org>\n",
-    )?;
-    expect_plan(
-        &rt,
-        job.as_slice(),
-        b"plan 2 transactions 3 recipients 0 findings\ntransaction 1\nfrom <>\nvia lmtp unix:mbox\nhost unix:mbox\nto <a@example.org>\nto <b@example.org>\ntransaction 2\nfrom <>\nvia lmtp unix:mbox\nhost unix:mbox\nto <c@example.org>\nend\n",
-    );
-    Ok(())
-}
-
-#[test]
-fn refuses_bad_jobs(rt: HostRuntime) -> Result<(), Fail> {
-    expect_fault(&rt, b"", LIMITS, RunFault::BadEnvelope(0));
-    expect_fault(&rt, b"hello", LIMITS, RunFault::BadJob(1));
-    expect_fault(
-        &rt,
-        b"%settings\ncolour = red\n",
-        LIMITS,
-        RunFault::BadSetting(2),
-    );
-    for (lines, line) in [
-        (
-            b"%envelope\nRCPT TO:<joe@example.org>\n".as_slice(),
-            10usize,
-        ),
-        (b"%envelope\nMAIL FROM:<>\n".as_slice(), 9),
-        (b"%envelope\nMAIL FROM:<>\nRCPT TO:<joe@exam".as_slice(), 11),
-    ] {
-        let job = job_of(rt.alloc(), lines)?;
-        expect_fault(&rt, job.as_slice(), LIMITS, RunFault::BadEnvelope(line));
-    }
-    Ok(())
-}
-
-/// A job to one recipient, whose local part is so many letters `a`.
-fn job_to_letters(alloc: Global, letters: usize) -> Result<Vec<u8>, Fail> {
-    let mut job = job_of(alloc, b"%envelope\nMAIL FROM:<>\nRCPT TO:<")?;
-    for _ in 0..letters {
-        job.push(b'a')?;
-    }
-    job.extend_from_slice(b"@example.net>\n")?;
-    Ok(job)
-}
-
-#[test]
-fn takes_local_parts_of_sixty_four_octets(rt: HostRuntime) -> Result<(), Fail> {
-    let job = job_to_letters(rt.alloc(), 64)?;
-    let (answer, _) = planned(
-        &rt,
-        job.as_slice(),
-        usize::MAX,
-        usize::MAX,
-        LIMITS,
-        usize::MAX,
-    );
-    let summary = Summary {
-        transactions: 0,
-        recipients: 0,
-        findings: 1,
-    };
-    assert_eq!(rt; answer, Ok(summary));
-    let job = job_to_letters(rt.alloc(), 65)?;
-    expect_fault(&rt, job.as_slice(), LIMITS, RunFault::BadEnvelope(11));
-    Ok(())
 }
 
 #[test]

@@ -1,12 +1,14 @@
 -- Items without quotes in a list, and what they are.
-use Rattle.std.proofs.Common.{◌≡◌, ℕ, suc, ◌+◌, ◌-◌, ◌<◌, ◌≤◌, ◌%◌, Bool, true, false, not, ◌&&◌, ◌||◌, ◌==◌, cond, List, [], ◌∷◌, ◌++◌, length, drop, get_or, map, filter, codes, refl, sym, ap, ◌∙◌, arith, inl, inr, Some, None}
+use Rattle.std.proofs.Common.{◌≡◌, ℕ, suc, ◌+◌, ◌-◌, ◌<◌, ◌≤◌, ◌%◌, Bool, true, false, not, ◌&&◌, ◌||◌, ◌==◌, cond, List, [], ◌∷◌, ◌++◌, length, take, drop, get_or, map, filter, codes, refl, sym, ap, ◌∙◌, arith, inl, inr, Some, None}
 use Rattle.std.specs.Bool.{IsTrue}
 use Rattle.std.specs.Char.{to_ascii_lowercase}
 use Rattle.std.specs.Int.{is_in_range}
 use Rattle.std.specs.List.{list_all, prefix_len, suffix_len, onto_first, count_by}
 use Rattle.std.proofs.lemmas.Bool.{cases_Bool, not-true, and_parts, and_from, or_parts, or_from, or_cases, or_right, eqb-true, both_ways}
 use Rattle.std.proofs.lemmas.Bool.Decides.{nat_tests}
-use Rattle.std.proofs.lemmas.List.{take_all, append-nil, length-append}
+use Rattle.std.proofs.lemmas.List.{take_all, take_at, append-nil, length-append}
+use Rattle.std.proofs.Math.Seq.{drop-append-add}
+use Rattle.std.specs.Prelude.{option_map, option_and_then}
 use Rattle.std.proofs.lemmas.List.Sums.{suffix_len-take_no, sum_by-cons}
 use Rattle.relay_text.specs.Bytes.{is_white, trimmed, trimmed_start, trimmed_end, begins_with, ends_with, begins_with_word}
 use Rattle.relay_text.specs.Addresses.{is_empty, is_atext, is_dot}
@@ -16,10 +18,12 @@ use Rattle.relay_text.proofs.Limits.{plain_quotable}
 use Rattle.relay_text.specs.Quotes.{marks_from, is_quote, quote_count}
 use Rattle.relay_text.specs.QuotedStrings.{string_content}
 use Rattle.relay_aliasfile.specs.Items.{is_text, item_texts, item_of, is_item_byte, is_well_quoted, special_item, bracketed_item, address_item}
+use Rattle.relay_aliasfile.specs.AliasFiles.{heading_of, heading_with, heading_at}
+use Rattle.relay_aliasfile.specs.MailboxFiles.{folded_name_of}
 use Rattle.relay_aliasfile.specs.ItemTexts.{behind_comma}
 use Rattle.relay_aliasfile.specs.QuoteStates.{at_start, past}
 use Rattle.relay_aliasfile.proofs.ItemForms.{item_of-plain, first_of-none, ends_one}
-use Rattle.relay_aliasfile.proofs.Outside.{pieces_from, pieces_outside-from}
+use Rattle.relay_aliasfile.proofs.Outside.{first_from, first_is, pieces_from, pieces_outside-from}
 
 -- ---- bytes
 other : (c : ℕ) → is_open_byte c ≡ false → (b : ℕ) → is_open_byte b ≡ true → (b == c) ≡ false
@@ -136,6 +140,25 @@ item_texts-front text (b ∷ bs) more good h = elim (cases_Bool (b == 44)) [
 
 pub front_length : (bytes text : List ℕ) → Some text ≡ plain_front bytes → length text ≤ length bytes
 front_length bytes text h = omega (arith, ap length (front_split bytes text h), length-append text (drop (length text) bytes))
+
+-- ---- the heading of a line on which a colon stands right behind such a text
+first_colon : (text list : List ℕ) → list_all is_open_byte text ≡ true → first_from 58 at_start (text ++ 58 ∷ list) ≡ Some (length text)
+first_colon [] list good = refl
+first_colon (b ∷ bs) list good =
+    let parts = and_parts (is_open_byte b) (list_all is_open_byte bs) good in
+    let here : past at_start b ≡ at_start = stays b (other 34 refl b parts.0) (other 92 refl b parts.0) in
+    rw (other 58 refl b parts.0) (ap (λ s. option_map (λ n. 1 + n) (first_from 58 s (bs ++ 58 ∷ list))) here ∙ ap (option_map (λ n. 1 + n)) (first_colon bs list parts.1) ∙ ap (λ n. Some n) (omega arith))
+
+pub heading_of-open : (text list : List ℕ) → IsTrue (is_open_text text) → heading_of (text ++ 58 ∷ list) ≡ option_map (heading_with list) (folded_name_of text)
+unfolding heading_of
+heading_of-open text list good =
+    let line : List ℕ = text ++ 58 ∷ list in
+    let bytes = (and_parts (not (is_empty text)) (list_all is_open_byte text) good).1 in
+    let before : trimmed_end (take (length text) line) ≡ text = ap trimmed_end (take_at text (58 ∷ list) (length text) refl) ∙ no_end text bytes in
+    let behind : drop (length text + 1) line ≡ list = drop-append-add text (58 ∷ list) 1 in
+    ap (option_and_then (heading_at line)) (first_is 58 line ∙ first_colon text list bytes)
+    ∙ ap (λ l. option_map (heading_with l) (folded_name_of (trimmed_end (take (length text) line)))) behind
+    ∙ ap (λ t. option_map (heading_with list) (folded_name_of t)) before
 
 -- ---- what such a text is, where it begins neither as a file nor as a command
 item_byte : (b : ℕ) → is_open_byte b ≡ true → is_item_byte b ≡ true

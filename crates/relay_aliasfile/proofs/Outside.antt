@@ -118,7 +118,7 @@ from_zero : (o : Option ℕ) → option_map (λ n. 0 + n) o ≡ o
 from_zero None = refl
 from_zero (Some n) = ap (λ m. Some m) (omega arith)
 
-first_is : (byte : ℕ) (text : List ℕ) → slice_get (places_outside byte text) 0 ≡ first_from byte at_start text
+pub first_is : (byte : ℕ) (text : List ℕ) → slice_get (places_outside byte text) 0 ≡ first_from byte at_start text
 first_is byte text = ap (λ ps. slice_get ps 0) (places_outside-from byte text) ∙ first_of_places byte at_start 0 text ∙ from_zero (first_from byte at_start text)
 
 -- past a comma outside quotes a reader stands as at the start

@@ -12,7 +12,6 @@ use crate::entry::Entry;
 use crate::fault::{FaultKind, LineFault};
 use crate::headed_line::HeadedLine;
 use crate::heading::Heading;
-use crate::item_texts::has_items;
 use crate::items::Items;
 use crate::lists::read_entry_items;
 use relay_text::Seq;
@@ -88,11 +87,10 @@ impl AliasTable {
         ensures named { OnOk result (self.new.named ≡ self.old.named) }
         ensures faults { OnOk result (self.new.faults.items ≡ self.old.faults.items ++ list_faults line heading.entry.list.now) }
     {
-        if !has_items(heading.list) {
+        let mut items = Items::new(alloc);
+        if !read_entry_items(alloc, line, heading.list, &mut items, &mut self.faults)? {
             self.add_fault(line, FaultKind::Empty)?;
         }
-        let mut items = Items::new(alloc);
-        read_entry_items(alloc, line, heading.list, &mut items, &mut self.faults)?;
         self.entries.push(Entry {
             name: heading.name,
             line,

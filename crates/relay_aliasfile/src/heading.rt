@@ -1,11 +1,12 @@
 //! The name of an entry, and its list.
-ghost use Rattle.std.specs.Prelude.{◌≡◌, IfOk, option_map};
-ghost use Rattle.relay_aliasfile.specs.AliasFiles.{heading_of};
+ghost use Rattle.std.specs.Prelude.{◌≡◌, ◌∷◌, IfSome, IfOk, option_map};
+ghost use Rattle.relay_aliasfile.specs.AliasFiles.{heading_of, heading_with};
 ghost use Rattle.relay_aliasfile.specs.Headings.{heading_list, heading_value};
+ghost use Rattle.relay_aliasfile.specs.MailboxFiles.{folded_name_of};
 
-use crate::names::folded_name;
+use crate::names::{folded_name, folded_plain_name};
 use crate::quotes::first_outside;
-use relay_text::{Text, trimmed_end};
+use relay_text::{PlainText, Text, trimmed_end};
 use std::alloc::{AllocError, Global};
 
 /// The name of an entry, folded, and its list in place.
@@ -23,16 +24,43 @@ pub(crate) fn heading_in<'a>(
 ) -> Result<Option<Heading<'a>>, AllocError>
     ensures { IfOk result (λ heading. option_map heading_value heading ≡ heading_of text.now) }
 {
+    if let Some((name, list)) = plain_cut(text) {
+        return Ok(named(folded_plain_name(alloc, &name)?, list));
+    }
     let Some(colon) = first_outside(b':', text) else {
         return Ok(None);
     };
-    let Some(name) = folded_name(alloc, trimmed_end(&text[..colon]))? else {
-        return Ok(None);
-    };
-    Ok(Some(Heading {
-        name,
-        list: &text[colon + 1..],
-    }))
+    let name = folded_name(alloc, trimmed_end(&text[..colon]))?;
+    Ok(named(name, &text[colon + 1..]))
+}
+
+/// The heading of a name, where there is one.
+fn named(name: Option<Text>, list: &[u8]) -> Option<Heading<'_>>
+    ensures { option_map heading_value result ≡ option_map (heading_with list.now) name }
+{
+    match name {
+        Some(name) => Some(Heading { name, list }),
+        None => None,
+    }
+}
+
+/// A text without quotes, and what follows a colon right behind it; `None` where the line doesn't begin so.
+fn plain_cut(text: &[u8]) -> Option<(PlainText<'_>, &[u8])>
+    ensures { IfSome result (λ cut. heading_of text.now ≡ option_map (heading_with cut.1.now) (folded_name_of cut.0)) }
+{
+    let name = PlainText::at_front(text)?;
+    let list = behind_colon(&text[name.text().len()..])?;
+    Some((name, list))
+}
+
+/// What follows a colon at the front of a text.
+fn behind_colon(text: &[u8]) -> Option<&[u8]>
+    ensures { IfSome result (λ more. text.now ≡ 58 ∷ more.now) }
+{
+    match text {
+        [b':', more @ ..] => Some(more),
+        _ => None,
+    }
 }
 
 /// The list of the entry on a logical line, in place; `None` where the line has no colon, or no name before it (aliases(5)). `Err`

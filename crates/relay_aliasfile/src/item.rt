@@ -26,7 +26,7 @@ impl MadeWith<Global> for Item {
     ghost is_made_with = { λ item. item ≡ Bare [] };
 
     fn made_with(alloc: Global) -> Item {
-        Item::Bare(Text::of(Vec::new(alloc)))
+        Item::Bare(Text::made_with(alloc))
     }
 }
 

@@ -1,7 +1,6 @@
 //! The texts of a list's items.
-ghost use Rattle.std.specs.Prelude.{◌≡◌, ◌∷◌, ◌++◌, ◌≤◌, ◌<◌, not, [], length, filter, option_map, IfSome, IfNone};
+ghost use Rattle.std.specs.Prelude.{◌≡◌, ◌∷◌, ◌++◌, ◌≤◌, ◌<◌, [], length, filter, option_map, IfSome, IfNone};
 ghost use Rattle.relay_text.specs.Bytes.{trimmed};
-ghost use Rattle.relay_text.specs.Addresses.{is_empty};
 ghost use Rattle.relay_aliasfile.specs.Items.{item_texts, is_text};
 ghost use Rattle.relay_aliasfile.specs.ItemTexts.{behind_comma, bytes_in, texts_left};
 
@@ -29,6 +28,9 @@ impl<'a> ItemTexts<'a> {
         ensures none { IfNone result (texts_left self.old ≡ []) }
         ensures some { IfSome result (λ text. texts_left self.old ≡ bytes_in text ∷ texts_left self.new) }
     {
+        if self.rest.is_empty() {
+            return None;
+        }
         if let Some(text) = self.next_plain() {
             return Some(ItemText::Plain(text));
         }
@@ -94,11 +96,4 @@ fn behind_comma(text: &[u8]) -> Option<&[u8]>
     } else {
         None
     }
-}
-
-/// Whether a list has an item, good or bad.
-pub(crate) fn has_items(list: &[u8]) -> bool
-    ensures { result ≡ not (is_empty (item_texts list.now)) }
-{
-    ItemTexts::new(list).next_text().is_some()
 }

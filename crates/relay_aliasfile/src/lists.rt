@@ -1,6 +1,7 @@
 //! The items of lists, and the faults of bad ones.
-ghost use Rattle.std.specs.Prelude.{◌≡◌, ◌++◌, map, IfOk, OnOk};
-ghost use Rattle.relay_aliasfile.specs.Items.{item_of, good_items, bad_items};
+ghost use Rattle.std.specs.Prelude.{◌≡◌, ◌++◌, map, not, IfOk, OnOk};
+ghost use Rattle.relay_text.specs.Addresses.{is_empty};
+ghost use Rattle.relay_aliasfile.specs.Items.{item_of, item_texts, good_items, bad_items};
 ghost use Rattle.relay_aliasfile.specs.IncludeFiles.{bad_item_faults};
 ghost use Rattle.relay_aliasfile.specs.ItemTexts.{bytes_in};
 ghost use Rattle.relay_aliasfile.specs.Lists.{text_faults};
@@ -12,24 +13,28 @@ use crate::item_texts::ItemTexts;
 use crate::items::Items;
 use std::alloc::{AllocError, Global};
 
-/// Reads the items of an entry's list. A bad item is a fault at the line, and doesn't touch the others.
+/// Reads the items of an entry's list, and answers whether it has any, good or bad. A bad item is a fault at the line, and doesn't touch
+/// the others.
 pub(crate) fn read_entry_items(
     alloc: Global,
     line: usize,
     list: &[u8],
     items: &mut Items,
     faults: &mut Vec<LineFault>,
-) -> Result<(), AllocError>
+) -> Result<bool, AllocError>
+    ensures some { IfOk result (λ has_items. has_items ≡ not (is_empty (item_texts list.now))) }
     ensures items { OnOk result (items.new ≡ items.old ++ good_items list.now) }
     ensures faults { OnOk result (faults.new.items ≡ faults.old.items ++ bad_item_faults line list.now) }
 {
+    let mut has_items = false;
     let mut texts = ItemTexts::new(list);
     while let Some(text) = texts.next_text() {
+        has_items = true;
         if let Some(item) = read_item(alloc, line, text, faults)? {
             items.push(item)?;
         }
     }
-    Ok(())
+    Ok(has_items)
 }
 
 /// The item that a text is; where it is none, a fault at the line.

@@ -7,7 +7,7 @@ use Rattle.std.proofs.lemmas.List.Elements.{All-push}
 use Rattle.relay_delivery.specs.declared.sort_key.SortKey.{SortKey}
 use Rattle.relay_delivery.specs.Ranks.{KeyParts, key_parts, AreKeysOf}
 
-pub parts_are : (k : SortKey) (g : ℕ) (t : List ℕ) → k.group ≡ g → k.text.items ≡ t → key_parts k ≡ record { group = g; text = t }
+pub parts_are : (k : SortKey) (g : ℕ) (t : List ℕ) → k.group ≡ g → k.text.now ≡ t → key_parts k ≡ record { group = g; text = t }
 parts_are k g t e f = cc
 
 module _ {X : Type 0} (key_of : X → KeyParts) (P : X → Type 0) (values : List X) where

@@ -18,3 +18,5 @@ pub mod Counterparts
 pub mod SamePlaced
 pub mod Turns
 pub mod Written
+pub mod PathFacts
+pub mod MarkFacts

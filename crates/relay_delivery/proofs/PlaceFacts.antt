@@ -1,7 +1,7 @@
 -- What goes out is the same once senders, routes and recipients have their places in order.
 use Rattle.std.proofs.Common.{◌≡◌, ℕ, ◌<◌, List, length, get_or, map, Some, sym, ap, subst, ◌∙◌, arith}
 use Rattle.std.specs.Prelude.{◌↔◌, All, AllPairs, Contains, slice_get, option_map}
-use Rattle.std.proofs.lemmas.List.{length-map, get_or-map}
+use Rattle.std.proofs.lemmas.List.{length-map, get_or-map, get_or_default}
 use Rattle.std.proofs.lemmas.List.Elements.{All-map, All-contains, Contains-get_or}
 use Rattle.std.proofs.lemmas.Option.{slice_get-map, slice_get-get_or, slice_get_within, same_Some, get_or_from_slice_get}
 use Rattle.relay_text.specs.AddressParts.{AddressParts}
@@ -20,6 +20,12 @@ pub place_within : {X : Type 0} (old new : List X) (place_of : List ℕ) → Hav
 place_within old new place_of h k inside =
     let x = element old k inside in
     slice_get_within new (get_or place_of k 0) x.0 (h.moved k inside ∙ within old k x.0 x.1 inside)
+
+pub places_within : (old new : List Routed) (places : List ℕ) → AreRecipientsInOrder old new places → All (λ p. p < length new) places
+places_within old new places t = λ k d inside.
+    let long : length places ≡ length (map routed_parts old) = t.moved.long in
+    let below = place_within (map routed_parts old) (map routed_parts new) places t.moved k (omega (arith, long, inside)) in
+    omega (arith, below, length-map new routed_parts, get_or_default places k d 0 inside)
 
 contains_map : {X Y : Type 0} (f : X → Y) (xs : List X) (x : X) → Contains xs x → Contains (map f xs) (f x)
 contains_map f xs x has = (has.0, (let inside = has.1 in omega (arith, length-map xs f, inside)), get_or-map f xs has.0 x (f x) has.1 ∙ ap f has.2)

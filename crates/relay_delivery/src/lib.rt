@@ -11,6 +11,7 @@ mod delivery;
 mod group_numbers;
 mod keyed;
 mod limits;
+mod marks;
 mod picks;
 mod placing;
 mod planned;

@@ -48,10 +48,12 @@ impl<'a> Placing<'a> {
         let moved = with_routes(alloc, recipients, route_order.place_of.as_slice())?;
         let recipient_order = RecipientOrder::of(alloc, moved.as_slice())?;
         let stops = stops_in_order(
+            alloc,
             stops,
             sender_order.place_of.as_slice(),
             recipient_order.place_of.as_slice(),
-        );
+            recipient_order.recipients.len(),
+        )?;
         Ok(Placing {
             senders: sender_order.senders,
             routes: route_order.routes,

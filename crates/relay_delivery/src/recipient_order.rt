@@ -2,14 +2,15 @@
 ghost use Rattle.std.specs.Prelude.{◌≡◌, ◌<◌, ◌≤◌, ◌^◌, length, map, All, IfOk, IsTrue};
 ghost use Rattle.relay_text.specs.Addresses.{is_address};
 ghost use Rattle.relay_delivery.specs.Ranks.{AreKeysOf};
-ghost use Rattle.relay_delivery.specs.Orders.{recipient_key, moved_to, AreRecipientsInOrder};
+ghost use Rattle.relay_delivery.specs.Orders.{recipient_key, sender_of, moved_to, AreRecipientsInOrder};
+ghost use Rattle.relay_delivery.specs.WrittenPaths.{paths_of};
 
 use crate::picks::picked;
 use crate::ranks::Ranks;
 use crate::routed::Routed;
 use crate::sort_key::SortKey;
-use crate::written_path::address_text;
-use relay_text::one_spelling;
+use crate::written_path::split_path;
+use relay_text::{one_spelling, write_path};
 use std::alloc::{AllocError, Global};
 
 /// Recipients in order, each once, and where each of them stands there, by its old number.
@@ -38,19 +39,37 @@ pub fn with_routes<'a>(
     Ok(moved)
 }
 
-/// What recipients are sorted by.
-fn recipient_keys(alloc: Global, recipients: &[Routed]) -> Result<Vec<SortKey>, AllocError>
+/// The written paths of recipients, one behind the other.
+fn recipient_paths(alloc: Global, recipients: &[Routed]) -> Result<Vec<u8>, AllocError>
+    ensures { IfOk result (λ paths. paths.items ≡ paths_of (map sender_of recipients.now)) }
+{
+    let mut paths = Vec::new(alloc);
+    for recipient in recipients {
+        write_path(Some(recipient.address), &mut paths)?;
+    }
+    Ok(paths)
+}
+
+/// What recipients are sorted by, from their written paths.
+fn recipient_keys<'t>(
+    alloc: Global,
+    recipients: &[Routed],
+    paths: &'t [u8],
+) -> Result<Vec<SortKey<'t>>, AllocError>
+    requires paths { paths.now ≡ paths_of (map sender_of recipients.now) }
     ensures keys { IfOk result (λ keys. AreKeysOf (map recipient_key recipients.now) keys.items) }
     ensures few { IfOk result (λ keys. length keys.items ≤ 2 ^ 32) }
     ensures valid { IfOk result (λ keys. All (λ r. IsTrue (is_address r.address.now)) recipients.now) }
 {
     let mut keys = Vec::with_capacity(alloc, recipients.len())?;
+    let mut rest = paths;
     for (index, recipient) in recipients.iter().enumerate() {
         let Ok(number) = u32::try_from(index) else {
             return Err(AllocError);
         };
-        let text = address_text(alloc, recipient.address)?;
-        keys.push(SortKey::new(recipient.route, text, number))?;
+        let (path, behind) = split_path(rest, Some(recipient.address));
+        keys.push(SortKey::new(recipient.route, path, number))?;
+        rest = behind;
     }
     Ok(keys)
 }
@@ -61,7 +80,9 @@ impl<'a> RecipientOrder<'a> {
         ensures { IfOk result (λ order. AreRecipientsInOrder recipients.now order.recipients.items order.place_of.items) }
     {
         one_spelling();
-        let Ranks { order, place_of } = Ranks::of(alloc, recipient_keys(alloc, recipients)?)?;
+        let paths = recipient_paths(alloc, recipients)?;
+        let keys = recipient_keys(alloc, recipients, &paths)?;
+        let Ranks { order, place_of } = Ranks::of(alloc, keys)?;
         let recipients = picked(alloc, recipients, order.as_slice())?;
         Ok(RecipientOrder {
             recipients,

@@ -29,7 +29,7 @@ fn transport_rank(transport: Transport) -> u32
 }
 
 /// What routes are sorted by.
-fn route_keys(alloc: Global, routes: &[Route]) -> Result<Vec<SortKey>, AllocError>
+fn route_keys<'t>(alloc: Global, routes: &'t [Route]) -> Result<Vec<SortKey<'t>>, AllocError>
     ensures keys { IfOk result (λ keys. AreKeysOf (map route_key routes.now) keys.items) }
     ensures few { IfOk result (λ keys. length keys.items ≤ 2 ^ 32) }
 {
@@ -38,7 +38,7 @@ fn route_keys(alloc: Global, routes: &[Route]) -> Result<Vec<SortKey>, AllocErro
         let Ok(number) = u32::try_from(index) else {
             return Err(AllocError);
         };
-        let nexthop = Vec::from_slice(alloc, route.nexthop.as_bytes())?;
+        let nexthop = route.nexthop.as_bytes();
         keys.push(SortKey::new(transport_rank(route.transport), nexthop, number))?;
     }
     Ok(keys)

@@ -1,14 +1,15 @@
 //! Senders in the order of their written paths.
-ghost use Rattle.std.specs.Prelude.{◌≤◌, ◌^◌, length, map, All, IfOk};
+ghost use Rattle.std.specs.Prelude.{◌≡◌, ◌≤◌, ◌^◌, length, map, All, IfOk};
 ghost use Rattle.relay_delivery.specs.Placings.{senders_of, IsSender};
 ghost use Rattle.relay_delivery.specs.Ranks.{AreKeysOf};
 ghost use Rattle.relay_delivery.specs.Orders.{sender_key, AreSendersInOrder};
+ghost use Rattle.relay_delivery.specs.WrittenPaths.{paths_of};
 
 use crate::picks::picked;
 use crate::ranks::Ranks;
 use crate::sort_key::SortKey;
-use crate::written_path::sender_text;
-use relay_text::{Address, one_spelling};
+use crate::written_path::split_path;
+use relay_text::{Address, one_spelling, write_path};
 use std::alloc::{AllocError, Global};
 
 /// Senders in order, and where each of them stands there, by its old number.
@@ -18,18 +19,37 @@ pub struct SenderOrder<'a> {
     pub place_of: Vec<u32>,
 }
 
-/// What senders are sorted by.
-fn sender_keys(alloc: Global, senders: &[Option<&Address>]) -> Result<Vec<SortKey>, AllocError>
+/// The written paths of senders, one behind the other.
+fn sender_paths(alloc: Global, senders: &[Option<&Address>]) -> Result<Vec<u8>, AllocError>
+    ensures { IfOk result (λ paths. paths.items ≡ paths_of (senders_of senders.now)) }
+{
+    let mut paths = Vec::new(alloc);
+    for sender in senders {
+        write_path(*sender, &mut paths)?;
+    }
+    Ok(paths)
+}
+
+/// What senders are sorted by, from their written paths.
+fn sender_keys<'t>(
+    alloc: Global,
+    senders: &[Option<&Address>],
+    paths: &'t [u8],
+) -> Result<Vec<SortKey<'t>>, AllocError>
+    requires paths { paths.now ≡ paths_of (senders_of senders.now) }
     ensures keys { IfOk result (λ keys. AreKeysOf (map sender_key (senders_of senders.now)) keys.items) }
     ensures few { IfOk result (λ keys. length keys.items ≤ 2 ^ 32) }
     ensures valid { IfOk result (λ keys. All IsSender (senders_of senders.now)) }
 {
     let mut keys = Vec::with_capacity(alloc, senders.len())?;
+    let mut rest = paths;
     for (index, sender) in senders.iter().enumerate() {
         let Ok(number) = u32::try_from(index) else {
             return Err(AllocError);
         };
-        keys.push(SortKey::new(0, sender_text(alloc, *sender)?, number))?;
+        let (path, behind) = split_path(rest, *sender);
+        keys.push(SortKey::new(0, path, number))?;
+        rest = behind;
     }
     Ok(keys)
 }
@@ -40,7 +60,9 @@ impl<'a> SenderOrder<'a> {
         ensures { IfOk result (λ order. AreSendersInOrder (senders_of senders.now) (senders_of order.senders.items) order.place_of.items) }
     {
         one_spelling();
-        let Ranks { order, place_of } = Ranks::of(alloc, sender_keys(alloc, senders)?)?;
+        let paths = sender_paths(alloc, senders)?;
+        let keys = sender_keys(alloc, senders, &paths)?;
+        let Ranks { order, place_of } = Ranks::of(alloc, keys)?;
         let senders = picked(alloc, senders, order.as_slice())?;
         Ok(SenderOrder { senders, place_of })
     }

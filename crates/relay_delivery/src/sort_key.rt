@@ -3,30 +3,30 @@ ghost use Rattle.std.specs.Prelude.{◌≡◌, ◌<◌, ℕ, slice_index};
 ghost use Rattle.relay_delivery.specs.Fronts.{front_number};
 
 /// A group and a text, whose bytes order what is in one group, beside the number of what they stand for.
-#[derive(Drop)]
+#[derive(Clone, Copy, Drop)]
 #[derive_where(PartialEq, Eq, PartialOrd, Ord)]
-pub struct SortKey {
+pub struct SortKey<'t> {
     pub group: u32,
-    /// The text's first bytes as a number. Where they differ, a comparison reads no memory but the two values.
-    front: u64,
-    pub text: Vec<u8>,
     #[derive_where(skip)]
     pub number: u32,
-    ghost front_of_text: { front ≡ front_number 8 text.items },
-    ghost bytes: { (k : ℕ) → slice_index text.items k < 256 },
+    /// The text's first bytes as a number. Where they differ, a comparison reads no memory but the two values.
+    front: u64,
+    pub text: &'t [u8],
+    ghost front_of_text: { front ≡ front_number 8 text.now },
+    ghost bytes: { (k : ℕ) → slice_index text.now k < 256 },
 }
 
-impl SortKey {
-    pub fn new(group: u32, text: Vec<u8>, number: u32) -> SortKey
+impl<'t> SortKey<'t> {
+    pub fn new(group: u32, text: &'t [u8], number: u32) -> SortKey<'t>
         ensures group { result.group ≡ group }
-        ensures text { result.text.items ≡ text.items }
+        ensures text { result.text.now ≡ text.now }
         ensures number { result.number ≡ number }
     {
         SortKey {
             group,
-            front: front_number(text.as_slice()),
-            text,
             number,
+            front: front_number(text),
+            text,
         }
     }
 }

@@ -1,10 +1,12 @@
 -- Texts and their ways as pairs.
 use Rattle.std.proofs.Common.{◌≡◌, ℕ, ◌+◌, ◌-◌, ◌<◌, ◌≤◌, suc, Bool, true, false, cond, List, [], ◌∷◌, ◌++◌, length, get_or, refl, sym, ap, ◌∙◌, arith, inl, inr, Ok, Err}
-use Rattle.std.specs.Prelude.{◌⊎◌, ◌==◌, Option, Some, None, zip}
+use Rattle.std.specs.Prelude.{◌⊎◌, ◌==◌, ◌≢◌, Option, Some, None, zip, slice_get, AllPairs}
 use Rattle.std.specs.List.{position_from}
 use Rattle.std.specs.Str.{bytes_eq}
 use Rattle.std.proofs.lemmas.Iterator.Adapters.{position_from-zero}
 use Rattle.std.proofs.lemmas.Slice.Eq.{bytes_eq-Decides}
+use Rattle.std.proofs.lemmas.Option.{get_or_from_slice_get, slice_get_within}
+use Rattle.relay_chains.proofs.Places.{number_of-at}
 use Rattle.relay_chains.specs.declared.fault.ChainFault.TheVariants.{Full}
 use Rattle.relay_chains.specs.Keys.{Insertion, number_of, insertion, insertion_at, Inserts}
 use Rattle.relay_destinations.specs.declared.way.Way.{Way}
@@ -52,6 +54,13 @@ pair_found ks ts q n d same has =
     let found = found_from 0 ks ts q n d same (sym (position_from-zero (bytes_eq q) ks) ∙ has) in
     let here : n - 0 ≡ n = omega arith in
     (omega (arith, found.1, same), found.2 ∙ ap (λ (i : ℕ). Some (get_or ts i d)) here)
+
+-- The same of a number under which distinct texts have it.
+pub pair_at : (ks : List (List ℕ)) (ts : List Way) (q : List ℕ) (n : ℕ) (d : Way) → length ts ≡ length ks → AllPairs (λ a b. a ≢ b) ks → slice_get ks n ≡ Some q
+    → way_in (zip ks ts) q ≡ Some (get_or ts n d)
+pair_at ks ts q n d same distinct has =
+    let below : n < length ks = slice_get_within ks n q has in
+    (pair_found ks ts q n d same (number_of-at bytes_eq bytes_eq-Decides ks q [] distinct n below (get_or_from_slice_get ks n q [] has))).1
 
 pub pair_missing : (ks : List (List ℕ)) (ts : List Way) (q : List ℕ) → number_of bytes_eq ks q ≡ None → way_in (zip ks ts) q ≡ None
 pair_missing ks ts q none = missing_from 0 ks ts q (sym (position_from-zero (bytes_eq q) ks) ∙ none)

@@ -69,7 +69,7 @@ impl<'r> Destinations<'r> {
         if !self.goes_by_domain {
             return self.numbered.find(alloc, address);
         }
-        if let Some(way) = self.by_domain.find(address.domain()) {
+        if let Some(way) = self.by_domain.recall(address.domain()) {
             return Ok(way);
         }
         let way = self.numbered.find(alloc, address)?;
@@ -82,7 +82,7 @@ impl<'r> Destinations<'r> {
         ensures way { IfOk result (λ way. Means self.new way (route_via_of self.old.routing self.old.via address.now)) }
         ensures kept { Keeps self.old self.new }
     {
-        if let Some(way) = self.by_mailbox_domain.find(address.domain()) {
+        if let Some(way) = self.by_mailbox_domain.recall(address.domain()) {
             return Ok(way);
         }
         let way = self.numbered.find_mailbox(alloc, address)?;

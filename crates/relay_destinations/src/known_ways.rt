@@ -8,6 +8,8 @@ use std::marker::Model;
 pub struct KnownWays {
     texts: Interner,
     ways: Vec<Way>,
+    /// The number of the text that was recalled last: addresses of one domain mostly come one after another.
+    latest: u32,
 }
 
 impl Model for KnownWays {
@@ -21,9 +23,10 @@ impl Model for KnownWays {
     ghost invariant = { λ a. length a.ways.items ≡ length a.texts.keys };
 }
 
-ghost use Rattle.std.specs.Prelude.{◌≡◌, [], ◌∷◌, ◌++◌, None, IfOk, OnOk, OnErr};
+ghost use Rattle.std.specs.Prelude.{◌≡◌, [], ◌∷◌, ◌++◌, None, Some, IfSome, IfOk, OnOk, OnErr};
 ghost use Rattle.relay_destinations.specs.KnownWays.{way_in};
 
+use relay_text::same_bytes;
 use std::alloc::{AllocError, Global};
 
 impl KnownWays {
@@ -34,6 +37,7 @@ impl KnownWays {
         Ok(KnownWays {
             texts: Interner::with_key(alloc, key, 1, u32::MAX as usize - 1)?,
             ways: Vec::new(alloc),
+            latest: 0,
         })
     }
 
@@ -42,6 +46,31 @@ impl KnownWays {
         ensures { result ≡ way_in self.now text.now }
     {
         let number = self.texts.find(text)?;
+        Some(self.ways[number as usize])
+    }
+
+    /// The way of a text where that was the last one recalled.
+    fn latest_way(&self, text: &[u8]) -> Option<Way>
+        ensures { IfSome result (λ way. way_in self.now text.now ≡ Some way) }
+    {
+        // For what the call says alone: the texts are distinct.
+        let _ = self.texts.len();
+        if !same_bytes(self.texts.text(self.latest)?, text) {
+            return None;
+        }
+        Some(self.ways[self.latest as usize])
+    }
+
+    /// The way of a text, as `find` gives it, without its hash where it was the last one recalled.
+    pub fn recall(&mut self, text: &[u8]) -> Option<Way>
+        ensures found { result ≡ way_in self.old text.now }
+        ensures kept { self.new ≡ self.old }
+    {
+        if let Some(way) = self.latest_way(text) {
+            return Some(way);
+        }
+        let number = self.texts.find(text)?;
+        self.latest = number;
         Some(self.ways[number as usize])
     }
 

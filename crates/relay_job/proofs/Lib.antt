@@ -1,7 +1,9 @@
 pub mod Faults
+pub mod ContentFacts
 pub mod EnvelopeFacts
 pub mod HeadingFacts
 pub mod JobFacts
+pub mod LineEndFacts
 pub mod ParseFacts
 pub mod TablesFacts
 pub mod PathFacts

@@ -6,6 +6,7 @@ use Rattle.relay_text.specs.Lines.{line_text}
 use Rattle.relay_text.specs.AddressParts.{AddressParts}
 use Rattle.relay_text.specs.declared.lines.Line.{Line}
 use Rattle.relay_job.specs.declared.place.Place.{Place}
+use Rattle.relay_job.specs.declared.command.Command.{Command}
 use Rattle.relay_job.specs.declared.fault.RunFault.{RunFault}
 use Rattle.relay_job.specs.declared.fault.RunFault.TheVariants.{Memory}
 use Rattle.relay_job.specs.Settings.{breaks_settings, setting_lines}
@@ -33,6 +34,9 @@ commands_of lines = filter (λ l. not (list_all is_white l.text)) lines
 
 abbrev pub commands_at : Place → List Line
 commands_at place = commands_of (lines_of (content_at place))
+
+abbrev pub line_in : Command → Line
+line_in c = record { number = c.number; text = c.text.now }
 
 -- the recipients that commands name, and the numbers of those that name none
 abbrev pub recipients_of : List ℕ → List Line → List AddressParts

@@ -1,5 +1,5 @@
 //! The bytes of sections.
-ghost use Rattle.std.specs.Prelude.{◌≡◌, flat_map, IfOk};
+ghost use Rattle.std.specs.Prelude.{◌≡◌, flat_map, IfOk, IfSome};
 ghost use Rattle.relay_job.specs.JobText.{content_of};
 ghost use Rattle.relay_job.specs.Places.{content_at};
 
@@ -7,8 +7,33 @@ use crate::place::Place;
 use relay_text::Text;
 use std::alloc::{AllocError, Global};
 
-/// The bytes of the section behind a place, each line as it stands for itself.
+/// The bytes of a section as they stand, where no line of it begins with `%%`.
+fn plain_bytes<'a>(section: &Place<'a>) -> Option<&'a [u8]>
+    ensures { IfSome result (λ bytes. bytes.now ≡ flat_map (λ l. content_of l.raw) (content_at section.now)) }
+{
+    let mut place = *section;
+    while let Some((line, after)) = place.split_content() {
+        if line.is_doubled() {
+            return None;
+        }
+        place = after;
+    }
+    Some(&section.rest[..section.rest.len() - place.rest.len()])
+}
+
+/// The bytes of the section behind a place, each line as it stands for itself. Most sections have no line that begins with `%%`, and
+/// are copied in one piece.
 pub fn section_bytes(alloc: Global, section: Place<'_>) -> Result<Text, AllocError>
+    ensures { IfOk result (λ bytes. bytes ≡ flat_map (λ l. content_of l.raw) (content_at section.entry)) }
+{
+    match plain_bytes(&section) {
+        Some(bytes) => Text::copy_of(alloc, bytes),
+        None => undone_bytes(alloc, section),
+    }
+}
+
+/// The same, line by line.
+fn undone_bytes(alloc: Global, section: Place<'_>) -> Result<Text, AllocError>
     ensures { IfOk result (λ bytes. bytes ≡ flat_map (λ l. content_of l.raw) (content_at section.entry)) }
 {
     let mut bytes = Vec::new(alloc);

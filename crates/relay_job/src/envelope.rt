@@ -1,9 +1,9 @@
 //! The envelope of a job.
+use crate::command::Command;
 use crate::fault::RunFault;
 use crate::place::Place;
-use crate::raw_line::RawLine;
 use crate::reason::Reason;
-use relay_text::{Address, Seq, TextFault, begins_with_word, parse_path, trimmed_end};
+use relay_text::{Address, Seq};
 use std::alloc::{AllocError, Global};
 
 /// The sender, none for the null path, and the recipients of an envelope (RFC 5321 section 4.1.1).
@@ -20,52 +20,6 @@ ghost use Rattle.relay_job.specs.Places.{line_of};
 ghost use Rattle.relay_job.specs.Reasons.{BreaksEnvelope};
 ghost use Rattle.relay_job.specs.JobParts.{command_of, commands_at, recipients_of, bad_recipients, first_bad_command, sender_of, Stops};
 
-/// The next line of a section that isn't of white space alone, and the place behind it.
-fn split_command<'a>(section: &Place<'a>) -> Option<(RawLine<'a>, Place<'a>)>
-    ensures none { IfNone result (commands_at section.now ≡ []) }
-    ensures lines { IfSome result (λ split. commands_at section.now ≡ command_of (line_of split.0) ∷ commands_at split.1) }
-    ensures shorter { IfSome result (λ split. length split.1.rest.now < length section.now.rest.now) }
-{
-    let mut place = *section;
-    while let Some((line, after)) = place.split_content() {
-        if !line.is_blank_content() {
-            return Some((line, after));
-        }
-        place = after;
-    }
-    None
-}
-
-/// The path of a command, whose word is given in lower case; `None` where the line isn't that command and a path.
-fn command_path(
-    alloc: Global,
-    word: &[u8],
-    origin: &[u8],
-    line: &[u8],
-) -> Result<Option<Option<Address>>, AllocError>
-    requires { IsTrue (is_origin origin.now) }
-    ensures { IfOk result (λ path. path ≡ command_path word.now origin.now line.now) }
-{
-    if !begins_with_word(word, line) {
-        return Ok(None);
-    }
-    match parse_path(alloc, trimmed_end(&line[word.len()..]), origin) {
-        Ok(path) => Ok(Some(path)),
-        Err(TextFault::Memory) => Err(AllocError),
-        Err(_) => Ok(None),
-    }
-}
-
-fn recipient(alloc: Global, origin: &[u8], line: &[u8]) -> Result<Option<Address>, AllocError>
-    requires { IsTrue (is_origin origin.now) }
-    ensures { IfOk result (λ recipient. recipient ≡ recipient_in origin.now line.now) }
-{
-    match command_path(alloc, b"rcpt to:", origin, line)? {
-        Some(path) => Ok(path),
-        None => Ok(None),
-    }
-}
-
 /// The recipients of the commands behind a place.
 fn read_recipients(
     alloc: Global,
@@ -80,11 +34,11 @@ fn read_recipients(
 {
     let mut recipients = Vec::new(alloc);
     let mut place = section;
-    while let Some((line, after)) = split_command(&place) {
+    while let Some((command, after)) = Command::split_from(&place) {
         place = after;
-        match recipient(alloc, origin, line.content_text())? {
+        match command.recipient(alloc, origin)? {
             Some(address) => recipients.push(address)?,
-            None => return Err(RunFault::BadEnvelope(line.number)),
+            None => return Err(RunFault::BadEnvelope(command.number)),
         }
     }
     Ok(recipients)
@@ -100,12 +54,12 @@ impl Envelope {
         ensures unbroken { IfOk result (λ envelope. first_bad_command origin.now section.entry.line (commands_at section.entry) ≡ None) }
         ensures err { IfErr result (λ fault. Stops (option_map RunFault.BadEnvelope (first_bad_command origin.now section.entry.line (commands_at section.entry))) fault) }
     {
-        let Some((line, after)) = split_command(&section) else {
+        let Some((command, after)) = Command::split_from(&section) else {
             return Err(RunFault::BadEnvelope(section.line));
         };
-        let path = command_path(alloc, b"mail from:", origin, line.content_text())?;
+        let path = command.sender(alloc, origin)?;
         let Some(sender) = path else {
-            return Err(RunFault::BadEnvelope(line.number));
+            return Err(RunFault::BadEnvelope(command.number));
         };
         let recipients = read_recipients(alloc, after, origin)?;
         if recipients.is_empty() {
@@ -122,14 +76,14 @@ impl Envelope {
         requires { IsTrue (is_origin origin.now) }
         ensures { IfOk result (λ reason. (number : ℕ) → first_bad_command origin.now section.entry.line (commands_at section.entry) ≡ Some number → BreaksEnvelope origin.now number section.entry.line (commands_at section.entry) reason) }
     {
-        let Some((line, after)) = split_command(&section) else {
+        let Some((command, after)) = Command::split_from(&section) else {
             return Ok(Reason::TooFewCommands);
         };
-        let path = command_path(alloc, b"mail from:", origin, line.content_text())?;
+        let path = command.sender(alloc, origin)?;
         let Some(_sender) = path else {
             return Ok(Reason::NotSender);
         };
-        match split_command(&after) {
+        match Command::split_from(&after) {
             Some(_) => Ok(Reason::NotRecipient),
             None => Ok(Reason::TooFewCommands),
         }

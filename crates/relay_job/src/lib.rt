@@ -1,6 +1,7 @@
 //! What a job's text says: its settings, the bytes of its sections and include files, and its envelope.
 #![tactic(auto)]
 
+mod command;
 mod content;
 mod defaults;
 mod domains;

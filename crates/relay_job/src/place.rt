@@ -15,7 +15,7 @@ pub struct Place<'a> {
 }
 
 impl<'a> Place<'a> {
-    ghost use Rattle.std.specs.Prelude.{◌≡◌, [], ◌∷◌, IfSome, IfNone};
+    ghost use Rattle.std.specs.Prelude.{◌≡◌, [], ◌∷◌, ◌++◌, IfSome, IfNone};
     ghost use Rattle.relay_job.specs.JobText.{job_lines};
     ghost use Rattle.relay_job.specs.Places.{line_of, lines_at, content_at};
 
@@ -31,10 +31,12 @@ impl<'a> Place<'a> {
     }
 
     /// The next line, and the place behind it; `None` at the job's end.
+    #[inline]
     pub fn split(&self) -> Option<(RawLine<'a>, Place<'a>)>
         ensures none { IfNone result (lines_at self.now ≡ []) }
         ensures lines { IfSome result (λ split. lines_at self.now ≡ line_of split.0 ∷ lines_at split.1) }
         ensures number { IfSome result (λ split. split.1.line ≡ split.0.number) }
+        ensures bytes { IfSome result (λ split. self.now.rest.now ≡ split.0.raw.now ++ split.1.rest.now) }
         ensures shorter { IfSome result (λ split. length split.1.rest.now < length self.now.rest.now) }
     {
         let (raw, rest) = split_line(self.rest)?;
@@ -43,9 +45,11 @@ impl<'a> Place<'a> {
     }
 
     /// The next line of this section, and the place behind it; `None` at the next heading and at the job's end.
+    #[inline]
     pub fn split_content(&self) -> Option<(RawLine<'a>, Place<'a>)>
         ensures none { IfNone result (content_at self.now ≡ []) }
         ensures lines { IfSome result (λ split. content_at self.now ≡ line_of split.0 ∷ content_at split.1) }
+        ensures bytes { IfSome result (λ split. self.now.rest.now ≡ split.0.raw.now ++ split.1.rest.now) }
         ensures shorter { IfSome result (λ split. length split.1.rest.now < length self.now.rest.now) }
     {
         let (line, after) = self.split()?;

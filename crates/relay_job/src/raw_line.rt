@@ -1,36 +1,39 @@
 //! Lines of a job.
-use relay_text::line_text;
+ghost use Rattle.std.specs.Prelude.{◌+◌, ◌≤◌, ◌==◌, length};
+ghost use Rattle.std.specs.List.{position_or_len};
 
 /// A line of a job: its number, from 1, and its bytes with its end.
 #[derive(Clone, Copy)]
 pub struct RawLine<'a> {
     pub number: usize,
     pub raw: &'a [u8],
+    ghost ends_once: { length raw.now ≤ position_or_len (λ b. b == 10) raw.now + 1 },
 }
 
-ghost use Rattle.std.specs.Prelude.{◌≡◌};
-ghost use Rattle.std.specs.List.{list_all};
-ghost use Rattle.relay_text.specs.Bytes.{is_white};
-ghost use Rattle.relay_text.specs.Lines.{line_text};
-ghost use Rattle.relay_job.specs.JobText.{is_heading, text_of, content_of};
-ghost use Rattle.relay_job.specs.Places.{line_of};
-
 impl<'a> RawLine<'a> {
+    ghost use Rattle.std.specs.Prelude.{◌≡◌, codes};
+    ghost use Rattle.std.specs.List.{list_all};
+    ghost use Rattle.relay_text.specs.Bytes.{is_white, begins_with};
+    ghost use Rattle.relay_text.specs.Lines.{line_text};
+    ghost use Rattle.relay_job.specs.JobText.{is_heading, text_of, content_of};
+    ghost use Rattle.relay_job.specs.Places.{line_of};
+
     /// The line without its end.
     pub fn text(&self) -> &'a [u8]
         ensures { result.now ≡ text_of (line_of self.now) }
     {
-        line_text(self.raw)
+        without_end(self.raw)
     }
 
     /// Whether the line is a heading: its first byte is `%` and its second isn't. Few lines begin with `%`, and the end of no other is
     /// looked for.
+    #[inline]
     pub fn is_heading(&self) -> bool
         ensures { result ≡ is_heading (line_of self.now) }
     {
-        if !self.raw.starts_with(b"%") {
+        let [b'%', ..] = self.raw else {
             return false;
-        }
+        };
         let text = self.text();
         text.starts_with(b"%") && !text.starts_with(b"%%")
     }
@@ -45,29 +48,51 @@ impl<'a> RawLine<'a> {
     }
 
     /// The line as it stands for itself, without its end.
+    #[inline]
     pub fn content_text(&self) -> &'a [u8]
         ensures { result.now ≡ line_text (content_of self.now.raw.now) }
     {
-        line_text(self.content())
+        without_end(self.content())
     }
 
-    /// Whether the line, as it stands for itself, is of white space alone.
-    pub fn is_blank_content(&self) -> bool
-        ensures { result ≡ list_all is_white (line_text (content_of self.now.raw.now)) }
+    /// Whether the line begins with `%%`, and so stands for another.
+    pub fn is_doubled(&self) -> bool
+        ensures { result ≡ begins_with (codes "%%") self.now.raw.now }
     {
-        self.content_text()
-            .iter()
-            .all(|byte| *byte == b' ' || *byte == b'\t')
+        matches!(self.raw, [b'%', b'%', ..])
     }
 
     /// The line's bytes as they stand for themselves: without the first `%` of a leading `%%`.
     pub fn content(&self) -> &'a [u8]
-        ensures { result.now ≡ content_of self.now.raw.now }
+        ensures bytes { result.now ≡ content_of self.now.raw.now }
+        ensures ends_once { length result.now ≤ position_or_len (λ b. b == 10) result.now + 1 }
     {
-        if self.raw.starts_with(b"%%") {
+        if self.is_doubled() {
             &self.raw[1..]
         } else {
             self.raw
         }
     }
+}
+
+ghost use Rattle.std.specs.Prelude.{◌≡◌, ◌-◌, take, slice_index, if◌then◌else◌};
+ghost use Rattle.relay_text.specs.Lines.{line_text};
+
+/// A line without its end, where an LF stands at the line's end or nowhere: no more than the last two bytes are looked at.
+fn without_end(line: &[u8]) -> &[u8]
+    requires { length line.now ≤ position_or_len (λ b. b == 10) line.now + 1 }
+    ensures { result.now ≡ line_text line.now }
+{
+    without_byte(b'\r', without_byte(b'\n', line))
+}
+
+/// A text without its last byte, where it is this one.
+fn without_byte(byte: u8, text: &[u8]) -> &[u8]
+    ensures { result.now ≡ (if slice_index text.now (length text.now - 1) == byte then take (length text.now - 1) text.now else text.now) }
+{
+    let len = text.len();
+    if len == 0 || text[len - 1] != byte {
+        return text;
+    }
+    &text[..len - 1]
 }

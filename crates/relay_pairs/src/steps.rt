@@ -78,7 +78,6 @@ fn push_keys(sender: u32, nodes: &[u32], keys: &mut Vec<Key>) -> Result<(), Allo
     requires { All (λ n. n < 2 ^ 24) nodes.now }
     ensures { OnOk result (keys.new.items ≡ keys.old.items ++ map (λ n. sender * 2 ^ 24 + n) nodes.now) }
 {
-    keys.reserve(nodes.len())?;
     for node in nodes {
         keys.push(Reached {
             sender,

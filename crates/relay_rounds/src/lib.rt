@@ -16,6 +16,7 @@ mod reaching;
 mod settled;
 mod settling;
 mod shard;
+mod spread;
 mod steps;
 mod winning;
 mod worker;

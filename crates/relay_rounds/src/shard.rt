@@ -5,6 +5,7 @@ ghost use Rattle.relay_rounds.specs.Shards.{is_there, Grows};
 
 use crate::bits::{has_bit, with_bit};
 use crate::block::{BLOCK, Block};
+use crate::spread::{heads_from, spread};
 use relay_chains::{Chains, Key};
 use std::alloc::{AllocError, Global};
 use std::marker::Model;
@@ -21,6 +22,8 @@ const FIRST_HEADS: usize = 15;
 pub(crate) struct Shard {
     chains: Chains,
     heads: usize,
+    // Of all blocks' numbers; the next number of heads hangs on it.
+    sum: u64,
     words: Vec<u64>,
 }
 
@@ -64,6 +67,7 @@ impl Shard {
         Ok(Shard {
             chains,
             heads: FIRST_HEADS,
+            sum: 0,
             words: Vec::new(alloc),
         })
     }
@@ -77,14 +81,14 @@ impl Shard {
         }
     }
 
-    // Makes twice as many heads where there are as many blocks as heads.
+    // Makes more heads, at least half as many again, where there are as many blocks as heads.
     fn make_room(&mut self, alloc: Global) -> Result<(), AllocError>
         ensures { self.new ≡ self.old }
     {
         if self.chains.len() < self.heads {
             return Ok(());
         }
-        let heads = 2 * self.heads + 1;
+        let heads = heads_from(self.heads + self.heads / 2, self.sum);
         self.chains = rebuilt(alloc, &self.chains, heads)?;
         self.heads = heads;
         Ok(())
@@ -101,6 +105,7 @@ impl Shard {
             return Err(AllocError);
         };
         if new {
+            self.sum = self.sum.wrapping_add(spread(key / BLOCK));
             self.words.push_reserved(with_bit(0, key % BLOCK));
             return Ok(true);
         }

@@ -5,6 +5,7 @@ ghost use Rattle.relay_rounds.specs.Searches.{AreNewOf};
 use crate::gate::Gate;
 use crate::kept::Kept;
 use crate::offers::Offers;
+use crate::spread::{heads_from, spread};
 use crate::worker::Worker;
 use crate::workers::work_all;
 use relay_chains::Key;
@@ -13,24 +14,16 @@ use std::alloc::AllocError;
 use std::mem;
 use std::thread::Threads;
 
-// About 2^64 divided by the golden ratio, and odd: a product with it carries each bit of a key into the upper half.
-const MIX: u64 = 0x9e37_79b9_7f4a_7c15;
-
-// How many heads a round takes: between half as many as its keys and as many, and an odd number of them, so that keys that are
-// multiples of a power of two spread. Which number it is hangs on the keys: keys follow the order in which they stand in a file,
-// so for a number known beforehand a file can be written that puts all of a round into one bucket.
+// How many heads a round takes: between half as many as its keys and as many.
 fn heads_for(keys: &[Key]) -> usize
     ensures some { 1 ≤ result }
     ensures few { result ≤ 2 ^ 32 }
 {
-    let mut mixed = 0u64;
+    let mut sum = 0u64;
     for key in keys {
-        let spread = key.wrapping_mul(MIX);
-        mixed = mixed.wrapping_add(spread ^ (spread >> 32));
+        sum = sum.wrapping_add(spread(*key));
     }
-    let half = (keys.len() / 2).min(2147483647);
-    let more = (mixed % half.max(1) as u64) as usize;
-    (half + more) / 2 * 2 + 1
+    heads_from((keys.len() / 2).min(2147483647), sum)
 }
 
 /// Wins each offered key that isn't settled once, by so many threads, but no more than there are pieces.

@@ -1,3 +1,4 @@
+pub mod ResultFacts
 pub mod Readings
 pub mod ViaFacts
 pub mod Folding

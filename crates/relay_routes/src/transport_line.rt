@@ -8,8 +8,8 @@ pub struct TransportLine {
     pub result: Text,
 }
 
-ghost use Rattle.std.specs.Prelude.{◌≡◌, ◌≤◌, not, length, drop, Some, None, option_map, IfOk, if◌then◌else◌, codes};
-ghost use Rattle.std.specs.List.{list_all, list_any, prefix_len};
+ghost use Rattle.std.specs.Prelude.{◌≡◌, ◌≤◌, ◌&&◌, not, length, drop, Some, None, option_map, IfOk, if◌then◌else◌, codes};
+ghost use Rattle.std.specs.List.{list_all, prefix_len};
 ghost use Rattle.relay_text.specs.Bytes.{is_white, begins_with};
 ghost use Rattle.relay_routes.specs.Transports.{line_of, is_result, is_result_byte};
 
@@ -54,7 +54,14 @@ fn pattern_len(line: &[u8]) -> usize
 fn is_result(text: &[u8]) -> bool
     ensures { result ≡ is_result text.now }
 {
-    !text.is_empty() && all_result_bytes(text) && (refusal(text).is_some() || !has_white(text))
+    !text.is_empty() && (all_visible(text) || (refusal(text).is_some() && all_result_bytes(text)))
+}
+
+/// Whether every byte prints and is no white space, as in nearly every result.
+fn all_visible(text: &[u8]) -> bool
+    ensures { result ≡ list_all (λ b. is_result_byte b && not (is_white b)) text.now }
+{
+    text.iter().all(|byte| *byte > b' ' && *byte <= 126)
 }
 
 /// Whether every byte prints, or is white space.
@@ -63,11 +70,4 @@ fn all_result_bytes(text: &[u8]) -> bool
 {
     text.iter()
         .all(|byte| *byte == b'\t' || (*byte >= 32 && *byte <= 126))
-}
-
-/// Whether white space stands in a text.
-fn has_white(text: &[u8]) -> bool
-    ensures { result ≡ list_any is_white text.now }
-{
-    text.iter().any(|byte| *byte == b' ' || *byte == b'\t')
 }

@@ -200,7 +200,7 @@ module _ (d : Directory) where
               ∙ sets_sender senders (get_or owners k None) (owner_entry d k) s a (o.owned k below) at_s
               ∙ ap (λ (x : Node). Some (sender_past d a x)) is
           | inr past ↦
-              let none : unwrap_or (slice_get owners k) None ≡ None = ap (λ (x : Option (Option ℕ)). unwrap_or x None) (slice_get_past owners k (omega (arith, o.count_is))) in
+              let none : unwrap_or (slice_get owners k) None ≡ None = ap (λ (x : Option (Option ℕ)). unwrap_or x None) (slice_get_past owners k (omega (arith, o.few))) in
               ap (λ (x : Option ℕ). slice_get senders (unwrap_or x s)) none
               ∙ at_s
               ∙ ap (λ (x : Sender). Some x) (sym (keeps_sender n a (no_alias k n at_k past)))

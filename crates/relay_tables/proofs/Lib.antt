@@ -9,6 +9,7 @@ pub mod Runs
 pub mod NodeKeys
 pub mod Owned
 pub mod Firsts
+pub mod Marks
 pub mod Numbers
 pub mod Resolved
 pub mod RowSteps

@@ -1,13 +1,14 @@
 -- Lemmas on nodes: which are the same, and that a node's key tells it.
-use Rattle.std.proofs.Common.{◌≡◌, ℕ, zero, suc, ◌+◌, ◌<◌, Bool, true, false, ◌||◌, cond, ltb, Some, None, List, [], ◌∷◌, length, take, drop, slice_get, position, refl, sym, ap, ◌∙◌, subst, arith}
+use Rattle.std.proofs.Common.{◌≡◌, ℕ, zero, suc, ◌+◌, ◌<◌, Bool, true, false, ◌||◌, cond, ltb, inl, inr, Some, None, List, [], ◌∷◌, length, take, drop, slice_get, position, refl, sym, ap, ◌∙◌, subst, arith}
 use Rattle.std.specs.Prelude.{not}
 use Rattle.std.specs.List.{list_any, position_or_len}
 use Rattle.std.specs.Str.{bytes_eq}
-use Rattle.std.proofs.lemmas.Bool.{false≢true, eqb-true, eq-eqb, and_parts, and_from, or_left, or_right, false_from_ne_true, lt-ltb, cond-true}
+use Rattle.std.proofs.lemmas.Bool.{cases_Bool, both_ways, false≢true, eqb-true, eq-eqb, and_parts, and_from, or_left, or_right, false_from_ne_true, lt-ltb, cond-true}
 use Rattle.std.proofs.lemmas.List.{drop_at, take_at}
 use Rattle.std.proofs.lemmas.Option.{none-some, same_Some}
 use Rattle.std.proofs.lemmas.Slice.Eq.{bytes_eq-Decides}
 use Rattle.relay_text.specs.AddressParts.{AddressParts}
+use Rattle.relay_text.specs.JoinedAddresses.{joined_text_of}
 use Rattle.relay_tables.specs.declared.node.Node.{Node}
 use Rattle.relay_tables.specs.declared.node.Node.TheVariants.{Alias, Include, Mailbox, Remote, Missing, NoInclude, Command, File}
 use Rattle.relay_tables.specs.Graphs.{same_address, same_node}
@@ -22,7 +23,7 @@ bytes_same xs ys e = (bytes_eq-Decides xs ys).1 e
 abbrev address_at : List ℕ → List ℕ → AddressParts
 address_at local domain = record { local = local; domain = domain }
 
-same_parts : (a b : AddressParts) → a.local ≡ b.local → a.domain ≡ b.domain → a ≡ b
+pub same_parts : (a b : AddressParts) → a.local ≡ b.local → a.domain ≡ b.domain → a ≡ b
 same_parts a b l d = ap (λ (x : List ℕ). address_at x a.domain) l ∙ ap (address_at b.local) d
 
 address_true : (a b : AddressParts) → same_address a b ≡ true → a ≡ b
@@ -32,6 +33,17 @@ address_true a b e =
 
 address_same : (a : AddressParts) → same_address a a ≡ true
 address_same a = and_from (bytes_eq a.local a.local) (bytes_eq a.domain a.domain) (bytes_same a.local a.local refl) (bytes_same a.domain a.domain refl)
+
+-- addresses of one joined text are the same
+pub address_joined : (a b : AddressParts) → (joined_text_of a ≡ joined_text_of b → a ≡ b) → bytes_eq (joined_text_of a) (joined_text_of b) ≡ same_address a b
+address_joined a b tells =
+    elim (cases_Bool (same_address a b)) [
+      | inl same ↦ bytes_same (joined_text_of a) (joined_text_of b) (ap joined_text_of (address_true a b same)) ∙ sym same
+      | inr other ↦
+          false_from_ne_true (bytes_eq (joined_text_of a) (joined_text_of b)) (λ e.
+          both_ways (same_address a b) other (subst (λ (x : AddressParts). same_address a x ≡ true) (tells (bytes_true (joined_text_of a) (joined_text_of b) e)) (address_same a)))
+          ∙ sym other
+    ]
 
 -- nodes that pass the test are the same
 pub node_true : (m n : Node) → same_node m n ≡ true → m ≡ n

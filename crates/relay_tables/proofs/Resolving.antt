@@ -85,3 +85,22 @@ module _ (d : Directory) (name : List ℕ) (parent : Option ℕ) where
   pub resolved_missing : (base : Option (List ℕ)) → base ≡ base_name d name → None ≡ alias_with base → false ≡ mailbox_with base → Missing ≡ resolved d name parent
   unfolding resolved
   resolved_missing base is e h = sym (ap (target_from d) (no_alias _ _ _ (sym (e ∙ ap alias_with is))) ∙ no_mailbox (base_name d name) (sym (h ∙ ap mailbox_with is)))
+
+  first_some : (a b : Option ℕ) (number : ℕ) → Some number ≡ a → Some number ≡ first_of (a ∷ b ∷ [])
+  first_some (Some n) b number e = e
+  first_some None b number e = cc
+
+  first_none : (a b : Option ℕ) → None ≡ a → b ≡ first_of (a ∷ b ∷ [])
+  first_none (Some n) b e = cc
+  first_none None (Some n) e = refl
+  first_none None None e = refl
+
+  -- an alias of the whole name, or else of its base
+  pub resolved_named : (number : ℕ) → Some number ≡ alias_beside d parent name → Alias number ≡ resolved d name parent
+  resolved_named number e = resolved_alias (base_name d name) refl number (first_some (alias_beside d parent name) (option_and_then (alias_beside d parent) (base_name d name)) number e)
+
+  pub resolved_based : (base : Option (List ℕ)) → base ≡ base_name d name → None ≡ alias_beside d parent name → (number : ℕ) → Some number ≡ option_and_then (alias_beside d parent) base → Alias number ≡ resolved d name parent
+  resolved_based base is gone number e = resolved_alias base is number (e ∙ first_none (alias_beside d parent name) (option_and_then (alias_beside d parent) base) gone)
+
+  pub no_alias_with : (base : Option (List ℕ)) → None ≡ alias_beside d parent name → None ≡ option_and_then (alias_beside d parent) base → None ≡ alias_with base
+  no_alias_with base gone e = e ∙ first_none (alias_beside d parent name) (option_and_then (alias_beside d parent) base) gone

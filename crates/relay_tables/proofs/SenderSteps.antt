@@ -161,26 +161,52 @@ module _ (d : Directory) where
   pub owned_none : (sender : Sender) (senders : List Sender) → senders ≡ sender ∷ [] → AreOwned d sender 0 senders []
   owned_none sender senders is = record {
     senders_are = subst (λ (ss : List Sender). AreOf d sender ss) (sym is) (record { first = refl; others = only });
-    count_is = refl;
+    few = omega arith;
     owned = λ k below. absurd (omega arith);
   } where
     only : (s : ℕ) (a : Sender) → 0 < s → slice_get (sender ∷ []) s ≡ Some a → IsOwnerSender d a
     only zero a after at = absurd (omega arith)
     only (suc s) a after at = absurd (none-some a at)
 
-  pub owned_more : (sender : Sender) (i : ℕ) (old new : List Sender) (owners : List (Option ℕ)) (owner : Option ℕ) → AreOwned d sender i old owners → MayAddOwner d i old new
+  -- where none of the first aliases has an owner, none of them has
+  none_counted : (n k : ℕ) → count_by (λ alias. is_some (owner_number d alias)) (range_with_len 0 n) ≡ 0 → k < n → owner_number d k ≡ None
+  none_counted zero k none below = absurd (omega arith)
+  none_counted (suc n) k none below =
+      let p : ℕ → Bool = λ alias. is_some (owner_number d alias) in
+      let next : suc n ≡ n + 1 = omega arith in
+      let counted : count_by p (range_with_len 0 (n + 1)) ≡ 0 = ap (λ (m : ℕ). count_by p (range_with_len 0 m)) (sym next) ∙ none in
+      elim (cases_Bool (p n)) [
+        | inl owned ↦ let one = counted_yes p n (count_by p (range_with_len 0 n)) refl owned in absurd (omega arith)
+        | inr free ↦
+            let fewer : count_by p (range_with_len 0 n) ≡ 0 = counted_no p n (count_by p (range_with_len 0 n)) refl free ∙ counted in
+            elim (cases_eq k n) [
+              | inl same ↦ ap (owner_number d) same ∙ none_of (owner_number d n) free
+              | inr other ↦ none_counted n k fewer (omega arith)
+            ]
+      ]
+
+  -- where no alias has an owner no number is kept
+  pub owned_by_none : (sender : Sender) (n : ℕ) (senders : List Sender) → senders ≡ sender ∷ [] → count_by (λ alias. is_some (owner_number d alias)) (range_with_len 0 n) ≡ 0
+      → AreOwned d sender n senders []
+  owned_by_none sender n senders is none = record {
+    senders_are = (owned_none sender senders is).senders_are;
+    few = omega arith;
+    owned = λ k below. not_owned senders k (none_counted n k none below);
+  }
+
+  pub owned_more : (sender : Sender) (i : ℕ) (old new : List Sender) (owners : List (Option ℕ)) (owner : Option ℕ) → length owners ≡ i → AreOwned d sender i old owners → MayAddOwner d i old new
       → IsOwnedBy d new owner (owner_entry d i) → AreOwned d sender (i + 1) new (owners ++ owner ∷ [])
-  owned_more sender i old new owners owner h m here = record {
+  owned_more sender i old new owners owner count h m here = record {
     senders_are = of_stays i sender old new m h.senders_are;
-    count_is = length_push owners owner ∙ ap (λ (n : ℕ). n + 1) h.count_is;
+    few = omega (arith, length_push owners owner, h.few);
     owned = λ k below. elim (cases_eq k i) [
       | inl same ↦
-          let at : get_or (owners ++ owner ∷ []) i None ≡ owner = get_or_push owners owner None i h.count_is in
+          let at : get_or (owners ++ owner ∷ []) i None ≡ owner = get_or_push owners owner None i count in
           let now : IsOwnedBy d new (get_or (owners ++ owner ∷ []) i None) (owner_entry d i) = subst (λ (o : Option ℕ). IsOwnedBy d new o (owner_entry d i)) (sym at) here in
           subst (λ (x : ℕ). IsOwnedBy d new (get_or (owners ++ owner ∷ []) x None) (owner_entry d x)) (sym same) now
       | inr other ↦
           let before : k < i = omega arith in
-          let at : get_or (owners ++ owner ∷ []) k None ≡ get_or owners k None = get_or_append_left owners (owner ∷ []) None k (omega (arith, h.count_is)) in
+          let at : get_or (owners ++ owner ∷ []) k None ≡ get_or owners k None = get_or_append_left owners (owner ∷ []) None k (omega (arith, count)) in
           subst (λ (o : Option ℕ). IsOwnedBy d new o (owner_entry d k)) (sym at) (owned_stays i old new (get_or owners k None) (owner_entry d k) m (h.owned k before))
     ];
   }

@@ -3,6 +3,8 @@ pub mod Parts
 pub mod Targets
 pub mod Senders
 pub mod Indices
+pub mod Marks
+pub mod DomainKind
 pub mod Tables
 pub mod Owning
 pub mod GraphParts

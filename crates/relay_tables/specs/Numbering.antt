@@ -1,9 +1,10 @@
 -- Nodes that come one by one, each numbered by its first place.
-use Rattle.std.specs.Prelude.{◌≡◌, ℕ, ◌+◌, ◌<◌, ◌≤◌, ◌^◌, Bool, true, false, List, [], ◌∷◌, ◌++◌, length, map, drop, bit_xor, All, IsTrue, Result, Ok, Err, ⊤, if◌then◌else◌}
+use Rattle.std.specs.Prelude.{◌≡◌, ℕ, ◌+◌, ◌<◌, ◌≤◌, ◌^◌, Bool, true, false, List, [], ◌∷◌, ◌++◌, length, map, drop, All, IsTrue, Result, Ok, Err, ⊤, if◌then◌else◌}
 use Rattle.std.specs.List.{list_any, range_with_len}
 use Rattle.relay_chains.specs.TextHash.{text_hash}
 use Rattle.relay_text.specs.AddressParts.{AddressParts}
 use Rattle.relay_text.specs.Addresses.{is_address}
+use Rattle.relay_text.specs.JoinedAddresses.{joined_text_of}
 use Rattle.relay_tables.specs.declared.node.Node.{Node}
 use Rattle.relay_tables.specs.declared.node.Node.TheVariants.{Alias, Include, Mailbox, Remote, Missing, NoInclude, Command, File}
 use Rattle.relay_tables.specs.declared.fault.TableFault.{TableFault}
@@ -47,7 +48,8 @@ abbrev pub node_of : Lead → Node
 node_of (lead.Alias number) = Alias number
 node_of (lead.Include number) = Include number
 node_of (lead.Mailbox local domain) = Mailbox (record { local = local.now; domain = domain.now })
-node_of (lead.Remote local domain) = Remote (record { local = local.now; domain = domain.now })
+node_of (lead.Written address) = Mailbox address.now
+node_of (lead.Remote address) = Remote address.now
 node_of (lead.Missing name) = Missing name.now
 node_of (lead.NoInclude path) = NoInclude path.now
 node_of (lead.Command text) = Command text.now
@@ -95,14 +97,11 @@ abbrev pub address_key : AddressParts → List ℕ
 address_key a = length a.domain ∷ (a.domain ++ a.local)
 
 -- The hash by which a node is found. A mailbox is found as its name is.
-abbrev pub address_hash : ℕ → AddressParts → ℕ
-address_hash key a = text_hash (bit_xor key (text_hash key a.domain)) a.local
-
 unfoldable pub node_hash : ℕ → Node → ℕ
 node_hash key (Alias number) = 0
 node_hash key (Include number) = 0
 node_hash key (Mailbox a) = text_hash key a.local
-node_hash key (Remote a) = address_hash key a
+node_hash key (Remote a) = text_hash key (joined_text_of a)
 node_hash key (Missing name) = text_hash key name
 node_hash key (NoInclude path) = text_hash key path
 node_hash key (Command text) = text_hash key text

@@ -1,5 +1,5 @@
 -- Senders that come one by one, each numbered by its first place.
-use Rattle.std.specs.Prelude.{◌≡◌, ◌≢◌, ◌⊎◌, ℕ, ◌<◌, List, [], ◌∷◌, ◌++◌, length, map, slice_get, AllPairs, Option, Some, None, slice_index_or, ⊤}
+use Rattle.std.specs.Prelude.{◌≡◌, ◌≢◌, ◌⊎◌, ℕ, ◌<◌, ◌≤◌, List, [], ◌∷◌, ◌++◌, length, map, slice_get, AllPairs, Option, Some, None, slice_index_or, ⊤}
 use Rattle.relay_aliasfile.specs.declared.entry.Entry.{Entry}
 use Rattle.relay_tables.specs.Directory.{Directory}
 use Rattle.relay_tables.specs.Numbering.{address_key}
@@ -35,8 +35,8 @@ pub record AreOf (d : Directory) (sender : Sender) (senders : List Sender) : Typ
   pub first : slice_get senders 0 ≡ Some sender
   pub others : (s : ℕ) (a : Sender) → 0 < s → slice_get senders s ≡ Some a → IsOwnerSender d a
 
--- the senders of the first aliases: `owners` has the number of each one's, where it has an owner
+-- The senders of the first aliases: `owners` has the number of each one's, where it has an owner. Behind its end no alias has one.
 pub record AreOwned (d : Directory) (sender : Sender) (count : ℕ) (senders : List Sender) (owners : List (Option ℕ)) : Type 0 where
   pub senders_are : AreOf d sender senders
-  pub count_is : length owners ≡ count
+  pub few : length owners ≤ count
   pub owned : (k : ℕ) → k < count → IsOwnedBy d senders (slice_index_or owners k None) (owner_entry d k)

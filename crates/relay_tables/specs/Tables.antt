@@ -1,5 +1,5 @@
 -- What is true of every `Tables`.
-use Rattle.std.specs.Prelude.{◌≡◌, ℕ, ◌<◌, ◌-◌, ◌^◌, List, ◌++◌, codes, length, map, position, Option, IsTrue}
+use Rattle.std.specs.Prelude.{◌≡◌, ℕ, ◌<◌, ◌-◌, ◌^◌, Bool, List, ◌++◌, codes, length, map, position, Option, IsTrue}
 use Rattle.std.specs.List.{list_all}
 use Rattle.std.specs.Str.{bytes_eq}
 use Rattle.relay_text.specs.Bytes.{has_text}
@@ -8,6 +8,7 @@ use Rattle.relay_aliasfile.specs.declared.entry.Entry.{Entry}
 use Rattle.relay_tables.specs.Parts.{is_good_entry, is_good_include}
 use Rattle.relay_tables.specs.Directory.{Directory}
 use Rattle.relay_chains.specs.TextHash.{text_hash}
+use Rattle.relay_tables.specs.Marks.{AreMarks}
 use Rattle.relay_tables.specs.Indices.{name_hash, path_hash}
 
 -- the origin is one, names and bare items are local parts, and the lists are short enough to be numbered by 32 bits
@@ -29,7 +30,8 @@ pub record AreIndices (d : Directory) (key : ℕ) (domains : List (List ℕ)) (a
 abbrev pub owner_place : List Entry → Entry → Option ℕ
 owner_place entries e = position (λ (o : Entry). bytes_eq (codes "owner-" ++ e.name) o.name) entries
 
-pub record AreTables (d : Directory) (key : ℕ) (domains : List (List ℕ)) (aliases includes mailboxes : List ℕ) (found : List (Option ℕ)) : Type 0 where
+pub record AreTables (d : Directory) (key : ℕ) (domains : List (List ℕ)) (marks : List Bool) (aliases includes mailboxes : List ℕ) (found : List (Option ℕ)) : Type 0 where
   pub lawful : IsLawful d
+  pub marked : AreMarks d.local marks
   pub indices : AreIndices d key domains aliases includes mailboxes
   pub owners : found ≡ map (owner_place d.aliases) d.aliases

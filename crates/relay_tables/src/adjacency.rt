@@ -55,7 +55,7 @@ impl Adjacency {
         ensures err { OnErr result (self.new ≡ self.old) }
     {
         self.ends.reserve(1)?;
-        self.numbers.extend_from_slice(row)?;
+        append(row, &mut self.numbers)?;
         let end = self.numbers.len();
         self.ends.push_reserved(end);
         Ok(())
@@ -85,6 +85,18 @@ impl Adjacency {
     {
         self.numbers.as_slice()
     }
+}
+
+// Puts a row behind these numbers. Most rows have one number, for which a push is less work than a copy.
+fn append(row: &[u32], numbers: &mut Vec<u32>) -> Result<(), AllocError>
+    ensures ok { OnOk result (numbers.new.items ≡ numbers.old.items ++ row.now) }
+    ensures err { OnErr result (numbers.new.items ≡ numbers.old.items) }
+{
+    match row {
+        [number] => numbers.push(*number)?,
+        _ => numbers.extend_from_slice(row)?,
+    }
+    Ok(())
 }
 
 // Where a row begins.

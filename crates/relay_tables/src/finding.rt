@@ -1,15 +1,15 @@
 //! Nodes that are found by what leads to them.
 ghost use Rattle.std.specs.Prelude.{◌≡◌, ◌<◌, length, map, position, slice_get, option_map, Some, ◌&&◌};
 ghost use Rattle.std.specs.Str.{bytes_eq};
-ghost use Rattle.relay_tables.specs.Graphs.{same_node};
+ghost use Rattle.relay_tables.specs.Graphs.{same_address, same_node};
 ghost use Rattle.relay_tables.specs.Numbering.{node_of, node_hash};
 
 use crate::lead::Lead;
 use crate::node::Node;
 use relay_chains::{Links, hash_text};
-use relay_text::{Address, same_bytes};
+use relay_text::{Address, one_joined_text, same_bytes};
 
-/// The hash of what a lead leads to. An address's domain gives another key for its local part.
+/// The hash of what a lead leads to.
 #[tactic(auto, unfolding(crate::specs::Numbering::node_hash))]
 pub(crate) fn lead_hash(key: u64, lead: Lead<'_>) -> u32
     ensures { result ≡ node_hash key (node_of lead.entry) }
@@ -18,10 +18,8 @@ pub(crate) fn lead_hash(key: u64, lead: Lead<'_>) -> u32
         Lead::Alias(_) => 0,
         Lead::Include(_) => 0,
         Lead::Mailbox(local, _) => hash_text(key, local),
-        Lead::Remote(local, domain) => {
-            let key = key ^ u64::from(hash_text(key, domain));
-            hash_text(key, local)
-        }
+        Lead::Written(address) => hash_text(key, address.local()),
+        Lead::Remote(address) => hash_text(key, address.joined()),
         Lead::Missing(name) => hash_text(key, name),
         Lead::NoInclude(path) => hash_text(key, path),
         Lead::Command(text) => hash_text(key, text),
@@ -36,6 +34,14 @@ fn is_address_of(local: &[u8], domain: &[u8], address: &Address) -> bool
     same_bytes(local, address.local()) && same_bytes(domain, address.domain())
 }
 
+// Are these the same address? Their joined bytes are the same then.
+fn is_same_address(first: &Address, second: &Address) -> bool
+    ensures { result ≡ same_address first.now second.now }
+{
+    one_joined_text();
+    same_bytes(first.joined(), second.joined())
+}
+
 // Does a lead lead to this node?
 fn leads_to(lead: Lead<'_>, node: &Node) -> bool
     ensures { result ≡ same_node (node_of lead.entry) node.now }
@@ -46,9 +52,8 @@ fn leads_to(lead: Lead<'_>, node: &Node) -> bool
         (Lead::Mailbox(local, domain), Node::Mailbox(address)) => {
             is_address_of(local, domain, address)
         }
-        (Lead::Remote(local, domain), Node::Remote(address)) => {
-            is_address_of(local, domain, address)
-        }
+        (Lead::Written(address), Node::Mailbox(other)) => is_same_address(address, other),
+        (Lead::Remote(address), Node::Remote(other)) => is_same_address(address, other),
         (Lead::Missing(name), Node::Missing(text)) => same_bytes(name, text.as_bytes()),
         (Lead::NoInclude(path), Node::NoInclude(text)) => same_bytes(path, text.as_bytes()),
         (Lead::Command(command), Node::Command(text)) => same_bytes(command, text.as_bytes()),

@@ -72,7 +72,7 @@ impl Graph {
         let count = nodes.len();
         let parents = transposed(alloc, &children, count)?;
         let mut senders = SenderList::new(alloc, owned + 1, sender)?;
-        let numbers = number_owners(alloc, tables, &mut senders)?;
+        let numbers = number_owners(alloc, tables, owned, &mut senders)?;
         Ok(Graph {
             nodes,
             children,

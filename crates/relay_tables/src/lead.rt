@@ -1,4 +1,5 @@
 //! Where an item or a recipient leads.
+use relay_text::Address;
 
 /// What an item or a recipient leads to, by what lies elsewhere.
 #[derive(Clone, Copy)]
@@ -7,8 +8,9 @@ pub(crate) enum Lead<'a> {
     Include(u32),
     /// A local part and the origin.
     Mailbox(&'a [u8], &'a [u8]),
-    /// A local part and a domain.
-    Remote(&'a [u8], &'a [u8]),
+    /// The address of a mailbox.
+    Written(&'a Address),
+    Remote(&'a Address),
     Missing(&'a [u8]),
     NoInclude(&'a [u8]),
     Command(&'a [u8]),

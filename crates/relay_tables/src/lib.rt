@@ -3,6 +3,7 @@
 
 mod adjacency;
 mod building;
+mod domain_kind;
 pub mod fault;
 mod finding;
 pub mod graph;
@@ -12,6 +13,7 @@ mod keys;
 mod lead;
 mod leading;
 pub mod local;
+mod marking;
 pub mod node;
 mod numbering;
 mod owning;

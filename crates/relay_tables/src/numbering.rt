@@ -38,7 +38,7 @@ impl Model for Numbering {
 
 impl Numbering {
     /// The aliases and include files, where there are so many, and at most `limit` nodes ever, found under a key. Take about as many
-    /// heads as other nodes are expected.
+    /// heads as other nodes are expected: there is room for so many of them, so that none is copied when more come.
     pub(crate) fn new(
         alloc: Global,
         key: u64,
@@ -57,7 +57,8 @@ impl Numbering {
             return Err(TableFault::TooManyNames);
         }
         let links = Links::new(alloc, heads)?;
-        let mut nodes = Vec::with_capacity(alloc, aliases + includes)?;
+        let expected = heads.min(limit - aliases - includes);
+        let mut nodes = Vec::with_capacity(alloc, aliases + includes + expected)?;
         push_aliases(aliases, &mut nodes)?;
         push_includes(includes, &mut nodes)?;
         Ok(Numbering {

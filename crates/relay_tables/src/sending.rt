@@ -134,17 +134,22 @@ fn number_owner(
     Ok(Some(number))
 }
 
-/// The same of each alias, in order.
+/// The same of each alias, in order; of none where no alias has an owner.
 pub(crate) fn number_owners(
     alloc: Global,
     tables: &Tables,
+    owned: usize,
     senders: &mut SenderList,
 ) -> Result<Vec<Option<u32>>, AllocError>
-    requires { length senders.old ≡ 1 }
+    requires room { length senders.old ≡ 1 }
+    requires owned { owned ≡ owner_count tables.now }
     ensures few { OnOk result (length senders.new ≤ owner_count tables.now + 1) }
     ensures owned { IfOk result (λ owners. (sender : Sender) → senders.old ≡ sender ∷ [] → AreOwned tables.now sender (length tables.now.aliases) senders.new owners.items) }
 {
     let mut owners = Vec::new(alloc);
+    if owned == 0 {
+        return Ok(owners);
+    }
     for alias in 0..tables.aliases().len() {
         let owner = number_owner(alloc, tables, alias as u32, senders)?;
         owners.push(owner)?;

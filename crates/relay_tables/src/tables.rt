@@ -1,9 +1,11 @@
 //! The tables by which names are resolved.
+use crate::domain_kind::DomainKind;
 use crate::include_entry::IncludeEntry;
 use crate::indexing::{
     entry_links, entry_named, include_at, include_links, key_of, mailbox_links, mailbox_named,
 };
 use crate::local::Local;
+use crate::marking::{MARKS, domain_mark, marks_of};
 use crate::owning::entry_owners;
 use crate::target::Target;
 use relay_aliasfile::{AliasFile, Entry, Item, MailboxFile};
@@ -23,6 +25,7 @@ pub struct Tables {
     includes: Seq<IncludeEntry>,
     mailboxes: Seq<Text>,
     domains: TextSet,
+    marks: [bool; MARKS],
     key: u64,
     alias_links: Links,
     include_links: Links,
@@ -38,14 +41,15 @@ impl Model for Tables {
 
     ghost view = { λ a. record { local = a.local; aliases = a.aliases; includes = a.includes; mailboxes = a.mailboxes } };
 
-    ghost invariant = { λ a. AreTables (record { local = a.local; aliases = a.aliases; includes = a.includes; mailboxes = a.mailboxes }) a.key a.domains a.alias_links a.include_links a.mailbox_links a.owners.items };
+    ghost invariant = { λ a. AreTables (record { local = a.local; aliases = a.aliases; includes = a.includes; mailboxes = a.mailboxes }) a.key a.domains a.marks a.alias_links a.include_links a.mailbox_links a.owners.items };
 }
 
-ghost use Rattle.std.specs.Prelude.{◌≡◌, ◌≢◌, ◌<◌, ◌-◌, ◌^◌, ◌||◌, [], ◌∷◌, length, map, Some, option_map, option_and_then, option_to_list, IsTrue, IsSome, IfOk, IfSome, All, AllPairs};
+ghost use Rattle.std.specs.Prelude.{◌≡◌, ◌≢◌, ◌<◌, ◌-◌, ◌^◌, ◌||◌, length, map, Some, option_map, option_and_then, option_to_list, IsTrue, IsSome, IfOk, IfSome, All, AllPairs};
 ghost use Rattle.std.specs.List.{list_all, list_any};
-ghost use Rattle.relay_text.specs.Bytes.{folded, first_of};
+ghost use Rattle.relay_text.specs.Bytes.{folded};
 ghost use Rattle.relay_text.specs.Addresses.{is_origin};
 ghost use Rattle.relay_tables.specs.Parts.{is_local_part, is_good_item, is_good_entry, is_good_include};
+ghost use Rattle.relay_tables.specs.DomainKind.{IsOfKind};
 ghost use Rattle.relay_tables.specs.Tables.{IsLawful};
 ghost use Rattle.relay_tables.specs.Targets.{resolved, is_local_address, include_number, alias_beside, base_name, has_mailbox, at_origin};
 ghost use Rattle.relay_tables.specs.Senders.{owner_number, owner_entry, one_address, sender_by};
@@ -76,6 +80,7 @@ impl Tables {
         let AliasFile { entries, faults: _ } = aliases;
         let MailboxFile { names, faults: _ } = mailboxes;
         let domains = TextSet::of(alloc, local.domains.as_slice())?;
+        let marks = marks_of(&local);
         let key = key_of(entries.as_slice(), names.as_slice());
         let alias_links = entry_links(alloc, key, entries.as_slice())?;
         let include_links = include_links(alloc, key, &includes)?;
@@ -87,6 +92,7 @@ impl Tables {
             includes: Seq::of(includes),
             mailboxes: names,
             domains,
+            marks,
             key,
             alias_links,
             include_links,
@@ -103,8 +109,11 @@ impl Tables {
         requires parent { IfSome parent (λ number. number < length self.now.aliases) }
         ensures { result ≡ resolved self.now name.now parent }
     {
+        if let Some(number) = self.alias_beside(name, parent) {
+            return Target::Alias(number);
+        }
         let base = self.base_of(name);
-        if let Some(number) = self.alias_among(name, base, parent) {
+        if let Some(number) = self.base_alias(base, parent) {
             Target::Alias(number)
         } else if self.has_mailbox_among(name, base) {
             Target::Mailbox
@@ -117,8 +126,10 @@ impl Tables {
     pub fn is_local(&self, address: &Address) -> bool
         ensures { result ≡ is_local_address self.now.local address.now }
     {
-        let domain = address.domain();
-        same_bytes(domain, self.local.origin.as_bytes()) || self.domains.contains(domain)
+        match self.domain_kind(address) {
+            DomainKind::Origin | DomainKind::Local => true,
+            DomainKind::Remote => false,
+        }
     }
 
     /// The alias `owner-NAME` of an alias NAME, or `None` where there is none (local(8), "delivery status notifications").
@@ -173,6 +184,23 @@ impl Tables {
         ensures lawful { IsLawful self.now }
     {
         self.includes.as_slice()
+    }
+
+    // What an address's domain is.
+    pub(crate) fn domain_kind(&self, address: &Address) -> DomainKind
+        ensures { IsOfKind self.now.local address.now result }
+    {
+        let domain = address.domain();
+        if !self.marks[domain_mark(domain)] {
+            return DomainKind::Remote;
+        }
+        if same_bytes(domain, self.local.origin.as_bytes()) {
+            return DomainKind::Origin;
+        }
+        if self.domains.contains(domain) {
+            return DomainKind::Local;
+        }
+        DomainKind::Remote
     }
 
     // The key of the hashes, which depends on all names of entries and mailboxes.
@@ -250,14 +278,10 @@ impl Tables {
         }
     }
 
-    // The same of a name, or else of its base.
-    fn alias_among(&self, name: &[u8], base: Option<&[u8]>, parent: Option<u32>) -> Option<u32>
-        ensures { result ≡ first_of (alias_beside self.now parent name.now ∷ option_and_then (alias_beside self.now parent) (option_map (λ b. b.now) base.entry) ∷ []) }
+    // The same of a name's base, where it has one.
+    fn base_alias(&self, base: Option<&[u8]>, parent: Option<u32>) -> Option<u32>
+        ensures { result ≡ option_and_then (alias_beside self.now parent) (option_map (λ b. b.now) base.entry) }
     {
-        let number = self.alias_beside(name, parent);
-        if number.is_some() {
-            return number;
-        }
         self.alias_beside(base?, parent)
     }
 

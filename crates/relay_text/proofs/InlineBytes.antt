@@ -1,11 +1,12 @@
 -- Bytes that lie in an array.
 use Rattle.std.proofs.Common.{◌≡◌, ℕ, suc, zero, ◌+◌, ◌-◌, ◌≤◌, List, [], ◌∷◌, ◌++◌, length, take, drop, sym, ap, refl, ◌∙◌, arith}
+use Rattle.std.proofs.Math.ListN.{replicate}
 use Rattle.std.specs.Char.{to_ascii_lowercase}
 use Rattle.std.specs.List.{between}
-use Rattle.std.proofs.lemmas.List.{append_assoc, length-append, length-take, length-drop, length-map, take_at, take-take}
+use Rattle.std.proofs.lemmas.List.{append_assoc, drop-replicate, length-append, length-take, length-drop, length-map, take_at, take-take}
 use Rattle.std.proofs.lemmas.Slice.{between_is, take-put_mid}
 use Rattle.relay_text.specs.Bytes.{folded}
-use borrow.Rule.Slice.PartMut.{put_mid}
+use borrow.Rule.Slice.PartMut.{put_mid, post_of}
 
 -- two pieces that were written one behind the other
 pub two_pieces : (front more written written_more room rest : List ℕ) (n f : ℕ) → written ≡ front → written_more ≡ more → f ≡ length front → n ≡ f + length more
@@ -16,6 +17,24 @@ two_pieces front more written written_more room rest n f is is_more len all =
     ∙ ap (take n) (sym (append_assoc written written_more rest))
     ∙ take_at (written ++ written_more) rest n (omega (arith, length-append written written_more, ap length is, ap length is_more, len, all))
     ∙ cc
+
+-- two pieces that were written into a row of one byte, so that it stands between them
+pub parted_pieces : (front back written written_back : List ℕ) (between n f k room : ℕ) → written ≡ front → written_back ≡ back → f ≡ length front → length front + length back + 1 ≡ n → n ≤ room
+    → take n (put_mid (f + 1) k (written ++ drop f (replicate room between)) written_back) ≡ front ++ between ∷ back
+parted_pieces front back written written_back between n f k room is is_back len all few =
+    let text : List ℕ = front ++ between ∷ [] in
+    let rest : List ℕ = replicate (room - (f + 1)) between in
+    let more : room - f ≡ suc (room - (f + 1)) = omega arith in
+    let left : drop f (replicate room between) ≡ between ∷ rest = drop-replicate f room between ∙ ap (λ m. replicate m between) more in
+    let row : written ++ drop f (replicate room between) ≡ text ++ rest = ap (λ (t : List ℕ). t ++ drop f (replicate room between)) is ∙ ap (λ (t : List ℕ). front ++ t) left ∙ sym (append_assoc front (between ∷ []) rest) in
+    let behind : List ℕ = post_of (f + 1) k (text ++ rest) in
+    let first : take (f + 1) (text ++ rest) ≡ text = take_at text rest (f + 1) (omega (arith, length-append front (between ∷ []))) in
+    ap (λ (t : List ℕ). take n (put_mid (f + 1) k t written_back)) row
+    ∙ ap (λ (t : List ℕ). take n (t ++ (written_back ++ behind))) first
+    ∙ ap (take n) (sym (append_assoc text written_back behind))
+    ∙ take_at (text ++ written_back) behind n (omega (arith, length-append text written_back, length-append front (between ∷ []), ap length is_back))
+    ∙ append_assoc front (between ∷ []) written_back
+    ∙ ap (λ (t : List ℕ). front ++ between ∷ t) is_back
 
 -- as many bytes as a front has are that front
 take_len : (n : ℕ) (xs : List ℕ) → take (length (take n xs)) xs ≡ take n xs

@@ -50,9 +50,7 @@ impl Address {
         requires { IsTrue (is_address (record { local = local.now; domain = domain.now })) }
         ensures { IfOk result (λ a. a ≡ record { local = local.now; domain = domain.now }) }
     {
-        let mut text = InlineBytes::copy_of(alloc, (), local)?;
-        text.append(alloc, b"@")?;
-        text.append(alloc, domain)?;
+        let text = InlineBytes::joined_of(alloc, (), local, b'@', domain)?;
         Ok(Address::from_joined(text, local.len(), is_dot_string(local)))
     }
 

@@ -3,7 +3,11 @@ ghost use Rattle.std.specs.Prelude.{◌≡◌};
 ghost use Rattle.relay_text.specs.HashedTexts.{text_hash};
 
 use crate::equality::same_bytes;
-use std::hash::{DefaultHasher, Hasher};
+
+/// The hash of no bytes.
+const OFFSET: u64 = 0xcbf2_9ce4_8422_2325;
+
+const PRIME: u64 = 0x0000_0100_0000_01b3;
 
 /// A text among others. It is compared by its hash, which stands in the value itself, and only where the hashes are the same by its
 /// bytes and then by its place.
@@ -15,14 +19,16 @@ pub(crate) struct HashedText<'a> {
     ghost hash_of_bytes: { hash ≡ text_hash bytes.now },
 }
 
-/// The hash of a text: SipHash-1-3 with both keys 0.
-#[tactic(auto, unfolding(crate::specs::HashedTexts::text_hash))]
+/// The hash of a text (FNV-1a). Who chooses texts can choose many of one hash: their order then costs more, since their bytes are
+/// compared.
 fn hash_of(text: &[u8]) -> u64
     ensures { result ≡ text_hash text.now }
 {
-    let mut hasher = DefaultHasher::new();
-    hasher.write(text);
-    hasher.finish()
+    let mut hash = OFFSET;
+    for byte in text {
+        hash = (hash ^ u64::from(*byte)).wrapping_mul(PRIME);
+    }
+    hash
 }
 
 impl<'a> HashedText<'a> {

@@ -1,5 +1,5 @@
 //! Bytes that lie in the value itself where they are few.
-ghost use Rattle.std.specs.Prelude.{◌≡◌, ◌+◌, ◌<◌, ◌≤◌, ◌++◌, min, take, drop, length, IfSome, IfNone, IfOk, OnOk, OnErr};
+ghost use Rattle.std.specs.Prelude.{◌≡◌, ◌+◌, ◌<◌, ◌≤◌, ◌++◌, ◌∷◌, [], min, take, drop, length, IfSome, IfNone, IfOk, OnOk, OnErr};
 ghost use Rattle.relay_text.specs.Bytes.{folded};
 
 use std::alloc::{AllocError, Global};
@@ -35,6 +35,20 @@ impl<H, const N: usize> Model for InlineBytes<H, N> {
 }
 
 impl<H: Copy, const N: usize> InlineBytes<H, N> {
+    /// No bytes, without taking memory.
+    pub(crate) fn empty(head: H) -> Self
+        ensures head { result.head ≡ head }
+        ensures bytes { result.bytes ≡ [] }
+    {
+        InlineBytes {
+            kept: Kept::Short {
+                head,
+                len: 0,
+                bytes: [0; N],
+            },
+        }
+    }
+
     /// A copy of these bytes. `Err` where memory runs out.
     pub(crate) fn copy_of(alloc: Global, head: H, bytes: &[u8]) -> Result<Self, AllocError>
         ensures head { IfOk result (λ a. a.head ≡ head) }
@@ -62,6 +76,47 @@ impl<H: Copy, const N: usize> InlineBytes<H, N> {
             None => InlineBytes {
                 kept: Kept::Long { head, bytes },
             },
+        }
+    }
+
+    /// Copies of two pieces in a row with a byte between them. `Err` where memory runs out.
+    pub(crate) fn joined_of(
+        alloc: Global,
+        head: H,
+        front: &[u8],
+        between: u8,
+        back: &[u8],
+    ) -> Result<Self, AllocError>
+        ensures head { IfOk result (λ a. a.head ≡ head) }
+        ensures bytes { IfOk result (λ a. a.bytes ≡ front.now ++ between ∷ back.now) }
+    {
+        let len = front.len() + back.len() + 1;
+        if let Some(len) = inline_len(len, N) {
+            return Ok(InlineBytes::short_joined(head, len, front, between, back));
+        }
+        let mut bytes = Vec::with_capacity(alloc, len)?;
+        bytes.extend_from_slice(front)?;
+        bytes.push(between)?;
+        bytes.extend_from_slice(back)?;
+        Ok(InlineBytes {
+            kept: Kept::Long { head, bytes },
+        })
+    }
+
+    /// The same of pieces that have few bytes together.
+    fn short_joined(head: H, len: u8, front: &[u8], between: u8, back: &[u8]) -> Self
+        requires len { length front.now + length back.now + 1 ≡ len }
+        requires few { len ≤ N }
+        ensures head { result.head ≡ head }
+        ensures bytes { result.bytes ≡ front.now ++ between ∷ back.now }
+    {
+        let mut bytes = [between; N];
+        let room = &mut bytes[..];
+        let place = front.len();
+        room[..place].copy_from_slice(front);
+        room[place + 1..place + 1 + back.len()].copy_from_slice(back);
+        InlineBytes {
+            kept: Kept::Short { head, len, bytes },
         }
     }
 

@@ -138,9 +138,7 @@ fn domain_behind<'a>(rest: &'a [u8], origin: &'a [u8]) -> &'a [u8]
 fn row(alloc: Global, local: &[u8], domain: &[u8]) -> Result<InlineBytes<(), 44>, AllocError>
     ensures { IfOk result (λ text. text.bytes ≡ local.now ++ 64 ∷ folded domain.now) }
 {
-    let mut text = InlineBytes::copy_of(alloc, (), local)?;
-    text.append(alloc, b"@")?;
-    text.append(alloc, domain)?;
+    let mut text = InlineBytes::joined_of(alloc, (), local, b'@', domain)?;
     text.fold_from(local.len());
     Ok(text)
 }

@@ -37,25 +37,23 @@ pub(crate) fn run_at(part: Part, text: &[u8]) -> Run
     ensures joined { result.is_joined ≡ is_joined part (run_in part text.now) }
 {
     let mut is_sound = true;
-    let mut is_fresh = true;
-    let mut len = 0;
-    while len < text.len() {
-        let byte = text[len];
-        if byte == b'.' {
-            is_sound = is_sound && !is_fresh;
-            is_fresh = true;
-        } else if part.has(byte) {
-            is_fresh = false;
-        } else {
+    // Where the bytes behind the last dot begin.
+    let mut start = 0;
+    for (len, byte) in text.iter().enumerate() {
+        if part.has(*byte) {
+            continue;
+        }
+        is_sound = is_sound && start < len;
+        if *byte != b'.' {
             return Run {
                 len,
-                is_joined: is_sound && !is_fresh,
+                is_joined: is_sound,
             };
         }
-        len += 1;
+        start = len + 1;
     }
     Run {
-        len,
-        is_joined: is_sound && !is_fresh,
+        len: text.len(),
+        is_joined: is_sound && start < text.len(),
     }
 }

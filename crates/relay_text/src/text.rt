@@ -24,8 +24,10 @@ impl MadeWith<Global> for Text {
 
     ghost is_made_with = { λ text. text ≡ [] };
 
-    fn made_with(alloc: Global) -> Text {
-        Text::of(Vec::new(alloc))
+    fn made_with(_: Global) -> Text {
+        Text {
+            bytes: InlineBytes::empty(()),
+        }
     }
 }
 

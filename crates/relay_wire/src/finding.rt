@@ -1,7 +1,7 @@
 //! What a plan reports.
-ghost use Rattle.std.specs.Prelude.{◌≡◌, [], ◌∷◌, ◌++◌, codes, IfOk, OnOk};
+ghost use Rattle.std.specs.Prelude.{◌≡◌, [], ◌∷◌, ◌++◌, codes, decimal, IfOk, OnOk};
 ghost use Rattle.relay_text.specs.Addresses.{local_text_of};
-ghost use Rattle.relay_wire.specs.Findings.{after_spaces, place_words, reason_words, refusal_words, line_word, line_words, finding_words, finding_text_of};
+ghost use Rattle.relay_wire.specs.Findings.{after_spaces, place_words, reason_words, refusal_words, line_word, finding_words, finding_text_of};
 
 use crate::words::{put_name, put_number, put_path, put_word};
 use relay_text::{Address, Text};
@@ -97,17 +97,16 @@ impl LineWord {
 fn put_place(place: &Place, out: &mut Vec<u8>) -> Result<(), AllocError>
     ensures { OnOk result (out.new.items ≡ out.old.items ++ after_spaces (place_words place.now)) }
 {
-    put_word(b"in", out)?;
     match place {
         Place::Alias(name) => {
-            put_word(b"alias", out)?;
+            put_word(b"in alias", out)?;
             put_name(name.as_bytes(), out)
         }
         Place::Include(path) => {
-            put_word(b"include", out)?;
+            put_word(b"in include", out)?;
             put_word(path.as_bytes(), out)
         }
-        Place::Envelope => put_word(b"envelope", out),
+        Place::Envelope => put_word(b"in envelope", out),
     }
 }
 
@@ -133,15 +132,6 @@ fn put_refusal(text: &[u8], out: &mut Vec<u8>) -> Result<(), AllocError>
         return Ok(());
     }
     put_word(text, out)
-}
-
-// Writes the number of a line and what is wrong with it.
-fn put_line(number: usize, word: LineWord, out: &mut Vec<u8>) -> Result<(), AllocError>
-    ensures { OnOk result (out.new.items ≡ out.old.items ++ after_spaces (line_words number word)) }
-{
-    put_word(b"line", out)?;
-    put_number(number, out)?;
-    put_word(word.text(), out)
 }
 
 // Writes what stands at a place.
@@ -171,17 +161,18 @@ fn put_include(kind: &[u8], path: &[u8], out: &mut Vec<u8>) -> Result<(), AllocE
     put_word(path, out)
 }
 
-// Writes which file has a line at fault.
+// Writes words that name a file, the number of a line of it and what is wrong with the line.
 fn put_fault(
-    file: &[u8],
+    words: &[u8],
     number: usize,
     word: LineWord,
     out: &mut Vec<u8>,
 ) -> Result<(), AllocError>
-    ensures { OnOk result (out.new.items ≡ out.old.items ++ after_spaces (file.now ∷ line_words number word)) }
+    ensures { OnOk result (out.new.items ≡ out.old.items ++ (words.now ++ after_spaces (decimal number ∷ line_word word ∷ []))) }
 {
-    put_word(file, out)?;
-    put_line(number, word, out)
+    out.extend_from_slice(words)?;
+    put_number(number, out)?;
+    put_word(word.text(), out)
 }
 
 // Writes the words of a finding.
@@ -206,14 +197,15 @@ fn put_finding(finding: &Finding, out: &mut Vec<u8>) -> Result<(), AllocError>
             put_path(Some(address), out)?;
             put_reason(reason, out)
         }
-        Finding::Aliases(number, word) => put_fault(b"aliases", *number, *word, out),
+        Finding::Aliases(number, word) => put_fault(b" aliases line", *number, *word, out),
         Finding::Include(path, number, word) => {
             put_word(b"include", out)?;
-            put_fault(path.as_bytes(), *number, *word, out)
+            put_word(path.as_bytes(), out)?;
+            put_fault(b" line", *number, *word, out)
         }
-        Finding::Mailboxes(number, word) => put_fault(b"mailboxes", *number, *word, out),
-        Finding::Mx(number, word) => put_fault(b"mx", *number, *word, out),
-        Finding::Transport(number, word) => put_fault(b"transport", *number, *word, out),
+        Finding::Mailboxes(number, word) => put_fault(b" mailboxes line", *number, *word, out),
+        Finding::Mx(number, word) => put_fault(b" mx line", *number, *word, out),
+        Finding::Transport(number, word) => put_fault(b" transport line", *number, *word, out),
     }
 }
 

@@ -1,5 +1,5 @@
 //! Lines beside numbers that decide most comparisons of their order.
-ghost use Rattle.std.specs.Prelude.{◌≡◌, ◌<◌, ◌≤◌, ℕ, drop, slice_index};
+ghost use Rattle.std.specs.Prelude.{◌≡◌, ◌<◌, ℕ, drop, slice_index};
 ghost use Rattle.relay_wire.specs.FrontedLines.{front_number};
 
 /// A line beside the numbers that its first 32 bytes make, which order it as its bytes do. Where they differ, a comparison reads no
@@ -24,25 +24,38 @@ impl FrontedLine {
     pub(crate) fn of(line: Vec<u8>) -> FrontedLine
         ensures { result.line.items ≡ line.items }
     {
-        let bytes = line.as_slice();
+        let (first, rest) = split_front(line.as_slice());
+        let (second, rest) = split_front(rest);
+        let (third, rest) = split_front(rest);
+        let (fourth, _) = split_front(rest);
         FrontedLine {
-            first: front_at(bytes, 0),
-            second: front_at(bytes, 8),
-            third: front_at(bytes, 16),
-            fourth: front_at(bytes, 24),
+            first,
+            second,
+            third,
+            fourth,
             line,
         }
     }
 }
 
-/// The eight bytes from a place on as a number, with noughts where the text is shorter.
-fn front_at(text: &[u8], start: usize) -> u64
-    requires { start ≤ 24 }
-    ensures value { result ≡ front_number 8 (drop start text.now) }
+/// The first eight bytes of a text as a number, with noughts where it is shorter, and what stands behind them.
+fn split_front(text: &[u8]) -> (u64, &[u8])
+    ensures number { result.0 ≡ front_number 8 text.now }
+    ensures rest { result.1.now ≡ drop 8 text.now }
     ensures bytes { (k : ℕ) → slice_index text.now k < 256 }
 {
+    match text.split_first_chunk::<8>() {
+        Some((front, rest)) => (u64::from_be_bytes(*front), rest),
+        None => (short_front(text), &[]),
+    }
+}
+
+/// The same number, byte by byte.
+fn short_front(text: &[u8]) -> u64
+    ensures { result ≡ front_number 8 text.now }
+{
     let mut number: u64 = 0;
-    for place in start..start + 8 {
+    for place in 0..8 {
         let byte = text.get(place).copied().unwrap_or(0);
         number = number * 256 + u64::from(byte);
     }

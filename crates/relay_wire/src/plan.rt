@@ -1,5 +1,5 @@
 //! Plans.
-ghost use Rattle.std.specs.Prelude.{◌≡◌, ◌≤◌, ◌^◌, ◌∷◌, ◌++◌, [], map, decimal, option_map, IfOk, IfSome, IfNone, OnOk};
+ghost use Rattle.std.specs.Prelude.{◌≡◌, ◌≤◌, ◌^◌, ◌∷◌, ◌++◌, [], codes, map, decimal, option_map, IfOk, IfSome, IfNone, OnOk};
 ghost use Rattle.std.specs.List.{enumerate_from};
 ghost use Rattle.relay_wire.specs.Findings.{after_spaces};
 ghost use Rattle.relay_wire.specs.PlanText.{line, lines_of, recipient_count, counts_line, via_line, host_line, host_lines, from_line, to_line, transaction_line, transaction_text, numbered_texts, plan_text_of};
@@ -7,7 +7,7 @@ ghost use Rattle.relay_wire.specs.PlanText.{line, lines_of, recipient_count, cou
 use crate::lengths::plan_len;
 use crate::words::{put_number, put_path, put_word};
 use relay_routes::{Hosts, Transport};
-use relay_text::{Address, Seq, Text};
+use relay_text::{Address, Seq, Text, write_path};
 use std::alloc::{AllocError, Global};
 
 /// A transaction as it's planned.
@@ -115,13 +115,24 @@ fn put_hosts(hosts: &[Text], out: &mut Vec<u8>) -> Result<(), AllocError>
     Ok(())
 }
 
+// Writes the word of a recipient's line and the space behind it. A plan has more of these than of all other lines.
+fn put_to(out: &mut Vec<u8>) -> Result<(), AllocError>
+    ensures { OnOk result (out.new.items ≡ out.old.items ++ codes "to ") }
+{
+    out.reserve(3)?;
+    out.push_reserved(b't');
+    out.push_reserved(b'o');
+    out.push_reserved(b' ');
+    Ok(())
+}
+
 // Writes the line of each recipient.
 fn put_recipients(to: &[Address], out: &mut Vec<u8>) -> Result<(), AllocError>
     ensures { OnOk result (out.new.items ≡ out.old.items ++ lines_of (map to_line to.now)) }
 {
     for address in to {
-        out.extend_from_slice(b"to")?;
-        put_path(Some(address), out)?;
+        put_to(out)?;
+        write_path(Some(address), out)?;
         out.push(b'\n')?;
     }
     Ok(())

@@ -1,129 +1,10 @@
+//! Chains whose texts or keys fall into one bucket, and how hashes spread.
 ghost use Rattle.std.specs.Prelude.{◌≤◌};
 
 use relay_chains::{ChainFault, Chains, Interner, Links, hash_text};
 use std::alloc::AllocError;
 use std::process::Abort;
 use std::test::Fail;
-
-// Inserts a key. Where memory runs out, sees that nothing changed, and inserts it again.
-fn insert_at_last(rt: &impl Abort, set: &mut Chains, key: u64) -> Result<(u32, bool), ChainFault> {
-    let before = set.len();
-    let answer = set.insert(key);
-    if answer != Err(ChainFault::Memory) {
-        return answer;
-    }
-    assert_eq!(rt; set.len(), before);
-    assert_eq!(rt; set.find(key), None);
-    assert_eq!(rt; set.get(u32::try_from(before).unwrap_or(u32::MAX)), None);
-    set.insert(key)
-}
-
-// The same of a text.
-fn intern_at_last(
-    rt: &impl Abort,
-    set: &mut Interner,
-    text: &[u8],
-) -> Result<(u32, bool), ChainFault> {
-    let before = set.len();
-    let answer = set.intern(text);
-    if answer != Err(ChainFault::Memory) {
-        return answer;
-    }
-    assert_eq!(rt; set.len(), before);
-    assert_eq!(rt; set.find(text), None);
-    assert_eq!(rt; set.text(u32::try_from(before).unwrap_or(u32::MAX)), None);
-    set.intern(text)
-}
-
-#[test]
-fn keys_are_numbered_in_turn(rt: HostRuntime) -> Result<(), Fail> {
-    let mut set = Chains::new(rt.alloc(), 2, 2)?;
-    assert!(rt; set.is_empty());
-    let inserted = [set.insert(7), set.insert(9), set.insert(7), set.insert(8)];
-    assert_eq!(rt;
-        inserted,
-        [
-            Ok((0, true)),
-            Ok((1, true)),
-            Ok((0, false)),
-            Err(ChainFault::Full)
-        ]
-    );
-    assert_eq!(rt; [set.find(9), set.find(8)], [Some(1), None]);
-    assert_eq!(rt; [set.get(1), set.get(2)], [Some(9), None]);
-    assert_eq!(rt; (set.len(), set.is_empty()), (2, false));
-    Ok(())
-}
-
-#[test]
-fn texts_are_numbered_in_turn(rt: HostRuntime) -> Result<(), Fail> {
-    let mut set = Interner::new(rt.alloc(), 2, 2)?;
-    assert!(rt; set.is_empty());
-    let interned = [
-        set.intern(b"g"),
-        set.intern(b"i"),
-        set.intern(b"g"),
-        set.intern(b"h"),
-    ];
-    assert_eq!(rt;
-        interned,
-        [
-            Ok((0, true)),
-            Ok((1, true)),
-            Ok((0, false)),
-            Err(ChainFault::Full)
-        ]
-    );
-    assert_eq!(rt; [set.find(b"i"), set.find(b"h")], [Some(1), None]);
-    assert!(rt; set.text(1).is_some_and(|text| text == b"i".as_slice()));
-    assert!(rt; set.text(2).is_none());
-    assert_eq!(rt; (set.len(), set.is_empty()), (2, false));
-    Ok(())
-}
-
-#[test]
-fn a_limit_of_none_takes_no_key(rt: HostRuntime) -> Result<(), Fail> {
-    let mut keys = Chains::new(rt.alloc(), 1, 0)?;
-    assert_eq!(rt; keys.insert(0), Err(ChainFault::Full));
-    assert_eq!(rt; (keys.find(0), keys.get(0), keys.len()), (None, None, 0));
-    Ok(())
-}
-
-#[test]
-fn a_limit_of_none_takes_no_text(rt: HostRuntime) -> Result<(), Fail> {
-    let mut texts = Interner::new(rt.alloc(), 1, 0)?;
-    assert_eq!(rt; texts.intern(b""), Err(ChainFault::Full));
-    assert_eq!(rt; (texts.find(b""), texts.len()), (None, 0));
-    assert!(rt; texts.text(0).is_none());
-    Ok(())
-}
-
-#[test]
-fn texts_keep_apart(rt: HostRuntime) -> Result<(), Fail> {
-    let texts: [&[u8]; 8] = [
-        b"ab",
-        b"",
-        b"a",
-        b"abc",
-        b"bc",
-        b"c",
-        b"user0001@example.net",
-        b"user0002@example.net",
-    ];
-    for heads in [1, 2, 100] {
-        let mut set = Interner::new(rt.alloc(), heads, 8)?;
-        for (i, text) in texts.iter().enumerate() {
-            assert_eq!(rt; set.intern(text), Ok((i as u32, true)), "in {heads}");
-        }
-        for (i, text) in texts.iter().enumerate() {
-            assert_eq!(rt; set.intern(text), Ok((i as u32, false)), "in {heads}");
-            assert_eq!(rt; set.find(text), Some(i as u32), "in {heads}");
-            assert!(rt; set.text(i as u32).is_some_and(|found| found == *text));
-        }
-        assert_eq!(rt; set.find(b"abcbc"), None);
-    }
-    Ok(())
-}
 
 // A count of keys in as many buckets as given, of which the first are found again.
 fn fills(rt: &(impl Abort + AllocGlobal), heads: usize, count: u32, found: u32) -> Result<(), Fail>
@@ -146,11 +27,6 @@ fn fills(rt: &(impl Abort + AllocGlobal), heads: usize, count: u32, found: u32) 
 }
 
 #[test]
-fn many_keys_spread(rt: HostRuntime) -> Result<(), Fail> {
-    fills(&rt, 100_000, 100_000, 100_000)
-}
-
-#[test]
 fn many_keys_in_one_bucket(rt: HostRuntime) -> Result<(), Fail> {
     fills(&rt, 1, 100_000, 1_000)
 }
@@ -164,59 +40,6 @@ fn numbered_text(number: u32) -> [u8; 19] {
         rest /= 10;
     }
     text
-}
-
-#[test]
-fn many_texts_spread(rt: HostRuntime) -> Result<(), Fail> {
-    let mut set = Interner::new(rt.alloc(), 100_000, 100_000)?;
-    for i in 0..100_000 {
-        assert_eq!(rt; set.intern(&numbered_text(i))?, (i, true));
-    }
-    for i in 0..100_000 {
-        assert_eq!(rt; set.find(&numbered_text(i)), Some(i));
-    }
-    assert_eq!(rt; set.intern(b"another"), Err(ChainFault::Full));
-    Ok(())
-}
-
-// One allocation may be made to fail here: the answers stay the same, since each call is made again.
-#[test]
-fn keys_outlast_a_refused_growth(rt: HostRuntime) -> Result<(), Fail> {
-    let mut set = match Chains::new(rt.alloc(), 3, 40) {
-        Ok(set) => set,
-        Err(_) => Chains::new(rt.alloc(), 3, 40)?,
-    };
-    for i in 0..40 {
-        assert_eq!(rt; insert_at_last(&rt, &mut set, u64::from(i) * 5)?, (i, true));
-        assert_eq!(rt; set.find(u64::from(i) * 5), Some(i));
-    }
-    for i in 0..40 {
-        assert_eq!(rt; set.insert(u64::from(i) * 5)?, (i, false));
-    }
-    Ok(())
-}
-
-#[test]
-fn texts_outlast_a_refused_growth(rt: HostRuntime) -> Result<(), Fail> {
-    let mut set = match Interner::new(rt.alloc(), 3, 40) {
-        Ok(set) => set,
-        Err(_) => Interner::new(rt.alloc(), 3, 40)?,
-    };
-    for i in 0..40 {
-        assert_eq!(rt;
-            intern_at_last(&rt, &mut set, &numbered_text(i))?,
-            (i, true)
-        );
-        assert_eq!(rt; set.find(&numbered_text(i)), Some(i));
-    }
-    for i in 0..40 {
-        assert_eq!(rt; set.intern(&numbered_text(i))?, (i, false));
-        assert!(rt;
-            set.text(i)
-                .is_some_and(|text| text == numbered_text(i).as_slice())
-        );
-    }
-    Ok(())
 }
 
 #[test]
@@ -296,25 +119,6 @@ fn links_of_one_hash_keep_apart(rt: HostRuntime) -> Result<(), Fail> {
     Ok(())
 }
 
-// The smallest hashes fall into the first bucket, however many heads there are, up to a million.
-#[test]
-fn many_numbers_in_one_bucket(rt: HostRuntime) -> Result<(), Fail> {
-    let mut links = Links::new(rt.alloc(), 1)?;
-    assert!(rt; links.is_empty());
-    for hash in 0..2_000u32 {
-        push_hash(&rt, &mut links, hash)?;
-        assert_eq!(rt; links.newest(hash), hash + 1);
-    }
-    for hash in 0..2_000u32 {
-        assert_eq!(rt; links.find(hash, |_| true), Some(hash));
-        assert_eq!(rt; links.find(hash, |number| number > hash), None);
-    }
-    assert_eq!(rt; (links.len(), links.is_empty()), (2_000, false));
-    assert_eq!(rt; links.newest(2_000), 0);
-    assert_eq!(rt; links.newest(u32::MAX), 0);
-    Ok(())
-}
-
 // Each text's hash is pushed twice, and the heads are doubled many times between.
 #[test]
 fn the_first_of_many_numbers_is_found(rt: HostRuntime) -> Result<(), Fail> {
@@ -366,28 +170,6 @@ fn alike_texts_spread_over_buckets(rt: HostRuntime) -> Result<(), Fail> {
             empty >= heads / 100 * 36 && empty <= heads / 100 * 38,
             "{empty} of {heads} are empty"
         );
-    }
-    Ok(())
-}
-
-// One allocation may be made to fail here too.
-#[test]
-fn links_outlast_a_refused_growth(rt: HostRuntime) -> Result<(), Fail> {
-    let mut links = match Links::new(rt.alloc(), 1) {
-        Ok(links) => links,
-        Err(_) => Links::new(rt.alloc(), 1)?,
-    };
-    for number in 0..40u32 {
-        let hash = number.wrapping_mul(0x9e37_79b9);
-        if push_hash(&rt, &mut links, hash).is_err() {
-            assert_eq!(rt; links.newest(hash), 0);
-            push_hash(&rt, &mut links, hash)?;
-        }
-        assert_eq!(rt; links.newest(hash), number + 1);
-    }
-    for number in 0..40u32 {
-        let hash = number.wrapping_mul(0x9e37_79b9);
-        assert_eq!(rt; links.find(hash, |_| true), Some(number));
     }
     Ok(())
 }

@@ -38,3 +38,6 @@ returns-in-Ok-plan_sources-clause-within g c = subst (λ (job : Job). IsWithin c
 
 pub returns-clause-refused : goal.returns-clause-refused
 returns-clause-refused g c = subst (λ (job : Job). IsRefused c.args.limits job c.in-Err.fault) c.in-Ok-to_each_alias.ensures c.in-Err.ensures.refused
+
+pub plan_sources-requires-clause-lines : goal.plan_sources-requires-clause-lines
+plan_sources-requires-clause-lines g c = λ l m q. rw c.in-Ok-to_each_alias.ensures (rw c.new-lines.ensures at c.in-Ok.ensures.lines q)

@@ -24,3 +24,6 @@ read-requires-clause-few_mailboxes g c =
 
 pub plan_sources-requires-clause-batches : goal.plan_sources-requires-clause-batches
 plan_sources-requires-clause-batches g c = λ l m t. omega (arith, c.parsed_jobs.ensures.limits c.requires.job.0 c.args.job.now c.requires.job.2 t)
+
+pub plan_sources-requires-clause-lines : goal.plan_sources-requires-clause-lines
+plan_sources-requires-clause-lines g c = λ l m q. rw c.new-lines.ensures at c.in-Ok.ensures.lines q

@@ -8,5 +8,6 @@ use Rattle.relay_tables.proofs.sending.number_owners.Given as goal
 abbrev pub invariant-loop-alias : goal.invariant-loop-alias
 invariant-loop-alias l = record {
   few : length l.senders ≤ count_by (λ alias. is_some (owner_number l.tables alias)) (range_with_len 0 l.alias) + 1;
+  count : length l.owners.items ≡ l.alias;
   owned : (sender : Sender) → l.initial.senders ≡ sender ∷ [] → AreOwned l.tables sender l.alias l.senders l.owners.items;
 }

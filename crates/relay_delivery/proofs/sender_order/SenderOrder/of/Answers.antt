@@ -17,11 +17,11 @@ returns c =
     let place_of = c.in_ok-order.field-0.place_of.items in
     let picks = c.in_ok-senders.senders.items in
     let numbers = c.as_slice.result.now in
-    let ranks : AreRanks (map sender_key senders) order place_of = subst (λ ps. AreRanks ps order place_of) c.in_ok-sender_keys.ensures.keys.parts_are c.in_ok-order.ensures in
+    let ranks : AreRanks (map sender_key senders) order place_of = subst (λ ps. AreRanks ps order place_of) c.in_ok-keys.ensures.keys.parts_are c.in_ok-order.ensures in
     let is_order : numbers ≡ order = c.as_slice.ensures.value ∙ (cc) in
     let by_number : ArePicked senders numbers (senders_of picks) = picked_map option_copied given numbers picks (picked_of given numbers picks c.in_ok-senders.ensures) in
     let picked : ArePicked senders order (senders_of picks) = subst (λ ns. ArePicked senders ns (senders_of picks)) is_order by_number in
     record {
       ascending = picks_ascend sender_key senders order place_of (senders_of picks) ranks picked (λ s t. sender_cmp s t ≡ Less) (λ s t e. sym (sender_key_cmp s t) ∙ e);
-      moved = have_moved sender_key senders order place_of (senders_of picks) ranks picked (one_sender c.one_spelling.ensures.one_address senders c.in_ok-sender_keys.ensures.valid);
+      moved = have_moved sender_key senders order place_of (senders_of picks) ranks picked (one_sender c.one_spelling.ensures.one_address senders c.in_ok-keys.ensures.valid);
     }

@@ -7,7 +7,7 @@ invariant_of-self-2 c =
     let numbers = c.self.inside.numbers.items in
     let ends = c.self.inside.ends.items in
     let row = c.args.row.now in
-    let grown : c.extend_from_slice.new.self.items ≡ numbers ++ row = c.in_ok-extend_from_slice.ensures.items in
+    let grown : c.append.new.numbers.items ≡ numbers ++ row = c.in_ok-append.ensures.ok in
     let end : c.len-end.result ≡ length (numbers ++ row) = search rules in
     rw (c.push_reserved.ensures.items, c.reserve.ensures.items, grown, end) (cut-push numbers row ends c.self.invariant)
 
@@ -16,7 +16,7 @@ returns-clause-ok c =
     let numbers = c.self.inside.numbers.items in
     let ends = c.self.inside.ends.items in
     let row = c.args.row.now in
-    let grown : c.extend_from_slice.new.self.items ≡ numbers ++ row = c.in_ok-extend_from_slice.ensures.items in
+    let grown : c.append.new.numbers.items ≡ numbers ++ row = c.in_ok-append.ensures.ok in
     let end : c.len-end.result ≡ length (numbers ++ row) = search rules in
     rw (← c.self.view_is, c.push_reserved.ensures.items, c.reserve.ensures.items, grown, end)
     (texts-push numbers row 0 ends c.self.invariant.within c.self.invariant.whole)

@@ -17,6 +17,7 @@ invariant_of-result c =
         few_entries = c.requires.few_entries;
         few_includes = omega (arith, c.requires.few_includes, ap length kept);
       };
+      marked = c.marks_of-marks.ensures;
       indices = record {
         domain = λ text. c.in_ok-domains.ensures text ∙ ap (λ (ts : List (List ℕ)). has_text ts text) c.as_slice.ensures;
         alias = c.in_ok-alias_links.ensures ∙ ap (map (name_hash c.key_of-key.result)) c.as_slice-4.ensures;

@@ -1,6 +1,6 @@
 use Rattle.std.proofs.Common.{◌≡◌, length, ◌≤◌}
 use Rattle.relay_job.specs.JobParts.{commands_at}
-use Rattle.relay_job.proofs.envelope.split_command.Given as goal
+use Rattle.relay_job.proofs.command.Command.split_from.Given as goal
 
 -- The lines that were passed are of white space alone.
 abbrev pub invariant-loop-line : goal.invariant-loop-line

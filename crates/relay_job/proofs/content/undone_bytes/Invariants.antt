@@ -2,7 +2,7 @@ use Rattle.std.proofs.Common.{◌≡◌, ◌++◌, length}
 use Rattle.std.specs.List.{flat_map}
 use Rattle.relay_job.specs.JobText.{JobLine, content_of}
 use Rattle.relay_job.specs.Places.{content_at}
-use Rattle.relay_job.proofs.content.section_bytes.Given as goal
+use Rattle.relay_job.proofs.content.undone_bytes.Given as goal
 
 -- The lines that were passed are copied.
 abbrev pub invariant-loop-line : goal.invariant-loop-line

@@ -1,10 +1,10 @@
 use Rattle.std.proofs.Common.{◌≡◌, ◌+◌, ◌-◌, ◌*◌, ◌^◌, ◌<◌, drop}
 use Rattle.relay_wire.specs.FrontedLines.{front_number}
-use Rattle.relay_wire.proofs.fronted_line.front_at.Given as goal
+use Rattle.relay_wire.proofs.fronted_line.short_front.Given as goal
 
 -- the bytes so far, with what the bytes left give, make the number
 abbrev pub invariant-loop-place : goal.invariant-loop-place
 invariant-loop-place l = record {
-  small : l.number < 256 ^ (l.place - l.start);
-  whole : l.number * 256 ^ (l.start + 8 - l.place) + front_number (l.start + 8 - l.place) (drop l.place l.text) ≡ front_number 8 (drop l.start l.text);
+  small : l.number < 256 ^ l.place;
+  whole : l.number * 256 ^ (8 - l.place) + front_number (8 - l.place) (drop l.place l.text) ≡ front_number 8 l.text;
 }
