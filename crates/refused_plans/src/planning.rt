@@ -1,0 +1,88 @@
+//! A job that is read, the plan of a message to one mailbox, and the domains of lists.
+use crate::devices::Page;
+use crate::jobs::{FIRST_JOB, LISTS_JOB};
+use crate::running::{LIMITS, OPTIONS};
+use aliasplan::{Job, NoGate, RunFault, domains, parse_job, plan_job, read_job};
+use growth_answers::inputs::{are_texts, is_address};
+use growth_answers::{Answer, Seen, Teller, Unready, call, case};
+use relay_routes::Transport;
+use relay_text::{Seq, Text};
+use relay_wire::{Plan, Planned};
+use std::alloc::Global;
+use std::thread::Threads;
+
+fn reads_a_job(alloc: Global) -> Result<Answer, Unready> {
+    match read_job(alloc, &mut Page::new(FIRST_JOB), 1000) {
+        Ok(text) => Ok(Answer::given(text.as_bytes() == FIRST_JOB)),
+        Err(RunFault::Memory) => Ok(Answer::Refused),
+        Err(_) => Ok(Answer::Wrong),
+    }
+}
+
+fn is_transaction(planned: &Planned) -> bool {
+    planned
+        .from
+        .as_ref()
+        .is_some_and(|from| is_address(from, b"a", b"example.net"))
+        && planned.transport == Transport::Lmtp
+        && planned.nexthop.as_bytes() == b"unix:mbox".as_slice()
+        && are_texts(planned.hosts.as_slice(), &[b"unix:mbox"])
+        && matches!(planned.to.as_slice(), [to] if is_address(to, b"joe", b"example.org"))
+}
+
+fn is_plan(plan: &Plan) -> bool {
+    plan.hostname.as_bytes() == b"relay.example.org".as_slice()
+        && matches!(plan.transactions.as_slice(), [planned] if is_transaction(planned))
+        && plan.findings.is_empty()
+}
+
+fn is_planned(plan: Result<Plan, RunFault>) -> Answer {
+    match plan {
+        Ok(plan) => Answer::given(is_plan(&plan)),
+        Err(RunFault::Memory) => Answer::Refused,
+        Err(_) => Answer::Wrong,
+    }
+}
+
+fn plans_a_job<R: Threads + Sync>(rt: &R, alloc: Global) -> Result<Seen, Unready> {
+    let job = parse_job(alloc, FIRST_JOB)?;
+    Ok(
+        match is_planned(plan_job(rt, alloc, &job, OPTIONS, LIMITS, &NoGate)) {
+            Answer::Refused => Seen::at_last(is_planned(plan_job(
+                rt, alloc, &job, OPTIONS, LIMITS, &NoGate,
+            ))),
+            answer => Seen::at_once(answer),
+        },
+    )
+}
+
+fn are_domains(domains: Result<Seq<Text>, RunFault>) -> Answer {
+    match domains {
+        Ok(domains) => Answer::given(are_texts(
+            domains.as_slice(),
+            &[b"example.com", b"example.net"],
+        )),
+        Err(RunFault::Memory) => Answer::Refused,
+        Err(_) => Answer::Wrong,
+    }
+}
+
+fn finds_domains<R: Threads + Sync>(rt: &R, alloc: Global) -> Result<Seen, Unready> {
+    let job = parse_job(alloc, LISTS_JOB)?;
+    Ok(
+        match are_domains(domains(rt, alloc, &job, OPTIONS, LIMITS, &NoGate)) {
+            Answer::Refused => Seen::at_last(are_domains(domains(
+                rt, alloc, &job, OPTIONS, LIMITS, &NoGate,
+            ))),
+            answer => Seen::at_once(answer),
+        },
+    )
+}
+
+pub(crate) fn tell<R: Print + AllocGlobal + Threads + Sync>(teller: &mut Teller<'_, R>) {
+    let rt = teller.rt;
+    let alloc = rt.alloc();
+    call!(teller, "read_job", reads_a_job(alloc));
+    case!(teller, "plan_job", plans_a_job(rt, alloc));
+    case!(teller, "domains", finds_domains(rt, alloc));
+}

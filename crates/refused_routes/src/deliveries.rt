@@ -1,0 +1,93 @@
+//! The transactions of what goes out.
+use growth_answers::inputs::{address, is_address};
+use growth_answers::{Answer, Teller, Unready, call};
+use relay_delivery::{BatchLimits, Routed, Stop, transactions};
+use relay_routes::{Hosts, Route, Transport};
+use relay_text::{Address, Text};
+use relay_wire::Planned;
+use std::alloc::{AllocError, Global};
+
+const LIMITS: BatchLimits = BatchLimits {
+    lmtp: 1,
+    relay: 50,
+    smtp: 50,
+};
+
+/// Under the second sender, the null sender, the first recipient goes out, who stands there again as the third, and the second; under
+/// the first sender the first alone.
+const STOPS: [Stop; 4] = [
+    Stop {
+        sender: 0,
+        recipient: 0,
+    },
+    Stop {
+        sender: 1,
+        recipient: 0,
+    },
+    Stop {
+        sender: 1,
+        recipient: 1,
+    },
+    Stop {
+        sender: 1,
+        recipient: 2,
+    },
+];
+
+fn route(alloc: Global) -> Result<Route, AllocError> {
+    Ok(Route {
+        transport: Transport::Lmtp,
+        nexthop: Text::copy_of(alloc, b"unix:mbox")?,
+        hosts: Hosts::one(alloc, Text::copy_of(alloc, b"unix:mbox")?)?,
+    })
+}
+
+/// Whether a transaction is by the route to one recipient, from the null sender or not.
+fn is_planned(planned: &Planned, from_null: bool, to: &Address) -> bool {
+    planned.transport == Transport::Lmtp
+        && planned.nexthop.as_bytes() == b"unix:mbox".as_slice()
+        && planned.from.is_none() == from_null
+        && matches!(planned.to.as_slice(), [only] if is_address(only, to.local(), to.domain()))
+}
+
+/// Whether the null sender has a transaction for each of two recipients, and another sender one for the later.
+fn are_planned(planned: &[Planned], first: &Address, last: &Address) -> bool {
+    match planned {
+        [to_first, to_last, from_other] => {
+            is_planned(to_first, true, first)
+                && is_planned(to_last, true, last)
+                && is_planned(from_other, false, last)
+        }
+        _ => false,
+    }
+}
+
+/// What is answered where the first two recipients and the third, who is the first again, go by the route.
+fn answered(
+    alloc: Global,
+    sender: &Address,
+    first: &Address,
+    last: &Address,
+    routes: &[Route; 1],
+) -> Result<Answer, AllocError> {
+    let stops = Vec::from_array(alloc, STOPS)?;
+    let recipients = [last, first, last].map(|address| Routed { route: 0, address });
+    let senders = [Some(sender), None];
+    match transactions(alloc, &senders, routes, &recipients, stops, LIMITS) {
+        Ok(planned) => Ok(Answer::given(are_planned(&planned, first, last))),
+        Err(_) => Ok(Answer::Refused),
+    }
+}
+
+fn makes_transactions(alloc: Global) -> Result<Answer, Unready> {
+    let sender = address(alloc, b"list-owner@example.net")?;
+    let first = address(alloc, b"ann@a-department-with-a-long-name.example.net")?;
+    let last = address(alloc, b"joe@a-department-with-a-long-name.example.net")?;
+    let routes = [route(alloc)?];
+    Ok(answered(alloc, &sender, &first, &last, &routes)?)
+}
+
+pub(crate) fn tell<R: Print + AllocGlobal>(teller: &mut Teller<'_, R>) {
+    let alloc = teller.rt.alloc();
+    call!(teller, "transactions", makes_transactions(alloc));
+}

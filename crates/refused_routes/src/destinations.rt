@@ -1,0 +1,100 @@
+//! Routes of addresses, each looked up once.
+use crate::routes::{mailbox_transport, router};
+use growth_answers::inputs::address;
+use growth_answers::{Answer, Seen, Teller, Unready, call, case, twice};
+use relay_destinations::{Destinations, Way};
+use relay_routes::{Route, Transport, Unrouted};
+use std::alloc::{AllocError, Global};
+
+/// Whether a way leads to the route by this transport to this nexthop.
+fn leads_to(
+    way: &Result<Way, AllocError>,
+    routes: &[Route],
+    transport: Transport,
+    nexthop: &[u8],
+) -> Answer {
+    match way {
+        Ok(Way::To(number)) => Answer::given(
+            routes.get(*number as usize).is_some_and(|route| {
+                route.transport == transport && route.nexthop.as_bytes() == nexthop
+            }),
+        ),
+        Ok(Way::Nowhere(_)) => Answer::Wrong,
+        Err(_) => Answer::Refused,
+    }
+}
+
+/// Whether a way leads nowhere, since the domain isn't known.
+fn leads_nowhere(way: &Result<Way, AllocError>, reasons: &[Unrouted]) -> Answer {
+    match way {
+        Ok(Way::Nowhere(number)) => Answer::given(matches!(
+            reasons.get(*number as usize),
+            Some(Unrouted::Domain)
+        )),
+        Ok(Way::To(_)) => Answer::Wrong,
+        Err(_) => Answer::Refused,
+    }
+}
+
+fn makes_destinations(alloc: Global) -> Result<Answer, Unready> {
+    let router = router(alloc)?;
+    let via = mailbox_transport(alloc)?;
+    match Destinations::new(alloc, &router, &via, 0) {
+        Ok(found) => Ok(Answer::given(found.routes().is_empty() && found.reasons().is_empty())),
+        Err(_) => Ok(Answer::Refused),
+    }
+}
+
+fn finds_a_route(alloc: Global) -> Result<Seen, Unready> {
+    let router = router(alloc)?;
+    let via = mailbox_transport(alloc)?;
+    let address = address(alloc, b"u@a.b.example.net")?;
+    let mut found = Destinations::new(alloc, &router, &via, 0)?;
+    Ok(twice!({
+        let way = found.find(alloc, &address);
+        leads_to(
+            &way,
+            found.routes(),
+            Transport::Relay,
+            b"hub.a-department-with-a-long-name.example.com:2525",
+        )
+    }))
+}
+
+fn finds_a_reason(alloc: Global) -> Result<Seen, Unready> {
+    let router = router(alloc)?;
+    let via = mailbox_transport(alloc)?;
+    let address = address(alloc, b"u@a-domain-that-nobody-knows.example")?;
+    let mut found = Destinations::new(alloc, &router, &via, 0)?;
+    Ok(twice!({
+        let way = found.find(alloc, &address);
+        leads_nowhere(&way, found.reasons())
+    }))
+}
+
+fn finds_a_mailboxs_route(alloc: Global) -> Result<Seen, Unready> {
+    let router = router(alloc)?;
+    let via = mailbox_transport(alloc)?;
+    let address = address(alloc, b"joe")?;
+    let mut found = Destinations::new(alloc, &router, &via, 0)?;
+    Ok(twice!({
+        let way = found.find_mailbox(alloc, &address);
+        leads_to(&way, found.routes(), Transport::Lmtp, b"unix:mbox")
+    }))
+}
+
+pub(crate) fn tell<R: Print + AllocGlobal>(teller: &mut Teller<'_, R>) {
+    let alloc = teller.rt.alloc();
+    call!(teller, "Destinations::new", makes_destinations(alloc));
+    case!(teller, "Destinations::find", finds_a_route(alloc));
+    case!(
+        teller,
+        "Destinations::find, no route",
+        finds_a_reason(alloc)
+    );
+    case!(
+        teller,
+        "Destinations::find_mailbox",
+        finds_a_mailboxs_route(alloc)
+    );
+}

@@ -1,0 +1,53 @@
+//! The nodes that are on a loop.
+ghost use Rattle.std.specs.Prelude.{◌≡◌, length, IfOk};
+ghost use Rattle.std.specs.List.{range_with_len};
+ghost use Rattle.relay_loops.specs.Loops.{IsClosedPart};
+
+use crate::tables::tables;
+use growth_answers::{Answer, Seen, Teller, Unready, case};
+use relay_loops::{on_loops, whole_graphs};
+use relay_rounds::NoGate;
+use relay_tables::Graph;
+use std::alloc::Global;
+use std::thread::Threads;
+
+/// Two rings, and a node between them.
+const RINGS: &[u8] = b"a: b, c\nb: a\nc: e\ne: f, y@example.net\nf: e\n";
+
+/// The numbers of all nodes, which are a closed part.
+fn all_nodes(alloc: Global, graph: &Graph) -> Result<Vec<u32>, Unready>
+    ensures all { IfOk result (λ nodes. nodes.items ≡ range_with_len 0 (length graph.now.nodes)) }
+    ensures closed { IfOk result (λ nodes. IsClosedPart graph.now nodes.items) }
+{
+    whole_graphs();
+    if graph.nodes() > 1000 {
+        return Err(Unready::Wrong);
+    }
+    let nodes = (0..graph.nodes() as u32).collect(alloc)?;
+    Ok(nodes)
+}
+
+fn are_loops<R: Threads + Sync>(rt: &R, alloc: Global, graph: &Graph, nodes: &[u32]) -> Answer
+    requires { IsClosedPart graph.now nodes.now }
+{
+    match on_loops(rt, alloc, graph, nodes, 2, 1, &NoGate) {
+        Ok(loops) => Answer::given(loops.as_slice() == [0, 1, 3, 4].as_slice()),
+        Err(_) => Answer::Refused,
+    }
+}
+
+fn finds_loops<R: Threads + Sync>(rt: &R, alloc: Global) -> Result<Seen, Unready> {
+    let tables = tables(alloc, false, RINGS)?;
+    let graph = Graph::build(alloc, &tables, None, &[], 1000, 0)?;
+    let nodes = all_nodes(alloc, &graph)?;
+    Ok(match are_loops(rt, alloc, &graph, &nodes) {
+        Answer::Refused => Seen::at_last(are_loops(rt, alloc, &graph, &nodes)),
+        answer => Seen::at_once(answer),
+    })
+}
+
+pub(crate) fn tell<R: Print + AllocGlobal + Threads + Sync>(teller: &mut Teller<'_, R>) {
+    let rt = teller.rt;
+    let alloc = rt.alloc();
+    case!(teller, "on_loops", finds_loops(rt, alloc));
+}

@@ -1,0 +1,71 @@
+//! Which senders and nodes a message reaches.
+ghost use Rattle.relay_pairs.specs.Pairs.{ArePairs};
+
+use crate::tables::{OWNED, tables};
+use growth_answers::inputs::address;
+use growth_answers::{Answer, Seen, Teller, Unready, case};
+use relay_pairs::{Reached, reached_nodes, reached_pairs};
+use relay_rounds::{NoGate, ReachFault};
+use relay_tables::Graph;
+use std::alloc::Global;
+use std::thread::Threads;
+
+/// The graph of a message from `a@example.com` to the list `outer`.
+fn graph(alloc: Global) -> Result<Graph, Unready> {
+    let tables = tables(alloc, false, OWNED)?;
+    let sender = address(alloc, b"a@example.com")?;
+    let recipients = Vec::from_array(alloc, [address(alloc, b"outer")?])?;
+    let graph = Graph::build(alloc, &tables, Some(&sender), &recipients, 1000, 10)?;
+    Ok(graph)
+}
+
+const fn pair(sender: u32, node: u32) -> Reached {
+    Reached { sender, node }
+}
+
+/// Whether the pairs are the aliases and kim under the envelope's sender, and under the owner's what `inner` names.
+fn are_pairs(pairs: &[Reached]) -> bool {
+    let wanted = [pair(0, 0), pair(0, 1), pair(0, 3), pair(1, 3), pair(1, 4)];
+    pairs == wanted.as_slice()
+}
+
+fn are_reached<R: Threads + Sync>(rt: &R, alloc: Global, graph: &Graph) -> Answer {
+    match reached_pairs(rt, alloc, graph, 2, 1, 100, &NoGate) {
+        Ok(pairs) => Answer::given(are_pairs(&pairs)),
+        Err(ReachFault::Memory) => Answer::Refused,
+        Err(ReachFault::TooManyPairs) => Answer::Wrong,
+    }
+}
+
+fn reaches_pairs<R: Threads + Sync>(rt: &R, alloc: Global) -> Result<Seen, Unready> {
+    let graph = graph(alloc)?;
+    Ok(match are_reached(rt, alloc, &graph) {
+        Answer::Refused => Seen::at_last(are_reached(rt, alloc, &graph)),
+        answer => Seen::at_once(answer),
+    })
+}
+
+fn are_nodes(alloc: Global, graph: &Graph, pairs: &[Reached]) -> Answer
+    requires { ArePairs graph.now pairs.now }
+{
+    match reached_nodes(alloc, graph, pairs) {
+        Ok(nodes) => Answer::given(nodes.as_slice() == [0, 1, 3, 4].as_slice()),
+        Err(_) => Answer::Refused,
+    }
+}
+
+fn lists_nodes<R: Threads + Sync>(rt: &R, alloc: Global) -> Result<Seen, Unready> {
+    let graph = graph(alloc)?;
+    let pairs = reached_pairs(rt, alloc, &graph, 2, 1, 100, &NoGate)?;
+    Ok(match are_nodes(alloc, &graph, &pairs) {
+        Answer::Refused => Seen::at_last(are_nodes(alloc, &graph, &pairs)),
+        answer => Seen::at_once(answer),
+    })
+}
+
+pub(crate) fn tell<R: Print + AllocGlobal + Threads + Sync>(teller: &mut Teller<'_, R>) {
+    let rt = teller.rt;
+    let alloc = rt.alloc();
+    case!(teller, "reached_pairs", reaches_pairs(rt, alloc));
+    case!(teller, "reached_nodes", lists_nodes(rt, alloc));
+}

@@ -1,0 +1,144 @@
+//! Lists per destination, and transactions within limits.
+ghost use Rattle.std.specs.Prelude.{◌≡◌, ◌<◌, length};
+
+use growth_answers::{Answer, Seen, Teller, Unready, call, case};
+use relay_rings::{Placed, RingFault, Rings, Transaction, batches};
+use std::alloc::Global;
+
+/// What is appended to which list, and what the three lists are from then on.
+#[derive(Clone, Copy)]
+struct Step {
+    dest: usize,
+    item: u32,
+    lists: [&'static [u32]; 3],
+}
+
+const NONE: [&[u32]; 3] = [&[], &[], &[]];
+
+/// So many that the nodes grow where there are some.
+const STEPS: [Step; 5] = [
+    Step {
+        dest: 2,
+        item: 8,
+        lists: [&[], &[], &[8]],
+    },
+    Step {
+        dest: 0,
+        item: 5,
+        lists: [&[5], &[], &[8]],
+    },
+    Step {
+        dest: 2,
+        item: 6,
+        lists: [&[5], &[], &[8, 6]],
+    },
+    Step {
+        dest: 1,
+        item: 7,
+        lists: [&[5], &[7], &[8, 6]],
+    },
+    Step {
+        dest: 0,
+        item: 9,
+        lists: [&[5, 9], &[7], &[8, 6]],
+    },
+];
+
+fn makes_rings(alloc: Global) -> Result<Answer, Unready> {
+    match Rings::new(alloc, 3, 3) {
+        Ok(rings) => Ok(Answer::given(are_lists(&rings, &NONE))),
+        Err(_) => Ok(Answer::Refused),
+    }
+}
+
+/// Whether a destination has these items.
+fn has_items(rings: &Rings, dest: usize, items: &[u32]) -> bool
+    requires { dest < length rings.now.lists }
+{
+    rings.len(dest) == items.len() && rings.walk(dest).eq(items.iter().copied())
+}
+
+fn are_lists(rings: &Rings, lists: &[&[u32]; 3]) -> bool
+    requires { length rings.now.lists ≡ 3 }
+{
+    has_items(rings, 0, lists[0]) && has_items(rings, 1, lists[1]) && has_items(rings, 2, lists[2])
+}
+
+/// What a step answers; where it's refused, all lists are as they were.
+fn appended(rings: &mut Rings, step: &Step, before: &[&[u32]; 3]) -> Answer
+    requires { length rings.old.lists ≡ 3 }
+    ensures { length rings.new.lists ≡ 3 }
+{
+    if step.dest >= 3 {
+        return Answer::Wrong;
+    }
+    match rings.append(step.dest, step.item) {
+        Ok(()) => Answer::given(are_lists(rings, &step.lists)),
+        Err(RingFault::Memory) => Answer::refused(are_lists(rings, before)),
+        Err(RingFault::Full) => Answer::Wrong,
+    }
+}
+
+/// The same, again where it's refused.
+fn appended_at_last(rings: &mut Rings, next: &Step, before: &[&[u32]; 3]) -> Seen
+    requires { length rings.old.lists ≡ 3 }
+    ensures { length rings.new.lists ≡ 3 }
+{
+    match appended(rings, next, before) {
+        Answer::Refused => Seen::at_last(appended(rings, next, before)),
+        answer => Seen::at_once(answer),
+    }
+}
+
+fn appends(alloc: Global) -> Result<Seen, Unready> {
+    let mut rings = Rings::new(alloc, 3, 5)?;
+    let mut seen = Seen::Answered;
+    let mut before = NONE;
+    for next in &STEPS {
+        seen = seen.max(appended_at_last(&mut rings, next, &before));
+        if !seen.is_answered() {
+            return Ok(seen);
+        }
+        before = next.lists;
+    }
+    if rings.append(1, 4) != Err(RingFault::Full) || !are_lists(&rings, &before) {
+        return Ok(Seen::Wrong);
+    }
+    Ok(seen)
+}
+
+fn is_transaction(transaction: &Transaction, key: u32, items: &[u32]) -> bool {
+    transaction.key == key && transaction.items.as_slice() == items
+}
+
+fn are_batches(made: &[Transaction]) -> bool {
+    match made {
+        [first, second, third] => {
+            is_transaction(first, 0, &[1, 2])
+                && is_transaction(second, 0, &[3])
+                && is_transaction(third, 2, &[1])
+        }
+        _ => false,
+    }
+}
+
+fn at(key: u32, item: u32) -> Placed
+    ensures { result ≡ record { key = key; item = item } }
+{
+    Placed { key, item }
+}
+
+fn cuts_batches(alloc: Global) -> Result<Answer, Unready> {
+    let placed = [at(0, 1), at(0, 2), at(0, 3), at(2, 1)];
+    match batches(alloc, &placed, &[2, 2, 2]) {
+        Ok(made) => Ok(Answer::given(are_batches(&made))),
+        Err(_) => Ok(Answer::Refused),
+    }
+}
+
+pub(crate) fn tell<R: Print + AllocGlobal>(teller: &mut Teller<'_, R>) {
+    let alloc = teller.rt.alloc();
+    call!(teller, "Rings::new", makes_rings(alloc));
+    case!(teller, "Rings::append", appends(alloc));
+    call!(teller, "batches", cuts_batches(alloc));
+}

@@ -1,0 +1,151 @@
+//! The files that administrators write.
+use growth_answers::inputs::are_texts;
+use growth_answers::{Answer, Seen, Teller, Unready, call, case, twice};
+use relay_aliasfile::{
+    AliasFile, Entry, FaultKind, IncludeFile, Item, Items, LineFault, include_names,
+    include_names_of, parse_aliases, parse_include, parse_mailboxes,
+};
+use relay_text::Text;
+use std::alloc::Global;
+
+const ALIASES: &[u8] = b"  x\na b: joe\nc:\nc: joe\nd: joe, \"q, kim\n";
+
+const fn fault(line: usize, kind: FaultKind) -> LineFault {
+    LineFault { line, kind }
+}
+
+fn is_bare(item: &Item, name: &[u8]) -> bool {
+    matches!(item, Item::Bare(text) if text.as_bytes() == name)
+}
+
+fn is_include(item: &Item, path: &[u8]) -> bool {
+    matches!(item, Item::Include(text) if text.as_bytes() == path)
+}
+
+fn are_entries(entries: &[Entry]) -> bool {
+    match entries {
+        [first, second] => {
+            first.name.as_bytes() == b"c".as_slice()
+                && first.items.is_empty()
+                && second.name.as_bytes() == b"d".as_slice()
+                && matches!(second.items.as_slice(), [item] if is_bare(item, b"joe"))
+        }
+        _ => false,
+    }
+}
+
+fn is_alias_file(file: &AliasFile) -> bool {
+    let faults = [
+        fault(1, FaultKind::BadLine),
+        fault(2, FaultKind::BadLine),
+        fault(3, FaultKind::Empty),
+        fault(4, FaultKind::Duplicate),
+        fault(5, FaultKind::BadItem),
+    ];
+    are_entries(file.entries.as_slice()) && file.faults.as_slice() == faults.as_slice()
+}
+
+fn reads_aliases(alloc: Global) -> Result<Answer, Unready> {
+    match parse_aliases(alloc, ALIASES) {
+        Ok(file) => Ok(Answer::given(is_alias_file(&file))),
+        Err(_) => Ok(Answer::Refused),
+    }
+}
+
+fn lists_includes_of_aliases(alloc: Global) -> Result<Seen, Unready> {
+    let file = parse_aliases(alloc, b"list: :include:/l\nb: :include:/l, :include:/m\n")?;
+    Ok(twice!(match include_names(alloc, &file) {
+        Ok(names) => Answer::given(are_texts(names.as_slice(), &[b"/l", b"/m"])),
+        Err(_) => Answer::Refused,
+    }))
+}
+
+fn is_include_file(file: &IncludeFile) -> bool {
+    let are_items = match file.items.as_slice() {
+        [first, second] => is_include(first, b"/l") && is_bare(second, b"joe"),
+        _ => false,
+    };
+    are_items && file.faults.as_slice() == [fault(2, FaultKind::BadItem)].as_slice()
+}
+
+fn reads_an_include_file(alloc: Global) -> Result<Answer, Unready> {
+    match parse_include(alloc, b":include:/l, joe\n\"q\n") {
+        Ok(file) => Ok(Answer::given(is_include_file(&file))),
+        Err(_) => Ok(Answer::Refused),
+    }
+}
+
+fn lists_includes_of_an_include_file(alloc: Global) -> Result<Seen, Unready> {
+    let file = parse_include(alloc, b":include:/l, joe\n:include:/l\n")?;
+    Ok(twice!(match include_names_of(alloc, &file) {
+        Ok(names) => Answer::given(are_texts(names.as_slice(), &[b"/l"])),
+        Err(_) => Answer::Refused,
+    }))
+}
+
+fn reads_mailboxes(alloc: Global) -> Result<Answer, Unready> {
+    match parse_mailboxes(alloc, b"Joe\na b\nkim\njoe\n") {
+        Ok(file) => {
+            let are_right = are_texts(file.names.as_slice(), &[b"joe", b"kim"])
+                && file.faults.as_slice() == [fault(2, FaultKind::BadLine)].as_slice();
+            Ok(Answer::given(are_right))
+        }
+        Err(_) => Ok(Answer::Refused),
+    }
+}
+
+/// A bare item of this name.
+fn bare(alloc: Global, name: &[u8]) -> Result<Item, Unready> {
+    Ok(Item::Bare(Text::copy_of(alloc, name)?))
+}
+
+/// Whether the items are four of `a` and perhaps a `b`.
+fn are_items(items: &[Item], has_more: bool) -> bool {
+    match items {
+        [a, b, c, d, more @ ..] => {
+            let are_more = match more {
+                [] => !has_more,
+                [last] => has_more && is_bare(last, b"b"),
+                _ => false,
+            };
+            are_more && is_bare(a, b"a") && is_bare(b, b"a") && is_bare(c, b"a") && is_bare(d, b"a")
+        }
+        _ => false,
+    }
+}
+
+/// What putting one more item behind four answers.
+fn pushed(items: &mut Items, item: Item) -> Answer {
+    match items.push(item) {
+        Ok(()) => Answer::given(are_items(items.as_slice(), true)),
+        Err(_) => Answer::refused(are_items(items.as_slice(), false)),
+    }
+}
+
+/// Four items lie in the value itself, and a fifth doesn't.
+fn adds_to_items(alloc: Global) -> Result<Seen, Unready> {
+    let mut items = Items::new(alloc);
+    for _ in 0..4 {
+        items.push(bare(alloc, b"a")?)?;
+    }
+    let first = bare(alloc, b"b")?;
+    let again = bare(alloc, b"b")?;
+    Ok(match pushed(&mut items, first) {
+        Answer::Refused => Seen::at_last(pushed(&mut items, again)),
+        answer => Seen::at_once(answer),
+    })
+}
+
+pub(crate) fn tell<R: Print + AllocGlobal>(teller: &mut Teller<'_, R>) {
+    let alloc = teller.rt.alloc();
+    call!(teller, "parse_aliases", reads_aliases(alloc));
+    case!(teller, "include_names", lists_includes_of_aliases(alloc));
+    call!(teller, "parse_include", reads_an_include_file(alloc));
+    case!(
+        teller,
+        "include_names_of",
+        lists_includes_of_an_include_file(alloc)
+    );
+    call!(teller, "parse_mailboxes", reads_mailboxes(alloc));
+    case!(teller, "Items::push", adds_to_items(alloc));
+}

@@ -1,0 +1,24 @@
+//! The public calls of relay_text, relay_aliasfile and relay_wire that take memory, each on a worked example, made and judged as
+//! growth_answers says.
+#![tactic(auto)]
+
+mod alias_files;
+mod texts;
+mod wire;
+
+use growth_answers::{DONE, Teller};
+use std::env;
+use std::process::ExitCode;
+
+fn main(rt: HostRuntime) -> ExitCode {
+    let Ok(words) = env::args(&rt) else {
+        let _ = println!(rt; "refused_texts had no memory to begin");
+        return ExitCode::from(DONE);
+    };
+    let name = words.skip(1).next();
+    let mut teller = Teller::new(&rt, name.as_ref().map(|name| name.as_str()));
+    texts::tell(&mut teller);
+    alias_files::tell(&mut teller);
+    wire::tell(&mut teller);
+    ExitCode::from(teller.status())
+}
