@@ -1,5 +1,6 @@
 //! Tells how cases went, a line each.
-ghost use Rattle.std.specs.Prelude.{◌≡◌, true, false};
+ghost use Rattle.std.specs.Prelude.{◌≡◌, true, false, Ok, Err, IfSome};
+ghost use Rattle.std.specs.Str.{bytes_eq};
 
 use crate::seen::Seen;
 use crate::unready::Unready;
@@ -30,6 +31,7 @@ pub struct Teller<'a, R> {
 impl<'a, R: Print + AllocGlobal> Teller<'a, R> {
     /// For the one call of this name; for all where there is none.
     pub fn new(rt: &'a R, asked: Option<&'a str>) -> Teller<'a, R>
+        ensures asked { result.asked ≡ asked.entry }
         ensures untold { result.told ≡ false }
         ensures right { result.wrong ≡ false }
         ensures heard { result.silenced ≡ false }
@@ -60,7 +62,10 @@ impl<'a, R: Print + AllocGlobal> Teller<'a, R> {
     }
 
     /// Whether a case is asked for.
-    pub fn is_asked(&self, name: &str) -> bool {
+    pub fn is_asked(&self, name: &str) -> bool
+        ensures each { self.now.asked ≡ None → result ≡ true }
+        ensures one { IfSome self.now.asked (λ asked. result ≡ bytes_eq asked.now name.now) }
+    {
         match self.asked {
             Some(asked) => asked == name,
             None => true,
@@ -68,7 +73,18 @@ impl<'a, R: Print + AllocGlobal> Teller<'a, R> {
     }
 
     /// Prints how a case went.
-    pub fn tell(&mut self, name: &str, went: Result<Seen, Unready>) {
+    pub fn tell(&mut self, name: &str, went: Result<Seen, Unready>)
+        ensures told { self.new.told ≡ true }
+        ensures changed { went ≡ Ok Seen.Changed → self.new.wrong ≡ true }
+        ensures other { went ≡ Ok Seen.Wrong → self.new.wrong ≡ true }
+        ensures inputs { went ≡ Err Unready.Wrong → self.new.wrong ≡ true }
+        ensures answered { went ≡ Ok Seen.Answered → self.new.wrong ≡ self.old.wrong }
+        ensures recovered { went ≡ Ok Seen.Recovered → self.new.wrong ≡ self.old.wrong }
+        ensures refused { went ≡ Ok Seen.RefusedTwice → self.new.wrong ≡ self.old.wrong }
+        ensures no_memory { went ≡ Err Unready.NoMemory → self.new.wrong ≡ self.old.wrong }
+        ensures silenced { self.old.silenced ≡ true → self.new.silenced ≡ true }
+        ensures asked { self.new.asked ≡ self.old.asked }
+    {
         let (words, is_right) = match went {
             Ok(Seen::Answered) => ("answered", true),
             Ok(Seen::Recovered) => ("refused, then answered", true),

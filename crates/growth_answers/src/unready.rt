@@ -1,5 +1,6 @@
 //! Why a case didn't begin.
-ghost use Rattle.std.specs.Prelude.{◌≡◌, Ok, Err};
+ghost use Rattle.std.specs.Prelude.{◌≡◌, ◌↔◌, Ok, Err};
+ghost use Rattle.growth_answers.specs.declared.unready.Unready.TheVariants.{NoMemory};
 
 use crate::answer::Answer;
 use crate::seen::Seen;
@@ -20,18 +21,26 @@ pub enum Unready {
 }
 
 impl From<AllocError> for Unready {
+    ghost from_gives = { λ _ unready. unready ≡ NoMemory };
+
     fn from(_error: AllocError) -> Unready {
         Unready::NoMemory
     }
 }
 
 impl<T: Drop> From<AllocFailed<T>> for Unready {
+    ghost from_gives = { λ _ unready. unready ≡ NoMemory };
+
     fn from(_error: AllocFailed<T>) -> Unready {
         Unready::NoMemory
     }
 }
 
 impl From<TextFault> for Unready {
+    ghost use Rattle.relay_text.specs.declared.fault.TextFault.TheVariants.{Memory};
+
+    ghost from_gives = { λ fault unready. unready ≡ NoMemory ↔ fault ≡ Memory };
+
     fn from(fault: TextFault) -> Unready {
         match fault {
             TextFault::Memory => Unready::NoMemory,
@@ -41,6 +50,10 @@ impl From<TextFault> for Unready {
 }
 
 impl From<TableFault> for Unready {
+    ghost use Rattle.relay_tables.specs.declared.fault.TableFault.TheVariants.{Memory};
+
+    ghost from_gives = { λ fault unready. unready ≡ NoMemory ↔ fault ≡ Memory };
+
     fn from(fault: TableFault) -> Unready {
         match fault {
             TableFault::Memory => Unready::NoMemory,
@@ -50,6 +63,10 @@ impl From<TableFault> for Unready {
 }
 
 impl From<ReachFault> for Unready {
+    ghost use Rattle.relay_rounds.specs.declared.fault.ReachFault.TheVariants.{Memory};
+
+    ghost from_gives = { λ fault unready. unready ≡ NoMemory ↔ fault ≡ Memory };
+
     fn from(fault: ReachFault) -> Unready {
         match fault {
             ReachFault::Memory => Unready::NoMemory,
@@ -59,6 +76,10 @@ impl From<ReachFault> for Unready {
 }
 
 impl From<RunFault> for Unready {
+    ghost use Rattle.relay_job.specs.declared.fault.RunFault.TheVariants.{Memory};
+
+    ghost from_gives = { λ fault unready. unready ≡ NoMemory ↔ fault ≡ Memory };
+
     fn from(fault: RunFault) -> Unready {
         match fault {
             RunFault::Memory => Unready::NoMemory,
@@ -68,6 +89,10 @@ impl From<RunFault> for Unready {
 }
 
 impl From<Unrouted> for Unready {
+    ghost use Rattle.relay_routes.specs.declared.unrouted.Unrouted.TheVariants.{Memory};
+
+    ghost from_gives = { λ reason unready. unready ≡ NoMemory ↔ reason ≡ Memory };
+
     fn from(reason: Unrouted) -> Unready {
         match reason {
             Unrouted::Memory => Unready::NoMemory,

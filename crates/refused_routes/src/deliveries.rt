@@ -3,9 +3,10 @@ use growth_answers::inputs::{address, is_address};
 use growth_answers::{Answer, Teller, Unready, call};
 use relay_delivery::{BatchLimits, Routed, Stop, transactions};
 use relay_routes::{Hosts, Route, Transport};
-use relay_text::{Address, Text};
+use relay_text::{Address, Text, TextFault};
 use relay_wire::Planned;
 use std::alloc::{AllocError, Global};
+use std::slice;
 
 const LIMITS: BatchLimits = BatchLimits {
     lmtp: 1,
@@ -35,10 +36,13 @@ const STOPS: [Stop; 4] = [
 ];
 
 fn route(alloc: Global) -> Result<Route, AllocError> {
+    let host = Text::copy_of(alloc, b"unix:mbox")?;
+    let hosts = Hosts::one(alloc, host)?;
+    let nexthop = Text::copy_of(alloc, b"unix:mbox")?;
     Ok(Route {
         transport: Transport::Lmtp,
-        nexthop: Text::copy_of(alloc, b"unix:mbox")?,
-        hosts: Hosts::one(alloc, Text::copy_of(alloc, b"unix:mbox")?)?,
+        nexthop,
+        hosts,
     })
 }
 
@@ -62,15 +66,34 @@ fn are_planned(planned: &[Planned], first: &Address, last: &Address) -> bool {
     }
 }
 
+/// The sender who isn't the null sender, and two recipients.
+#[derive(Drop)]
+struct Addresses {
+    sender: Address,
+    first: Address,
+    last: Address,
+}
+
+fn message(alloc: Global) -> Result<Addresses, TextFault> {
+    let sender = address(alloc, b"list-owner@example.net")?;
+    let first = address(alloc, b"ann@a-department-with-a-long-name.example.net")?;
+    let last = address(alloc, b"joe@a-department-with-a-long-name.example.net")?;
+    Ok(Addresses {
+        sender,
+        first,
+        last,
+    })
+}
+
 /// What is answered where the first two recipients and the third, who is the first again, go by the route.
-fn answered(
-    alloc: Global,
-    sender: &Address,
-    first: &Address,
-    last: &Address,
-    routes: &[Route; 1],
-) -> Result<Answer, AllocError> {
+fn answered(alloc: Global, message: &Addresses, route: &Route) -> Result<Answer, AllocError> {
+    let Addresses {
+        sender,
+        first,
+        last,
+    } = message;
     let stops = Vec::from_array(alloc, STOPS)?;
+    let routes = slice::from_ref(route);
     let recipients = [last, first, last].map(|address| Routed { route: 0, address });
     let senders = [Some(sender), None];
     match transactions(alloc, &senders, routes, &recipients, stops, LIMITS) {
@@ -80,11 +103,9 @@ fn answered(
 }
 
 fn makes_transactions(alloc: Global) -> Result<Answer, Unready> {
-    let sender = address(alloc, b"list-owner@example.net")?;
-    let first = address(alloc, b"ann@a-department-with-a-long-name.example.net")?;
-    let last = address(alloc, b"joe@a-department-with-a-long-name.example.net")?;
-    let routes = [route(alloc)?];
-    Ok(answered(alloc, &sender, &first, &last, &routes)?)
+    let message = message(alloc)?;
+    let route = route(alloc)?;
+    Ok(answered(alloc, &message, &route)?)
 }
 
 pub(crate) fn tell<R: Print + AllocGlobal>(teller: &mut Teller<'_, R>) {

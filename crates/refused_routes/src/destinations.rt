@@ -3,8 +3,28 @@ use crate::routes::{mailbox_transport, router};
 use growth_answers::inputs::address;
 use growth_answers::{Answer, Seen, Teller, Unready, call, case, twice};
 use relay_destinations::{Destinations, Way};
-use relay_routes::{Route, Transport, Unrouted};
+use relay_routes::{Route, Router, Transport, Unrouted, Via};
+use relay_text::Address;
 use std::alloc::{AllocError, Global};
+
+/// What a route is found with.
+#[derive(Drop)]
+struct Sought {
+    router: Router,
+    via: Via,
+    address: Address,
+}
+
+fn seek(alloc: Global, text: &[u8]) -> Result<Sought, Unready> {
+    let address = address(alloc, text)?;
+    let via = mailbox_transport(alloc)?;
+    let router = router(alloc)?;
+    Ok(Sought {
+        router,
+        via,
+        address,
+    })
+}
 
 /// Whether a way leads to the route by this transport to this nexthop.
 fn leads_to(
@@ -36,22 +56,25 @@ fn leads_nowhere(way: &Result<Way, AllocError>, reasons: &[Unrouted]) -> Answer 
     }
 }
 
-fn makes_destinations(alloc: Global) -> Result<Answer, Unready> {
-    let router = router(alloc)?;
-    let via = mailbox_transport(alloc)?;
-    match Destinations::new(alloc, &router, &via, 0) {
-        Ok(found) => Ok(Answer::given(found.routes().is_empty() && found.reasons().is_empty())),
-        Err(_) => Ok(Answer::Refused),
+/// Whether nothing is found before an address is sought.
+fn begins(alloc: Global, router: &Router, via: &Via) -> Answer {
+    match Destinations::new(alloc, router, via, 0) {
+        Ok(found) => Answer::given(found.routes().is_empty() && found.reasons().is_empty()),
+        Err(_) => Answer::Refused,
     }
 }
 
-fn finds_a_route(alloc: Global) -> Result<Seen, Unready> {
-    let router = router(alloc)?;
+fn makes_destinations(alloc: Global) -> Result<Answer, Unready> {
     let via = mailbox_transport(alloc)?;
-    let address = address(alloc, b"u@a.b.example.net")?;
-    let mut found = Destinations::new(alloc, &router, &via, 0)?;
+    let router = router(alloc)?;
+    Ok(begins(alloc, &router, &via))
+}
+
+fn finds_a_route(alloc: Global) -> Result<Seen, Unready> {
+    let sought = seek(alloc, b"u@a.b.example.net")?;
+    let mut found = Destinations::new(alloc, &sought.router, &sought.via, 0)?;
     Ok(twice!({
-        let way = found.find(alloc, &address);
+        let way = found.find(alloc, &sought.address);
         leads_to(
             &way,
             found.routes(),
@@ -62,23 +85,19 @@ fn finds_a_route(alloc: Global) -> Result<Seen, Unready> {
 }
 
 fn finds_a_reason(alloc: Global) -> Result<Seen, Unready> {
-    let router = router(alloc)?;
-    let via = mailbox_transport(alloc)?;
-    let address = address(alloc, b"u@a-domain-that-nobody-knows.example")?;
-    let mut found = Destinations::new(alloc, &router, &via, 0)?;
+    let sought = seek(alloc, b"u@a-domain-that-nobody-knows.example")?;
+    let mut found = Destinations::new(alloc, &sought.router, &sought.via, 0)?;
     Ok(twice!({
-        let way = found.find(alloc, &address);
+        let way = found.find(alloc, &sought.address);
         leads_nowhere(&way, found.reasons())
     }))
 }
 
 fn finds_a_mailboxs_route(alloc: Global) -> Result<Seen, Unready> {
-    let router = router(alloc)?;
-    let via = mailbox_transport(alloc)?;
-    let address = address(alloc, b"joe")?;
-    let mut found = Destinations::new(alloc, &router, &via, 0)?;
+    let sought = seek(alloc, b"joe")?;
+    let mut found = Destinations::new(alloc, &sought.router, &sought.via, 0)?;
     Ok(twice!({
-        let way = found.find_mailbox(alloc, &address);
+        let way = found.find_mailbox(alloc, &sought.address);
         leads_to(&way, found.routes(), Transport::Lmtp, b"unix:mbox")
     }))
 }
