@@ -16,3 +16,8 @@ pub mod GatherFacts
 pub mod PlanFacts
 pub mod RouteLines
 pub mod PlacedFacts
+pub mod ReturnNodes
+pub mod ReturnSteps
+pub mod BlockFacts
+pub mod ReturnFacts
+pub mod ReturnFaults

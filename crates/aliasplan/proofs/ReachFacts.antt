@@ -7,7 +7,7 @@ use Rattle.relay_tables.specs.Senders.{Pair}
 use Rattle.relay_pairs.specs.declared.reached.Reached.{Reached}
 use Rattle.relay_pairs.specs.Pairs.{ArePairs, AreNodesOf}
 use Rattle.relay_pairs.specs.Chains.{HasNumbers}
-use Rattle.relay_pairs.proofs.Numbered.{has_pair}
+use Rattle.relay_pairs.proofs.Numbered.{has_pair, leads}
 use Rattle.relay_job.specs.declared.job.Job.{Job}
 use Rattle.aliasplan.specs.Delivery.{directory_of, IsReachedPair, IsJobGraph}
 use Rattle.aliasplan.specs.Reaching.{AreReachedPairs, AreReachedNodes}
@@ -31,7 +31,7 @@ module _ (job : Job) (g : GraphParts) (numbers : (pair : Pair) → IsReachedPair
         in_graph = in_graph;
         reached = λ n node c at.
             let p = (are.members n).0 c in
-            let has = has_pair (directory_of job) job.sender job.recipients g is p.0 ((all.members p.0).0 p.1) in
+            let has = has_pair (directory_of job) job.sender job.recipients g (leads (directory_of job) job.sender job.recipients g is) p.0 ((all.members p.0).0 p.1) in
             let same : has.pair.node ≡ node = same_Some has.pair.node node (sym has.node_at ∙ ap (slice_get g.nodes) p.2 ∙ at) in
             (has.pair.sender, subst (λ (m : Node). IsReachedPair job (record { sender = has.pair.sender; node = m })) same has.reached);
         numbered = λ node r.

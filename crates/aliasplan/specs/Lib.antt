@@ -12,3 +12,5 @@ pub mod Entries
 pub mod Collecting
 pub mod Routes
 pub mod Checks
+pub mod Returns
+pub mod ReturnLines

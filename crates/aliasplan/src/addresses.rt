@@ -27,7 +27,7 @@ const MULTIPLIER: u64 = 0x3c6e_f372_fe94_f82b;
 
 /// A key for the hashes of domains and nexthops, in which all files and tables of a job have a part. Who writes some of them doesn't
 /// know which names have one hash under it.
-fn key_of(job: &Job) -> u64 {
+pub(crate) fn key_of(job: &Job) -> u64 {
     let mut key = job.settings.seed;
     for table in [&job.aliases, &job.mailboxes, &job.transport, &job.mx] {
         key = key.wrapping_mul(MULTIPLIER) ^ u64::from(hash_text(key, table.as_bytes()));

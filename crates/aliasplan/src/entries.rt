@@ -43,7 +43,7 @@ fn is_reachable(node: &Node) -> bool
 }
 
 /// Adds the line of one target of a listing.
-fn report_target(
+pub(crate) fn report_target(
     alloc: Global,
     graph: &Graph,
     listing: Listing,
@@ -97,7 +97,7 @@ fn report_list(
 }
 
 /// Adds the lines of a node's targets.
-fn report_node(
+pub(crate) fn report_node(
     alloc: Global,
     tables: &Tables,
     graph: &Graph,

@@ -86,7 +86,7 @@ fn recipient_at<'a>(
 }
 
 /// The recipient that a node is. The line of an address without a route is added.
-fn recipient_of<'a>(
+pub(crate) fn recipient_of<'a>(
     alloc: Global,
     job: &Job,
     node: &'a Node,

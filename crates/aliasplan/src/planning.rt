@@ -166,7 +166,7 @@ fn plan_of(
 }
 
 /// The plan of a job that reaches these pairs. The lines of its files and tables that are at fault are given.
-fn plan_reached<G: Gate, R: Threads + Sync>(
+pub(crate) fn plan_reached<G: Gate, R: Threads + Sync>(
     crew: &Crew<G, R>,
     job: &Job,
     sources: &Sources,

@@ -15,6 +15,7 @@ use crate::standard_input::StandardInput;
 use crate::status::Status;
 use aliasplan::{
     Device, Limits, NoGate, Options, Paths, RunFault, SourceFault, gather, run, run_domains,
+    run_returns,
 };
 use relay_text::Text;
 use std::io;
@@ -58,6 +59,15 @@ fn planned<R: Print + Eprint + AllocGlobal + Threads + Sync, J: Read + Drop>(
     let limits = Limits::default();
     let summary = match output {
         Output::Text => run(
+            rt,
+            alloc,
+            &mut reader,
+            &mut writer,
+            options,
+            limits,
+            &NoGate,
+        )?,
+        Output::Returns => run_returns(
             rt,
             alloc,
             &mut reader,

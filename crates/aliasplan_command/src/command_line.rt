@@ -39,6 +39,8 @@ pub enum Request {
 pub enum Output {
     /// The text of its plan, in the form that the options name.
     Text,
+    /// The same, with whom to tell of what can't be delivered.
+    Returns,
     /// Its plan as a JSON object, whatever form the options name.
     Json,
     /// The domains that it asks for.
@@ -141,12 +143,19 @@ fn plan_command<'a>(alloc: Global) -> Result<Command<'a>, AllocError> {
             "plan for its lines, as where it isn't said, wire for the commands of each transaction, json for one JSON object",
         )
         .value_parser(["plan", "wire", "json"].as_slice());
+    let returns = Arg::new(alloc, "returns")
+        .long("returns")
+        .action(ArgAction::SetTrue)
+        .help(
+            "Before the findings, says for each sender what can't be delivered, and for which recipient; not in JSON",
+        );
     Command::new(alloc, "plan")
         .about("Reads a job and writes its plan on standard output")
         .after_help(AFTER_PLAN)
         .arg(workers(alloc))?
         .arg(cut(alloc))?
         .arg(form)?
+        .arg(returns)?
         .arg(verbose(alloc))?
         .arg(job_file(alloc))
 }
@@ -254,8 +263,14 @@ fn form_of(plan: &ArgMatches<'_>) -> Form {
 fn output_of(plan: &ArgMatches<'_>) -> Output {
     match plan.get_str("form") {
         Some("json") => Output::Json,
+        _ if plan.get_flag("returns") => Output::Returns,
         _ => Output::Text,
     }
+}
+
+/// Whether the words after a subcommand ask for returns in a form that has none.
+fn are_returns_in_json(name: &str, words: &ArgMatches<'_>) -> bool {
+    name == "plan" && words.get_flag("returns") && matches!(words.get_str("form"), Some("json"))
 }
 
 /// The path that an option names, if it stands there.
@@ -401,6 +416,10 @@ pub fn read_words<R: Env + Print + Eprint + AllocGlobal>(rt: &R) -> Request
     };
     match command.try_get_matches_from(words.as_slice()) {
         Ok(matches) => match matches.subcommand() {
+            Some((name, words)) if are_returns_in_json(name, words) => {
+                let _ = eprintln!(rt; "aliasplan: --returns has no JSON form");
+                Request::Unknown
+            }
             Some((name, words)) => request_of(rt.alloc(), name, words),
             None => Request::Unknown,
         },

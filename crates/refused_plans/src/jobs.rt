@@ -91,6 +91,46 @@ pub const LISTS_PLAN: &[u8] = b"plan 5 transactions 6 recipients 3 findings\n\
     finding missing bob in alias west\n\
     end\n";
 
+pub const LISTS_PLAN_WITH_RETURNS: &[u8] = b"plan 5 transactions 6 recipients 3 findings\n\
+    transaction 1\n\
+    from <editor@example.com>\n\
+    via lmtp unix:mailbox\n\
+    host unix:mailbox\n\
+    to <kim@example.org>\n\
+    transaction 2\n\
+    from <owner-club@example.org>\n\
+    via lmtp unix:mailbox\n\
+    host unix:mailbox\n\
+    to <joe@example.org>\n\
+    transaction 3\n\
+    from <owner-club@example.org>\n\
+    via smtp example.com\n\
+    host example.com\n\
+    to <cat@example.com>\n\
+    transaction 4\n\
+    from <owner-club@example.org>\n\
+    via smtp example.net\n\
+    host mx1.example.net\n\
+    host mx2.example.net\n\
+    to <amy@example.net>\n\
+    to <ben@example.net>\n\
+    transaction 5\n\
+    from <owner-club@example.org>\n\
+    via smtp example.net\n\
+    host mx1.example.net\n\
+    host mx2.example.net\n\
+    to <dan@example.net>\n\
+    return 1\n\
+    from <editor@example.com>\n\
+    missing bob in alias west for <east@example.org>\n\
+    finding loop alias east\n\
+    finding loop alias west\n\
+    finding missing bob in alias west\n\
+    end\n";
+
+/// That bob is missing, for the recipient who leads to him.
+pub const LISTS_RETURN: &[u8] = b"missing bob in alias west for <east@example.org>";
+
 pub const LISTS_DOMAINS: &[u8] = b"example.com\n\
     example.net\n";
 

@@ -1,8 +1,8 @@
 //! A job that is read, the plan of a message to one mailbox, and the domains of lists.
 use crate::devices::Page;
-use crate::jobs::{FIRST_JOB, LISTS_JOB};
+use crate::jobs::{FIRST_JOB, LISTS_JOB, LISTS_RETURN};
 use crate::running::{LIMITS, OPTIONS};
-use aliasplan::{Job, NoGate, RunFault, domains, parse_job, plan_job, read_job};
+use aliasplan::{Job, NoGate, Returned, RunFault, domains, parse_job, plan_job, read_job, returns};
 use growth_answers::inputs::{are_texts, is_address};
 use growth_answers::{Answer, Seen, Teller, Unready, call, case};
 use relay_routes::Transport;
@@ -56,6 +56,30 @@ fn plans_a_job<R: Threads + Sync>(rt: &R, alloc: Global) -> Result<Seen, Unready
     )
 }
 
+/// Whether bob is missing, and nothing else is returned.
+fn are_returns(returned: Result<Returned, RunFault>) -> Answer {
+    match returned {
+        Ok(returned) => Answer::given(matches!(
+            returned.returns.as_slice(),
+            [block] if are_texts(block.lines.as_slice(), &[LISTS_RETURN])
+        )),
+        Err(RunFault::Memory) => Answer::Refused,
+        Err(_) => Answer::Wrong,
+    }
+}
+
+fn returns_what_is_lost<R: Threads + Sync>(rt: &R, alloc: Global) -> Result<Seen, Unready> {
+    let job = parse_job(alloc, LISTS_JOB)?;
+    Ok(
+        match are_returns(returns(rt, alloc, &job, OPTIONS, LIMITS, &NoGate)) {
+            Answer::Refused => Seen::at_last(are_returns(returns(
+                rt, alloc, &job, OPTIONS, LIMITS, &NoGate,
+            ))),
+            answer => Seen::at_once(answer),
+        },
+    )
+}
+
 fn are_domains(domains: Result<Seq<Text>, RunFault>) -> Answer {
     match domains {
         Ok(domains) => Answer::given(are_texts(
@@ -85,4 +109,5 @@ pub(crate) fn tell<R: Print + AllocGlobal + Threads + Sync>(teller: &mut Teller<
     call!(teller, "read_job", reads_a_job(alloc));
     case!(teller, "plan_job", plans_a_job(rt, alloc));
     case!(teller, "domains", finds_domains(rt, alloc));
+    case!(teller, "returns", returns_what_is_lost(rt, alloc));
 }

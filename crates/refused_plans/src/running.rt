@@ -3,9 +3,10 @@ ghost use Rattle.std.specs.Prelude.{◌≡◌, false};
 
 use crate::devices::{Page, Paper};
 use crate::jobs::{
-    FIRST_JOB, FIRST_PLAN, LISTS_DOMAINS, LISTS_JOB, LISTS_PLAN, OWNERS_JOB, OWNERS_PLAN,
+    FIRST_JOB, FIRST_PLAN, LISTS_DOMAINS, LISTS_JOB, LISTS_PLAN, LISTS_PLAN_WITH_RETURNS,
+    OWNERS_JOB, OWNERS_PLAN,
 };
-use aliasplan::{Form, Limits, NoGate, Options, RunFault, run, run_domains};
+use aliasplan::{Form, Limits, NoGate, Options, RunFault, run, run_domains, run_returns};
 use growth_answers::{Answer, Seen, Teller, Unready, case};
 use std::alloc::Global;
 use std::thread::Threads;
@@ -72,6 +73,27 @@ fn runs_jobs<R: Threads + Sync>(rt: &R, alloc: Global) -> Result<Seen, Unready> 
     Ok(seen)
 }
 
+/// What a run answers that says what is returned of lists; where it's refused, nothing is written.
+fn returned<R: Threads + Sync>(rt: &R, alloc: Global, paper: &mut Paper) -> Answer
+    requires { paper.old.failed ≡ false }
+{
+    let mut page = Page::new(LISTS_JOB);
+    match run_returns(rt, alloc, &mut page, paper, OPTIONS, LIMITS, &NoGate) {
+        Ok(_) => Answer::given(paper.text.as_slice() == LISTS_PLAN_WITH_RETURNS),
+        Err(RunFault::Memory) => Answer::refused(paper.text.is_empty()),
+        Err(_) => Answer::Wrong,
+    }
+}
+
+fn says_what_is_returned<R: Threads + Sync>(rt: &R, alloc: Global) -> Result<Seen, Unready> {
+    let mut paper = Paper::new(alloc)?;
+    let mut second = Paper::new(alloc)?;
+    Ok(match returned(rt, alloc, &mut paper) {
+        Answer::Refused => Seen::at_last(returned(rt, alloc, &mut second)),
+        answer => Seen::at_once(answer),
+    })
+}
+
 /// What a run answers that names the domains of lists; where it's refused, nothing is written.
 fn named<R: Threads + Sync>(rt: &R, alloc: Global, paper: &mut Paper) -> Answer
     requires { paper.old.failed ≡ false }
@@ -98,4 +120,5 @@ pub(crate) fn tell<R: Print + AllocGlobal + Threads + Sync>(teller: &mut Teller<
     let alloc = rt.alloc();
     case!(teller, "run", runs_jobs(rt, alloc));
     case!(teller, "run_domains", names_domains(rt, alloc));
+    case!(teller, "run_returns", says_what_is_returned(rt, alloc));
 }

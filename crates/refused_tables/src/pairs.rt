@@ -3,8 +3,8 @@ ghost use Rattle.relay_pairs.specs.Pairs.{ArePairs};
 
 use crate::tables::{OWNED, tables};
 use growth_answers::inputs::address;
-use growth_answers::{Answer, Seen, Teller, Unready, case};
-use relay_pairs::{Reached, reached_nodes, reached_pairs};
+use growth_answers::{Answer, Seen, Teller, Unready, case, twice};
+use relay_pairs::{Reached, Search, reached_nodes, reached_pairs};
 use relay_rounds::{NoGate, ReachFault};
 use relay_tables::Graph;
 use std::alloc::Global;
@@ -45,6 +45,31 @@ fn reaches_pairs<R: Threads + Sync>(rt: &R, alloc: Global) -> Result<Seen, Unrea
     })
 }
 
+/// The list is the first node, and the only recipient's target.
+fn are_from_list<R: Threads + Sync>(search: &Search<'_, NoGate, R>) -> Answer {
+    if search.graph.nodes() == 0 {
+        return Answer::Wrong;
+    }
+    match search.pairs_from(0, 100) {
+        Ok(pairs) => Answer::given(are_pairs(&pairs)),
+        Err(ReachFault::Memory) => Answer::Refused,
+        Err(ReachFault::TooManyPairs) => Answer::Wrong,
+    }
+}
+
+fn reaches_pairs_of_a_recipient<R: Threads + Sync>(rt: &R, alloc: Global) -> Result<Seen, Unready> {
+    let graph = graph(alloc)?;
+    let search = Search {
+        rt,
+        alloc,
+        graph: &graph,
+        workers: 2,
+        cut: 1,
+        gate: &NoGate,
+    };
+    Ok(twice!(are_from_list(&search)))
+}
+
 fn are_nodes(alloc: Global, graph: &Graph, pairs: &[Reached]) -> Answer
     requires { ArePairs graph.now pairs.now }
 {
@@ -68,4 +93,9 @@ pub(crate) fn tell<R: Print + AllocGlobal + Threads + Sync>(teller: &mut Teller<
     let alloc = rt.alloc();
     case!(teller, "reached_pairs", reaches_pairs(rt, alloc));
     case!(teller, "reached_nodes", lists_nodes(rt, alloc));
+    case!(
+        teller,
+        "Search::pairs_from",
+        reaches_pairs_of_a_recipient(rt, alloc)
+    );
 }

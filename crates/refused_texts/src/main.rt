@@ -1,8 +1,9 @@
-//! The public calls of relay_text, relay_aliasfile and relay_wire that take memory, each on a worked example, made and judged as
+//! The public calls of relay_text, relay_aliasfile, relay_wire and relay_returns that take memory, each on a worked example, made and judged as
 //! growth_answers says.
 #![tactic(auto)]
 
 mod alias_files;
+mod returned;
 mod texts;
 mod wire;
 
@@ -20,5 +21,6 @@ fn main(rt: HostRuntime) -> ExitCode {
     texts::tell(&mut teller);
     alias_files::tell(&mut teller);
     wire::tell(&mut teller);
+    returned::tell(&mut teller);
     ExitCode::from(teller.status())
 }

@@ -47,7 +47,7 @@ fn planned(alloc: Global) -> Result<Planned, Unready> {
     })
 }
 
-fn plan(alloc: Global) -> Result<Plan, Unready> {
+pub(crate) fn plan(alloc: Global) -> Result<Plan, Unready> {
     let mut transactions = Vec::new(alloc);
     transactions.push(planned(alloc)?)?;
     Ok(Plan {
@@ -58,7 +58,7 @@ fn plan(alloc: Global) -> Result<Plan, Unready> {
 }
 
 /// Whether a text that was written is this one.
-fn is_written(text: Result<Text, AllocError>, wanted: &[u8]) -> Answer {
+pub(crate) fn is_written(text: Result<Text, AllocError>, wanted: &[u8]) -> Answer {
     match text {
         Ok(text) => Answer::given(text.as_bytes() == wanted),
         Err(_) => Answer::Refused,

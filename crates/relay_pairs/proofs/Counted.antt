@@ -1,11 +1,12 @@
 -- As many pairs are reached as pairs of numbers.
-use Rattle.std.proofs.Common.{◌≡◌, ◌≢◌, ◌≤◌, ℕ, suc, ◌<◌, List, [], ◌∷◌, length, get_or, slice_get, All, AllPairs, Contains, Some, refl, sym, ap, ◌∙◌, subst, inl, inr, arith}
+use Rattle.std.proofs.Common.{◌≡◌, ◌≢◌, ◌≤◌, ℕ, suc, ◌<◌, List, [], ◌∷◌, length, map, get_or, slice_get, All, AllPairs, Contains, Some, refl, sym, ap, ◌∙◌, subst, inl, inr, arith}
 use Rattle.std.proofs.lemmas.Bool.{cases_order}
 use Rattle.std.proofs.lemmas.Bool.Decides.{Decides-eqb}
 use Rattle.std.proofs.lemmas.Map.Views.{Contains-from_any}
 use Rattle.std.proofs.lemmas.Option.{same_Some, slice_get_within, slice_get-get_or, get_or_from_slice_get}
 use Rattle.std.proofs.lemmas.List.Elements.{All-tail, All-contains, All-weaker, All-contains_itself}
-use Rattle.std.proofs.lemmas.List.Kept.{AllPairs-cons}
+use Rattle.std.proofs.lemmas.List.{length-map, get_or-map}
+use Rattle.std.proofs.lemmas.List.Kept.{AllPairs-cons, AllPairs-from_increasing}
 use Rattle.std.proofs.lemmas.Map.Made.{IsDistinct-from_AllPairs}
 use Rattle.std.proofs.lemmas.Map.Steps.{length-le_from_distinct_below}
 use Rattle.relay_text.specs.AddressParts.{AddressParts}
@@ -13,12 +14,11 @@ use Rattle.relay_tables.specs.declared.node.Node.{Node}
 use Rattle.relay_tables.specs.Directory.{Directory}
 use Rattle.relay_tables.specs.GraphParts.{GraphParts}
 use Rattle.relay_tables.specs.Senders.{Sender, Pair}
-use Rattle.relay_tables.specs.Graphs.{IsGraphOf}
 use Rattle.relay_pairs.specs.declared.reached.Reached.{Reached}
-use Rattle.relay_pairs.specs.Pairs.{IsReachedPair, ArePairs, HasMorePairs}
-use Rattle.relay_pairs.specs.Chains.{IsReachedBy, HasMoreBy, HasAtMostBy}
+use Rattle.relay_pairs.specs.Pairs.{key_of, IsReachedPair, ArePairs, HasMorePairs}
+use Rattle.relay_pairs.specs.Chains.{IsReachedBy, HasMoreBy, HasAtMostBy, HasAtLeastBy}
 use Rattle.relay_pairs.proofs.Members.{in_head, in_tail, cons_cases}
-use Rattle.relay_pairs.proofs.Numbered.{has_pair, to_numbers}
+use Rattle.relay_pairs.proofs.Numbered.{Leads, has_pair, to_numbers}
 
 pairs_head : {X : Type 0} (R : X → X → Type 0) (x : X) (xs : List X) → AllPairs R (x ∷ xs) → All (R x) xs
 pairs_head R x xs h = λ k d inside. h 0 (suc k) d (omega arith) (omega arith)
@@ -51,7 +51,16 @@ reached_is p q s n =
     let half : p ≡ record { sender = q.sender; node = p.node } = ap (λ (x : ℕ). record { sender = x; node = p.node }) s in
     half ∙ ap (λ (x : ℕ). record { sender = q.sender; node = x }) n
 
-module _ (d : Directory) (sender : Sender) (recipients : List AddressParts) (g : GraphParts) (is : IsGraphOf d sender recipients g) where
+-- pairs whose keys rise are distinct
+are_distinct : {g : GraphParts} (ns : List Reached) → ArePairs g ns → AllPairs (λ m n. m ≢ n) ns
+are_distinct ns all i j d below inside same =
+    let long = length-map ns key_of in
+    let rises : key_of (get_or ns i d) < key_of (get_or ns j d) =
+    rw (← get_or-map key_of ns i d (key_of d) (omega arith), ← get_or-map key_of ns j d (key_of d) inside) (AllPairs-from_increasing (map key_of ns) all.ascending i j (key_of d) below (omega (arith, long, inside))) in
+    let e : key_of (get_or ns i d) ≡ key_of (get_or ns j d) = ap key_of same in
+    omega (arith, rises, e)
+
+module _ (d : Directory) (sender : Sender) (recipients : List AddressParts) (g : GraphParts) (is : Leads d sender recipients g) where
   -- the numbers of a pair
   record AreNumbers (n : Reached) (p : Pair) : Type 0 where
     pub sender_at : slice_get g.senders n.sender ≡ Some p.sender
@@ -117,6 +126,17 @@ module _ (d : Directory) (sender : Sender) (recipients : List AddressParts) (g :
         distinct = r.distinct;
         reached = All-weaker (Contains all.0) (IsReachedBy d sender recipients) r.reached all.0 (All-contains_itself all.0);
         more = omega (arith, r.long, h.more);
+      }
+
+  pub at_least_by : (ns : List Reached) → ArePairs g ns → HasAtLeastBy d sender recipients (length ns)
+  at_least_by ns all =
+      let ps = pairs_of ns (are_distinct ns all) (All-weaker (Contains ns) (IsReachedPair g) (λ n c. (all.members n).0 c) ns (All-contains_itself ns)) in
+      let r = ps.1 in
+      record {
+        pairs = ps.0;
+        distinct = r.distinct;
+        reached = All-weaker (Contains ps.0) (IsReachedBy d sender recipients) r.reached ps.0 (All-contains_itself ps.0);
+        some = omega (arith, r.long);
       }
 
   -- the places of pairs in the list of their numbers

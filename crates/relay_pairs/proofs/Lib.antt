@@ -4,3 +4,4 @@ pub mod Numbered
 pub mod Keyed
 pub mod NodeFacts
 pub mod Counted
+pub mod Rooted

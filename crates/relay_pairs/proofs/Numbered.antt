@@ -1,6 +1,7 @@
 -- Pairs of sender and node, and their numbers in a graph.
-use Rattle.std.proofs.Common.{◌≡◌, ℕ, List, map, slice_get, Contains, Option, Some, refl, sym, ap, ◌∙◌, subst}
-use Rattle.std.proofs.lemmas.Option.{same_Some}
+use Rattle.std.proofs.Common.{◌≡◌, ◌≢◌, ℕ, List, [], ◌∷◌, map, slice_get, AllPairs, Contains, Option, Some, refl, sym, ap, ◌∙◌, subst}
+use Rattle.std.specs.Prelude.{option_map}
+use Rattle.std.proofs.lemmas.Option.{same_Some, slice_get-map}
 use Rattle.relay_text.specs.AddressParts.{AddressParts}
 use Rattle.relay_tables.specs.declared.node.Node.{Node}
 use Rattle.relay_tables.specs.Directory.{Directory}
@@ -9,12 +10,49 @@ use Rattle.relay_tables.specs.Targets.{targets_of, recipient_target}
 use Rattle.relay_tables.specs.Senders.{Sender, Pair, Step, sender_past}
 use Rattle.relay_tables.specs.Graphs.{child_numbers, nodes_at, sender_number_after, IsGraphOf}
 use Rattle.relay_pairs.specs.declared.reached.Reached.{Reached}
-use Rattle.relay_pairs.specs.Pairs.{IsRoot, IsStep, IsReachedPair}
-use Rattle.relay_pairs.specs.Chains.{IsStart, IsReachedBy, HasNumbers}
+use Rattle.relay_pairs.specs.Pairs.{with_root, IsRoot, IsStep, IsReachedPair}
+use Rattle.relay_pairs.specs.Chains.{IsStart, IsReachedBy, IsRootOf, HasNumbers}
 use Rattle.relay_pairs.proofs.Members.{Contains-map, Contains-from_map}
 use Rattle.relay_pairs.proofs.Walking.{reached_start, reached_step, reached_all}
 
-module _ (d : Directory) (sender : Sender) (recipients : List AddressParts) (g : GraphParts) (is : IsGraphOf d sender recipients g) where
+-- What numbers and targets need to have in common. A graph may have more nodes than the recipients lead to.
+pub record Leads (d : Directory) (sender : Sender) (recipients : List AddressParts) (g : GraphParts) : Type 0 where
+  pub distinct : AllPairs (λ m n. m ≢ n) g.nodes
+  pub children : (k : ℕ) (n : Node) → slice_get g.nodes k ≡ Some n → nodes_at g (child_numbers g k) ≡ map (λ t. Some t) (targets_of d n)
+  pub roots : nodes_at g g.roots ≡ map (λ a. Some (recipient_target d a)) recipients
+  pub senders_distinct : AllPairs (λ s t. s ≢ t) g.senders
+  pub envelope_first : slice_get g.senders 0 ≡ Some sender
+  pub after : (s k : ℕ) (a : Sender) (n : Node) → slice_get g.senders s ≡ Some a → slice_get g.nodes k ≡ Some n → slice_get g.senders (sender_number_after g s k) ≡ Some (sender_past d a n)
+
+pub leads : (d : Directory) (sender : Sender) (recipients : List AddressParts) (g : GraphParts) → IsGraphOf d sender recipients g → Leads d sender recipients g
+leads d sender recipients g is = record {
+  distinct = is.distinct;
+  children = is.children;
+  roots = is.roots;
+  senders_distinct = is.senders_distinct;
+  envelope_first = is.envelope_first;
+  after = is.after;
+}
+
+-- a message to one of the recipients alone, in the same graph
+pub leads_from : (d : Directory) (sender : Sender) (recipients : List AddressParts) (g : GraphParts) → IsGraphOf d sender recipients g
+    → (k : ℕ) (recipient : AddressParts) (root : ℕ) → IsRootOf recipients g k recipient root → Leads d sender (recipient ∷ []) (with_root g root)
+leads_from d sender recipients g is k recipient root at =
+    let at_number : slice_get (nodes_at g g.roots) k ≡ Some (slice_get g.nodes root) = slice_get-map (slice_get g.nodes) g.roots k ∙ ap (option_map (slice_get g.nodes)) at.number in
+    let at_target : slice_get (map (λ (a : AddressParts). Some (recipient_target d a)) recipients) k ≡ Some (Some (recipient_target d recipient)) =
+    slice_get-map (λ (a : AddressParts). Some (recipient_target d a)) recipients k ∙ ap (option_map (λ (a : AddressParts). Some (recipient_target d a))) at.is in
+    let here : slice_get g.nodes root ≡ Some (recipient_target d recipient) =
+    same_Some (slice_get g.nodes root) (Some (recipient_target d recipient)) (sym at_number ∙ ap (λ (ns : List (Option Node)). slice_get ns k) is.roots ∙ at_target) in
+    record {
+      distinct = is.distinct;
+      children = is.children;
+      roots = ap (λ (o : Option Node). o ∷ []) here;
+      senders_distinct = is.senders_distinct;
+      envelope_first = is.envelope_first;
+      after = is.after;
+    }
+
+module _ (d : Directory) (sender : Sender) (recipients : List AddressParts) (g : GraphParts) (is : Leads d sender recipients g) where
   -- where numbers lead to targets, each target has its number, and each number its target
   module _ (X : Type 0) (target : X → Node) (numbers : List ℕ) (xs : List X) (e : nodes_at g numbers ≡ map (λ x. Some (target x)) xs) where
     number_at : (x : X) → Contains xs x → (c : ℕ) × Contains numbers c × (slice_get g.nodes c ≡ Some (target x))

@@ -1,5 +1,5 @@
 -- Which pairs of sender and node are reached in a graph, by their numbers.
-use Rattle.std.specs.Prelude.{◌≡◌, ◌≢◌, ℕ, ◌+◌, ◌*◌, ◌/◌, ◌%◌, ◌^◌, ◌<◌, nat_lt, List, [], length, map, All, AllPairs, Contains, ◌↔◌, if◌then◌else◌}
+use Rattle.std.specs.Prelude.{◌≡◌, ◌≢◌, ℕ, ◌+◌, ◌*◌, ◌/◌, ◌%◌, ◌^◌, ◌<◌, nat_lt, List, [], ◌∷◌, length, map, All, AllPairs, Contains, ◌↔◌, if◌then◌else◌}
 use Rattle.std.specs.List.Sorted.{IsStrictlyIncreasing}
 use Rattle.relay_rounds.specs.Walks.{IsReached}
 use Rattle.relay_tables.specs.GraphParts.{GraphParts}
@@ -56,6 +56,22 @@ module _ (g : GraphParts) where
   pub record IsClosedUnder (nodes : List ℕ) : Type 0 where
     pub in_graph : All (λ n. n < length g.nodes) nodes
     pub children : (parent child : ℕ) → Contains nodes parent → Contains (child_numbers g parent) child → Contains nodes child
+
+-- the same graph with one root alone
+abbrev pub with_root : GraphParts → ℕ → GraphParts
+with_root g root = record g { roots = root ∷ [] }
+
+-- A chain from one root starts at the envelope's sender with that root.
+abbrev pub IsReachedPairFrom : GraphParts → ℕ → Reached → Type 0
+IsReachedPairFrom g root pair = IsReachedPair (with_root g root) pair
+
+-- all that are reached from one root, by sender and then by node, each once
+abbrev pub ArePairsFrom : GraphParts → ℕ → List Reached → Type 0
+ArePairsFrom g root pairs = ArePairs (with_root g root) pairs
+
+-- more than n pairs are reached from one root
+abbrev pub HasMorePairsFrom : GraphParts → ℕ → ℕ → Type 0
+HasMorePairsFrom g root n = HasMorePairs (with_root g root) n
 
 -- the nodes of some pairs, ascending, each once
 pub record AreNodesOf (pairs : List Reached) (nodes : List ℕ) : Type 0 where

@@ -60,7 +60,7 @@ fn first_keys(alloc: Global, graph: &Graph) -> Result<Vec<Key>, AllocError>
 }
 
 // The pairs of keys.
-fn pairs_of(alloc: Global, keys: &[Key]) -> Result<Vec<Reached>, AllocError>
+pub(crate) fn pairs_of(alloc: Global, keys: &[Key]) -> Result<Vec<Reached>, AllocError>
     requires { All (λ key. key < 2 ^ 56) keys.now }
     ensures { IfOk result (λ pairs. pairs.items ≡ map pair_at keys.now) }
 {

@@ -1,0 +1,178 @@
+//! What is returned to which sender, beside the plan of a job.
+ghost use Rattle.std.specs.Prelude.{◌≡◌, ◌<◌, All, ℕ, length, IfOk, IfErr, OnOk, List};
+ghost use Rattle.relay_text.specs.Bytes.{has_text};
+ghost use Rattle.relay_routes.specs.declared.transport.Transport as names;
+ghost use Rattle.relay_job.specs.Settings.{limit_of};
+ghost use Rattle.relay_job.specs.JobAnswers.{IsJobWithin};
+ghost use Rattle.relay_pairs.specs.Pairs.{ArePairs};
+ghost use Rattle.aliasplan.specs.Delivery.{directory_of, routing_of, IsJobGraph};
+ghost use Rattle.aliasplan.specs.Outcomes.{AreOptions, AreLimits, IsWithin};
+ghost use Rattle.aliasplan.specs.Plans.{IsFewest, IsPlanOf, IsSoundFor};
+ghost use Rattle.aliasplan.specs.Reaching.{AreReachedNodes};
+ghost use Rattle.aliasplan.specs.Returns.{AreReturnsOf, HasAtMostReturnPairs, IsReturnedWithin, IsUnreturned};
+ghost use Rattle.aliasplan.specs.ReturnLines.{AreFindings, AreLinesOf, AreReturnLines};
+ghost use Rattle.aliasplan.specs.Texts.{has_fault_line};
+
+use crate::crew::Crew;
+use crate::options::{Limits, Options};
+use crate::planning::{graph_of, nodes_of, pairs_of, plan_reached};
+use crate::return_blocks::blocks_of;
+use crate::return_lines::lines_by_sender;
+use crate::returned::Returned;
+use crate::sources::Sources;
+use crate::undelivered::undelivered_at;
+use relay_aliasfile::file_counts;
+use relay_job::{Job, RunFault, parsed_jobs};
+use relay_pairs::{Reached, Search, pairs_by_root};
+use relay_returns::{Return, in_order};
+use relay_rounds::{Gate, ReachFault};
+use relay_tables::Graph;
+use relay_text::{Seq, Text, TextSet};
+use relay_wire::FindingLines;
+use std::alloc::{AllocError, Global};
+use std::thread::Threads;
+
+/// The lines of what is returned to each sender, by the senders' numbers. The lines of what can't be delivered at nodes are given.
+fn return_lines<G: Gate, R: Threads + Sync>(
+    crew: &Crew<G, R>,
+    job: &Job,
+    graph: &Graph,
+    nodes: &[u32],
+    undelivered: &[Seq<Text>],
+) -> Result<Vec<TextSet>, RunFault>
+    requires graph { IsJobGraph job.now graph.now }
+    requires within { IsWithin crew.now.limits job.now }
+    requires nodes { AreReachedNodes job.now graph.now nodes.now }
+    requires lines { AreLinesOf graph.now job.now nodes.now undelivered.now }
+    requires findings { All AreFindings undelivered.now }
+    ensures lines { IfOk result (λ lists. AreReturnLines job.now graph.now lists.items) }
+    ensures pairs { OnOk result (HasAtMostReturnPairs job.now crew.now.limits.pairs) }
+    ensures refused { IfErr result (IsUnreturned crew.now.limits job.now) }
+{
+    pairs_by_root();
+    let _ = nodes;
+    let search = Search {
+        rt: crew.rt,
+        alloc: crew.alloc,
+        graph,
+        workers: crew.options.workers,
+        cut: crew.options.cut,
+        gate: crew.gate,
+    };
+    let recipients = job.recipients.as_slice();
+    match lines_by_sender(&search, undelivered, recipients, crew.limits.pairs) {
+        Ok(lists) => Ok(lists),
+        Err(ReachFault::TooManyPairs) => Err(RunFault::TooManyPairs),
+        Err(ReachFault::Memory) => Err(RunFault::Memory),
+    }
+}
+
+/// The blocks of lines by senders' numbers.
+fn blocks_of_lines(
+    alloc: Global,
+    job: &Job,
+    graph: &Graph,
+    lists: Vec<TextSet>,
+) -> Result<Seq<Return>, AllocError>
+    requires graph { IsJobGraph job.now graph.now }
+    requires lines { AreReturnLines job.now graph.now lists.items }
+    ensures { IfOk result (AreReturnsOf job.now) }
+{
+    pairs_by_root();
+    let _ = job;
+    let blocks = blocks_of(alloc, graph, lists)?;
+    in_order(alloc, blocks)
+}
+
+/// What is returned for a job that reaches these pairs.
+fn returns_of<G: Gate, R: Threads + Sync>(
+    crew: &Crew<G, R>,
+    job: &Job,
+    sources: &Sources,
+    graph: &Graph,
+    pairs: &[Reached],
+) -> Result<Seq<Return>, RunFault>
+    requires tables { sources.now.tables ≡ directory_of job.now }
+    requires router { sources.now.router ≡ routing_of job.now }
+    requires graph { IsJobGraph job.now graph.now }
+    requires pairs { ArePairs graph.now pairs.now }
+    requires within { IsWithin crew.now.limits job.now }
+    ensures returns { IfOk result (AreReturnsOf job.now) }
+    ensures pairs { OnOk result (HasAtMostReturnPairs job.now crew.now.limits.pairs) }
+    ensures refused { IfErr result (IsUnreturned crew.now.limits job.now) }
+{
+    let alloc = crew.alloc;
+    let nodes = nodes_of(alloc, job, graph, pairs)?;
+    let undelivered = undelivered_at(alloc, job, sources, graph, &nodes)?;
+    let lists = return_lines(crew, job, graph, &nodes, &undelivered)?;
+    Ok(blocks_of_lines(alloc, job, graph, lists)?)
+}
+
+/// The plan and what is returned, of a job whose files and tables are read. Their lines that are at fault are given.
+fn returned_sources<G: Gate, R: Threads + Sync>(
+    crew: &Crew<G, R>,
+    job: &Job,
+    sources: &Sources,
+    lines: FindingLines,
+) -> Result<Returned, RunFault>
+    requires batches { (t : names.Transport) → 0 < limit_of job.now.settings t }
+    requires tables { sources.now.tables ≡ directory_of job.now }
+    requires router { sources.now.router ≡ routing_of job.now }
+    requires lines { (q : List ℕ) → has_text lines q ≡ has_fault_line job.now q }
+    ensures plan { IfOk result (λ returned. IsPlanOf job.now returned.plan) }
+    ensures sound { IfOk result (λ returned. IsSoundFor job.now returned.plan.transactions) }
+    ensures fewest { IfOk result (λ returned. IsFewest job.now returned.plan.transactions) }
+    ensures returns { IfOk result (λ returned. AreReturnsOf job.now returned.returns) }
+    ensures within { OnOk result (IsReturnedWithin crew.now.limits job.now) }
+    ensures refused { IfErr result (IsUnreturned crew.now.limits job.now) }
+{
+    let graph = graph_of(crew.alloc, job, &sources.tables, crew.limits)?;
+    let pairs = pairs_of(crew, job, &graph)?;
+    let returns = returns_of(crew, job, sources, &graph, &pairs)?;
+    match plan_reached(crew, job, sources, &graph, &pairs, lines) {
+        Ok(plan) => Ok(Returned { plan, returns }),
+        Err(_) => Err(RunFault::Memory),
+    }
+}
+
+/// The plan of a job, and what is returned to which sender: for each sender under which something can't be delivered a block with a line
+/// for each such thing and each recipient of the envelope from which a chain of entries leads there (RFC 5321 section 3.6.3; local(8) of
+/// Postfix). A missing name or include file, a file and a command are returned to the sender after the entry that lists them, and an
+/// empty entry to the sender after it; an address without a route to the sender under which it is reached.
+///
+/// The errors are those of `plan_job`, in the same order, and then `TooManyPairs` where more pairs than the limit are reached from the
+/// recipients, each counted once for each recipient. The form of the options is not regarded, and neither the number of threads nor how
+/// the work is cut changes the answer.
+pub fn returns<G: Gate, R: Threads + Sync>(
+    rt: &R,
+    alloc: Global,
+    job: &Job,
+    options: Options,
+    limits: Limits,
+    gate: &G,
+) -> Result<Returned, RunFault>
+    requires options { AreOptions options }
+    requires limits { AreLimits limits }
+    requires job { IsJobWithin limits.bytes job.now }
+    ensures plan { IfOk result (λ returned. IsPlanOf job.now returned.plan) }
+    ensures sound { IfOk result (λ returned. IsSoundFor job.now returned.plan.transactions) }
+    ensures fewest { IfOk result (λ returned. IsFewest job.now returned.plan.transactions) }
+    ensures returns { IfOk result (λ returned. AreReturnsOf job.now returned.returns) }
+    ensures within { OnOk result (IsReturnedWithin limits job.now) }
+    ensures refused { IfErr result (IsUnreturned limits job.now) }
+{
+    parsed_jobs();
+    file_counts();
+    let mut lines = FindingLines::new(alloc);
+    let Ok(sources) = Sources::read(alloc, job, &mut lines) else {
+        return Err(RunFault::Memory);
+    };
+    let crew = Crew {
+        rt,
+        alloc,
+        options,
+        limits,
+        gate,
+    };
+    returned_sources(&crew, job, &sources, lines)
+}

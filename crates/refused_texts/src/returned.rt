@@ -1,0 +1,89 @@
+//! What is returned behind a plan of one transaction: that kim, to whom `a@example.net` wrote too, isn't known.
+use crate::wire::{is_written, plan};
+use growth_answers::inputs::address;
+use growth_answers::{Answer, Seen, Teller, Unready, call, case, twice};
+use relay_returns::{Return, in_order, return_line, returned_plan_text, returned_wire_text};
+use relay_text::{Seq, Text};
+use std::alloc::Global;
+
+const LINE: &[u8] = b"missing kim in envelope for <kim@example.org>";
+
+const PLAN: &[u8] = b"plan 1 transactions 1 recipients 0 findings\n\
+    transaction 1\n\
+    from <a@example.net>\n\
+    via lmtp unix:mbox\n\
+    host unix:mbox\n\
+    to <joe@example.org>\n\
+    return 1\n\
+    from <a@example.net>\n\
+    missing kim in envelope for <kim@example.org>\n\
+    end\n";
+
+const COMMANDS: &[u8] = b"plan 1 transactions 1 recipients 0 findings\n\
+    transaction 1\n\
+    via lmtp unix:mbox\n\
+    host unix:mbox\n\
+    script 84\n\
+    LHLO relay.example.org\r\n\
+    MAIL FROM:<a@example.net>\r\n\
+    RCPT TO:<joe@example.org>\r\n\
+    DATA\r\n\
+    return 1\n\
+    from <a@example.net>\n\
+    missing kim in envelope for <kim@example.org>\n\
+    end\n";
+
+fn blocks(alloc: Global) -> Result<Vec<Return>, Unready> {
+    let line = Text::copy_of(alloc, LINE)?;
+    let lines = Vec::from_array(alloc, [line])?;
+    let sender = address(alloc, b"a@example.net")?;
+    let block = Return {
+        sender: Some(sender),
+        lines: Seq::of(lines),
+    };
+    Ok(Vec::from_array(alloc, [block])?)
+}
+
+fn writes_a_line(alloc: Global) -> Result<Seen, Unready> {
+    let recipient = address(alloc, b"kim")?;
+    Ok(twice!({
+        match return_line(alloc, b"finding missing kim in envelope", &recipient) {
+            Ok(line) => Answer::given(line.as_slice() == LINE),
+            Err(_) => Answer::Refused,
+        }
+    }))
+}
+
+fn sorts_blocks(alloc: Global) -> Result<Answer, Unready> {
+    let blocks = blocks(alloc)?;
+    if blocks.len() != 1 {
+        return Err(Unready::Wrong);
+    }
+    Ok(match in_order(alloc, blocks) {
+        Ok(sorted) => Answer::given(matches!(
+            sorted.as_slice(),
+            [block] if matches!(block.lines.as_slice(), [line] if line.as_bytes() == LINE)
+        )),
+        Err(_) => Answer::Refused,
+    })
+}
+
+fn writes_a_plan(alloc: Global) -> Result<Seen, Unready> {
+    let plan = plan(alloc)?;
+    let blocks = blocks(alloc)?;
+    Ok(twice!({ is_written(returned_plan_text(alloc, &plan, &blocks), PLAN) }))
+}
+
+fn writes_commands(alloc: Global) -> Result<Seen, Unready> {
+    let plan = plan(alloc)?;
+    let blocks = blocks(alloc)?;
+    Ok(twice!({ is_written(returned_wire_text(alloc, &plan, &blocks), COMMANDS) }))
+}
+
+pub(crate) fn tell<R: Print + AllocGlobal>(teller: &mut Teller<'_, R>) {
+    let alloc = teller.rt.alloc();
+    case!(teller, "return_line", writes_a_line(alloc));
+    call!(teller, "in_order", sorts_blocks(alloc));
+    case!(teller, "returned_plan_text", writes_a_plan(alloc));
+    case!(teller, "returned_wire_text", writes_commands(alloc));
+}

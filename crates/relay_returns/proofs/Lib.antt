@@ -1,0 +1,5 @@
+pub mod Blocks
+pub mod BlockLengths
+pub mod LineFacts
+pub mod Members
+pub mod Ordered
