@@ -4,6 +4,7 @@
 
 mod deliveries;
 mod destinations;
+mod lines;
 mod route_finders;
 mod routes;
 
@@ -22,5 +23,6 @@ fn main(rt: HostRuntime) -> ExitCode {
     route_finders::tell(&mut teller);
     destinations::tell(&mut teller);
     deliveries::tell(&mut teller);
+    lines::tell(&mut teller);
     ExitCode::from(teller.status())
 }

@@ -1,4 +1,4 @@
-//! The public calls that take memory of the crates from relay_chains to relay_loops, each on a worked example, made and judged as
+//! The public calls that take memory of the crates from relay_chains to relay_loops and of relay_trails, each on a worked example, made and judged as
 //! growth_answers says.
 #![tactic(auto)]
 
@@ -9,6 +9,7 @@ mod pairs;
 mod rings;
 mod rounds;
 mod tables;
+mod trails;
 
 use growth_answers::{DONE, Teller};
 use std::env;
@@ -28,5 +29,6 @@ fn main(rt: HostRuntime) -> ExitCode {
     tables::tell(&mut teller);
     pairs::tell(&mut teller);
     loops::tell(&mut teller);
+    trails::tell(&mut teller);
     ExitCode::from(teller.status())
 }

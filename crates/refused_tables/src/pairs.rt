@@ -11,7 +11,7 @@ use std::alloc::Global;
 use std::thread::Threads;
 
 /// The graph of a message from `a@example.com` to the list `outer`.
-fn graph(alloc: Global) -> Result<Graph, Unready> {
+pub(crate) fn graph(alloc: Global) -> Result<Graph, Unready> {
     let tables = tables(alloc, false, OWNED)?;
     let sender = address(alloc, b"a@example.com")?;
     let recipients = Vec::from_array(alloc, [address(alloc, b"outer")?])?;

@@ -1,8 +1,10 @@
-//! The public calls of relay_text, relay_aliasfile, relay_wire and relay_returns that take memory, each on a worked example, made and judged as
-//! growth_answers says.
+//! The public calls of relay_text, relay_aliasfile, relay_wire, relay_returns and relay_explain that take memory, each on a worked example, made
+//! and judged as growth_answers says.
 #![tactic(auto)]
 
 mod alias_files;
+mod explained;
+mod places;
 mod returned;
 mod texts;
 mod wire;
@@ -22,5 +24,7 @@ fn main(rt: HostRuntime) -> ExitCode {
     alias_files::tell(&mut teller);
     wire::tell(&mut teller);
     returned::tell(&mut teller);
+    places::tell(&mut teller);
+    explained::tell(&mut teller);
     ExitCode::from(teller.status())
 }

@@ -2,7 +2,8 @@
 use crate::wire::{is_written, plan};
 use growth_answers::inputs::address;
 use growth_answers::{Answer, Seen, Teller, Unready, call, case, twice};
-use relay_returns::{Return, in_order, return_line, returned_plan_text, returned_wire_text};
+use relay_ordering::in_order;
+use relay_returns::{Return, return_line, returned_plan_text, returned_wire_text};
 use relay_text::{Seq, Text};
 use std::alloc::Global;
 

@@ -8,7 +8,7 @@ use relay_text::{
 use std::alloc::Global;
 
 /// A text of 48 bytes, more than lie in the value itself.
-const LONG: &[u8] = b"local-part-that-does-not-lie-in-the-value-itself";
+pub(crate) const LONG: &[u8] = b"local-part-that-does-not-lie-in-the-value-itself";
 
 /// The same behind `a..`.
 const DOTTED: &[u8] = b"a..local-part-that-does-not-lie-in-the-value-itself";

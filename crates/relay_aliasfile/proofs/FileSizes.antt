@@ -49,6 +49,9 @@ texts_fit (piece ∷ pieces) = at (trimmed piece) (length-trimmed piece) (texts_
   at [] short h = omega (arith, h)
   at (b ∷ bs) short h = omega (arith, h, short)
 
+pub length-item_texts : (list : List ℕ) → length (item_texts list) ≤ length list
+length-item_texts list = omega (arith, texts_fit (pieces_outside 44 list), total-pieces_outside 44 list)
+
 length-good_items : (list : List ℕ) → length (good_items list) ≤ length list
 length-good_items list = omega (arith, length-filter_map item_of (item_texts list), texts_fit (pieces_outside 44 list), total-pieces_outside 44 list)
 

@@ -11,3 +11,5 @@ pub mod AliasLines
 pub mod IncludePaths
 pub mod FileSizes
 pub mod BrokenRules
+pub mod PlacedItems
+pub mod EntryLines

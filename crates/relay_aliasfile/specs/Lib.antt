@@ -12,3 +12,4 @@ pub mod Lists
 pub mod Headings
 pub mod HeadedLines
 pub mod AliasTables
+pub mod ItemPlaces

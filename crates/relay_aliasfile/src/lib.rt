@@ -18,6 +18,7 @@ mod lists;
 pub mod mailboxes;
 mod names;
 mod paths;
+pub mod places;
 mod quotes;
 mod reading;
 pub mod reason;
@@ -35,5 +36,8 @@ pub use item::Item;
 pub use items::Items;
 pub use lists::bad_items;
 pub use mailboxes::{MailboxFile, parse_mailboxes};
+pub use places::{
+    ItemPlace, entries_on_lines, entry_places, include_places, list_places, places_of_items,
+};
 pub use reason::ItemReason;
 pub use reasons::item_reason;

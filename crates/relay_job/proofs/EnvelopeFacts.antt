@@ -70,7 +70,7 @@ pub RecipientsRead-unbroken : (origin : List ℕ) (commands rest : List Line) (r
 RecipientsRead-unbroken origin commands rest recipients h e = sym (rw e at h.unbroken)
 
 -- Behind the sender each command names a recipient.
-broken_behind_sender : (origin : List ℕ) (sender : Line) (earlier rest : List Line) → each_after (λ before x. cond (breaks_envelope origin before x) (x.number ∷ []) []) (sender ∷ earlier) rest ≡ bad_recipients origin rest
+pub broken_behind_sender : (origin : List ℕ) (sender : Line) (earlier rest : List Line) → each_after (λ before x. cond (breaks_envelope origin before x) (x.number ∷ []) []) (sender ∷ earlier) rest ≡ bad_recipients origin rest
 broken_behind_sender origin sender earlier [] = refl
 broken_behind_sender origin sender earlier (x ∷ xs) = ap (λ (ns : List ℕ). cond (is_none (recipient_in origin x.text)) (x.number ∷ []) [] ++ ns) (broken_behind_sender origin sender (earlier ++ x ∷ []) xs)
 

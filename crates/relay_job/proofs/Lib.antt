@@ -14,3 +14,4 @@ pub mod SizeFacts
 pub mod JobBounds
 pub mod TablesBounds
 pub mod ReasonFacts
+pub mod RecipientLineFacts

@@ -9,3 +9,4 @@ pub mod JobParts
 pub mod JobSizes
 pub mod Reasons
 pub mod LocatedLines
+pub mod RecipientLines

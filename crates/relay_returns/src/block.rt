@@ -1,4 +1,5 @@
 //! Blocks of lines.
+use relay_ordering::HasSender;
 use relay_text::{Address, Seq, Text};
 
 /// What is returned to a sender.
@@ -8,4 +9,12 @@ pub struct Return {
     pub sender: Option<Address>,
     /// Each says what could not be delivered, and for whom; without its end.
     pub lines: Seq<Text>,
+}
+
+impl HasSender for Return {
+    ghost sender_of = { λ r. r.sender };
+
+    fn sender(&self) -> Option<&Address> {
+        self.sender.as_ref()
+    }
 }

@@ -11,7 +11,7 @@ use Rattle.relay_routes.specs.Preferences.{with_hosts}
 use Rattle.relay_routes.proofs.MxLookups.{bytes_eq_swap}
 
 -- one test after another is one test
-both_tests : {X : Type 0} (p q r : X → Bool) → ((x : X) → r x ≡ (q x && p x)) → (xs : List X) → filter p (filter q xs) ≡ filter r xs
+pub both_tests : {X : Type 0} (p q r : X → Bool) → ((x : X) → r x ≡ (q x && p x)) → (xs : List X) → filter p (filter q xs) ≡ filter r xs
 both_tests p q r h [] = refl
 both_tests {X} p q r h (x ∷ xs) = at (q x) (h x) (both_tests p q r h xs) where
   at : (b : Bool) → r x ≡ (b && p x) → filter p (filter q xs) ≡ filter r xs → filter p (cond b (x ∷ filter q xs) (filter q xs)) ≡ cond (r x) (x ∷ filter r xs) (filter r xs)
@@ -59,3 +59,58 @@ with_hosts-none xs = with_hosts-is [] xs ∙ all_kept (firsts bytes_eq xs)
 pub firsts-some : {X : Type 0} (same : X → X → Bool) (xs : List X) → 0 < length xs → 0 < length (firsts same xs)
 firsts-some same [] h = h
 firsts-some same (x ∷ xs) h = omega arith
+
+-- ---- hosts that are read again
+swapped : {X : Type 0} (p q : X → Bool) (xs : List X) → filter p (filter q xs) ≡ filter q (filter p xs)
+swapped p q xs = both_tests p q (λ x. q x && p x) (λ x. refl) xs ∙ sym (both_tests q p (λ x. q x && p x) (λ x. and_swap (q x) (p x)) xs) where
+  and_swap : (a b : Bool) → (a && b) ≡ (b && a)
+  and_swap true true = refl
+  and_swap true false = refl
+  and_swap false true = refl
+  and_swap false false = refl
+
+-- where a host doesn't pass a test, one that passes is another
+passes_apart : (test : List ℕ → Bool) (x y : List ℕ) → test x ≡ false → test y ≡ (not (bytes_eq x y) && test y)
+passes_apart test x y fails = at (bytes_eq x y) refl where
+  at : (t : Bool) → bytes_eq x y ≡ t → test y ≡ (not t && test y)
+  at true e = ap test (sym ((bytes_eq-Decides x y).0 e)) ∙ fails
+  at false e = refl
+
+-- A test keeps the first of each host, as it keeps hosts.
+pub firsts-filter : (test : List ℕ → Bool) (xs : List (List ℕ)) → filter test (firsts bytes_eq xs) ≡ firsts bytes_eq (filter test xs)
+firsts-filter test [] = refl
+firsts-filter test (x ∷ xs) = at (test x) refl (firsts-filter test xs) where
+  at : (t : Bool) → test x ≡ t → filter test (firsts bytes_eq xs) ≡ firsts bytes_eq (filter test xs)
+      → cond t (x ∷ filter test (filter (λ y. not (bytes_eq x y)) (firsts bytes_eq xs))) (filter test (filter (λ y. not (bytes_eq x y)) (firsts bytes_eq xs))) ≡ firsts bytes_eq (cond t (x ∷ filter test xs) (filter test xs))
+  at true e was = ap (λ hs. x ∷ hs) (swapped test (λ y. not (bytes_eq x y)) (firsts bytes_eq xs) ∙ ap (filter (λ y. not (bytes_eq x y))) was)
+  at false e was = both_tests test (λ y. not (bytes_eq x y)) test (λ y. passes_apart test x y e) (firsts bytes_eq xs) ∙ was
+
+pub firsts-firsts : (xs : List (List ℕ)) → firsts bytes_eq (firsts bytes_eq xs) ≡ firsts bytes_eq xs
+firsts-firsts [] = refl
+firsts-firsts (x ∷ xs) =
+    let other = λ (y : List ℕ). not (bytes_eq x y) in
+    ap (λ hs. x ∷ filter other hs) (sym (firsts-filter other (firsts bytes_eq xs)))
+    ∙ ap (λ hs. x ∷ hs) (both_tests other other other (λ y. twice (other y)) (firsts bytes_eq (firsts bytes_eq xs)))
+    ∙ ap (λ hs. x ∷ filter other hs) (firsts-firsts xs) where
+      twice : (t : Bool) → t ≡ (t && t)
+      twice true = refl
+      twice false = refl
+
+-- the hosts that no earlier one is
+abbrev pub unseen : List (List ℕ) → List (List ℕ) → List (List ℕ)
+unseen seen [] = []
+unseen seen (x ∷ xs) = cond (has_text seen x) (unseen (seen ++ x ∷ []) xs) (x ∷ unseen (seen ++ x ∷ []) xs)
+
+unseen-is : (seen xs : List (List ℕ)) → unseen seen xs ≡ filter (λ y. not (has_text seen y)) (firsts bytes_eq xs)
+unseen-is seen [] = refl
+unseen-is seen (x ∷ xs) =
+    at (has_text seen x)
+    (unseen-is (seen ++ x ∷ []) xs ∙ sym (both_tests (λ y. not (has_text seen y)) (λ y. not (bytes_eq x y)) (λ y. not (has_text (seen ++ x ∷ []) y)) (λ y. not_among seen x y) (firsts bytes_eq xs))) where
+      at : (t : Bool) → unseen (seen ++ x ∷ []) xs ≡ filter (λ y. not (has_text seen y)) (filter (λ y. not (bytes_eq x y)) (firsts bytes_eq xs))
+          → cond t (unseen (seen ++ x ∷ []) xs) (x ∷ unseen (seen ++ x ∷ []) xs)
+          ≡ cond (not t) (x ∷ filter (λ y. not (has_text seen y)) (filter (λ y. not (bytes_eq x y)) (firsts bytes_eq xs))) (filter (λ y. not (has_text seen y)) (filter (λ y. not (bytes_eq x y)) (firsts bytes_eq xs)))
+      at true later = later
+      at false later = ap (λ hs. x ∷ hs) later
+
+pub unseen-none : (xs : List (List ℕ)) → unseen [] xs ≡ firsts bytes_eq xs
+unseen-none xs = unseen-is [] xs ∙ all_kept (firsts bytes_eq xs)

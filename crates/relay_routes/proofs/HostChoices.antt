@@ -89,7 +89,7 @@ within_own own_names least e p rest = at (has_text own_names e.host) least where
   at true None = refl
   at true (Some l) = number l e.preference
 
-within_least : (own_names : List (List ℕ)) (least : Option ℕ) (es : List Exchange) (p : ℕ)
+pub within_least : (own_names : List (List ℕ)) (least : Option ℕ) (es : List Exchange) (p : ℕ)
     → is_within (least_own_from own_names least es) p ≡ (is_within least p && list_all (λ own. ltb p own.preference) (filter (λ x. has_text own_names x.host) es))
 within_least own_names least [] p = at (is_within least p) where
   at : (t : Bool) → t ≡ (t && true)

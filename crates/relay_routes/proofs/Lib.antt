@@ -20,3 +20,7 @@ pub mod TableFacts
 pub mod KeyFacts
 pub mod Rows
 pub mod FinderFacts
+pub mod DecidingFacts
+pub mod ReadExchangers
+pub mod FateFacts
+pub mod LineHosts

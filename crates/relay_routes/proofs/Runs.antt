@@ -118,7 +118,7 @@ one_ascending (n ∷ ns) (m ∷ ms) a b same = at (cases_order n m) (one_ascendi
   at (inr (inr below)) later = absurd (true≢false (sym (has_first m ms) ∙ sym (same m) ∙ none_above m (n ∷ ns) (below, above_lower m n ns below a.0) m (omega arith)))
 
 -- ---- exchangers sorted by their preferences
-map_kept : {X Y : Type 0} (f : X → Y) (p : Y → Bool) (xs : List X) → filter p (map f xs) ≡ map f (filter (λ x. p (f x)) xs)
+pub map_kept : {X Y : Type 0} (f : X → Y) (p : Y → Bool) (xs : List X) → filter p (map f xs) ≡ map f (filter (λ x. p (f x)) xs)
 map_kept f p [] = refl
 map_kept {X} {Y} f p (x ∷ xs) = at (p (f x)) (map_kept f p xs) where
   at : (t : Bool) → filter p (map f xs) ≡ map f (filter (λ y. p (f y)) xs) → cond t (f x ∷ filter p (map f xs)) (filter p (map f xs)) ≡ map f (cond t (x ∷ filter (λ y. p (f y)) xs) (filter (λ y. p (f y)) xs))
@@ -310,3 +310,27 @@ place_of_later q rs = by_test (ltb (position_or_len q rs) (length rs)) refl wher
   by_test : (t : Bool) → ltb (position_or_len q rs) (length rs) ≡ t → unwrap_or (cond t (Some (position_or_len q rs)) None) (length rs) ≡ position_or_len q rs
   by_test true h = refl
   by_test false h = omega (arith, ltb-false _ _ h, prefix_len-le-length (λ x. not (q x)) rs)
+
+-- ---- exchangers whose distinct hosts are the same at each preference
+abbrev pub hosts_of_preference : ℕ → List Exchange → List (List ℕ)
+hosts_of_preference q es = map (λ (e : Exchange). e.host) (filter (λ (e : Exchange). eqb e.preference q) es)
+
+abbrev has_some : List (List ℕ) → Bool
+has_some [] = false
+has_some (host ∷ hosts) = true
+
+number_has_hosts : (es : List Exchange) (q : ℕ) → has_number (preferences es) q ≡ has_some (firsts bytes_eq (hosts_of_preference q es))
+number_has_hosts [] q = refl
+number_has_hosts (e ∷ es) q = at (eqb e.preference q) (number_has_hosts es q) where
+  at : (t : Bool) → has_number (preferences es) q ≡ has_some (firsts bytes_eq (hosts_of_preference q es))
+      → (t || has_number (preferences es) q) ≡ has_some (firsts bytes_eq (map (λ (x : Exchange). x.host) (cond t (e ∷ filter (λ (x : Exchange). eqb x.preference q) es) (filter (λ (x : Exchange). eqb x.preference q) es))))
+  at true later = refl
+  at false later = later
+
+pub order_same : (es fs : List Exchange) (seed : ℕ) → ((q : ℕ) → firsts bytes_eq (hosts_of_preference q es) ≡ firsts bytes_eq (hosts_of_preference q fs)) → in_preference_order seed es ≡ in_preference_order seed fs
+order_same es fs seed same =
+    let numbers : ascending_numbers (preferences es) ≡ ascending_numbers (preferences fs) =
+    one_ascending _ _ (ascending_ascends (preferences es)) (ascending_ascends (preferences fs))
+    (λ q. has_ascending (preferences es) q ∙ number_has_hosts es q ∙ ap has_some (same q) ∙ sym (number_has_hosts fs q) ∙ sym (has_ascending (preferences fs) q)) in
+    ap (flat_map (hosts_at seed es)) numbers
+    ∙ flat_map_same (hosts_at seed es) (hosts_at seed fs) (ascending_numbers (preferences fs)) (λ q. ap (rotated seed) (same q))

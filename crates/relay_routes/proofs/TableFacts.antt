@@ -23,7 +23,7 @@ use Rattle.relay_routes.specs.Transports.{line_of, fault, has_pattern, entry_in,
 use Rattle.relay_routes.specs.TableSteps.{has_entry, with_line, with_lines}
 use Rattle.relay_routes.proofs.Numbering.{put_in}
 
-bytes_eq_swap : (xs ys : List ℕ) → bytes_eq xs ys ≡ bytes_eq ys xs
+pub bytes_eq_swap : (xs ys : List ℕ) → bytes_eq xs ys ≡ bytes_eq ys xs
 bytes_eq_swap xs ys = at (bytes_eq xs ys) refl (bytes_eq ys xs) refl where
   at : (a : Bool) → bytes_eq xs ys ≡ a → (b : Bool) → bytes_eq ys xs ≡ b → a ≡ b
   at true e true f = refl

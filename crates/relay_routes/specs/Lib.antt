@@ -10,3 +10,5 @@ pub mod Forms
 pub mod TableSteps
 pub mod Routes
 pub mod Destinations
+pub mod DecidingLines
+pub mod ExchangerLines

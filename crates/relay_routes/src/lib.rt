@@ -3,8 +3,11 @@
 
 pub mod choice;
 mod copies;
+pub mod deciding;
 pub mod destination;
 pub mod exchange;
+pub mod exchanger_fates;
+pub mod fate;
 pub mod fault;
 mod form;
 mod host_form;
@@ -27,7 +30,10 @@ pub mod unrouted;
 pub mod via;
 
 pub use choice::Choice;
+pub use deciding::{DecidingLine, choice_by_line, deciding_line};
 pub use destination::Destination;
+pub use exchanger_fates::{ExchangerLine, exchanger_lines, hosts_by_lines};
+pub use fate::Fate;
 pub use fault::{FaultKind, LineFault};
 pub use hosts::Hosts;
 pub use mx::MxTable;

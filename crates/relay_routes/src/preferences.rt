@@ -32,7 +32,7 @@ pub(crate) fn before_relay<'a>(
 }
 
 /// The least preference at which the relay itself is an exchanger.
-fn own_preference(exchangers: &[&Exchange], own_names: &TextSet) -> Option<u16>
+pub(crate) fn own_preference(exchangers: &[&Exchange], own_names: &TextSet) -> Option<u16>
     ensures { result ≡ least_own own_names.now (exchanges_of exchangers.now) }
 {
     let mut least = None;
@@ -54,7 +54,7 @@ fn with_own(own_names: &TextSet, least: Option<u16>, exchange: &Exchange) -> Opt
 }
 
 /// Whether a preference comes before a limit, if there is one.
-fn is_within(limit: Option<u16>, preference: u16) -> bool
+pub(crate) fn is_within(limit: Option<u16>, preference: u16) -> bool
     ensures { result ≡ is_within limit preference }
 {
     match limit {

@@ -1,0 +1,62 @@
+//! The steps of a chain.
+use crate::listed::Listed;
+use crate::target::Target;
+use relay_text::Address;
+
+/// Where a target is named.
+#[derive(Drop)]
+pub enum Mention {
+    /// A recipient of the envelope, and the number of its line.
+    Recipient(usize, Address),
+    Item(Listed),
+}
+
+/// A mention, and the target that it names.
+#[derive(Drop)]
+pub struct Step {
+    pub mention: Mention,
+    pub target: Target,
+}
+
+ghost use Rattle.std.specs.Prelude.{◌≡◌, ◌++◌, ◌∷◌, [], codes, OnOk};
+ghost use Rattle.relay_wire.specs.Findings.{after_spaces};
+ghost use Rattle.relay_wire.specs.PlanText.{line};
+ghost use Rattle.relay_explain.specs.ExplanationText.{mention_text, is_text, step_line};
+
+use crate::words::{put_number, put_path, put_word};
+use std::alloc::AllocError;
+
+impl Mention {
+    fn put(&self, out: &mut Vec<u8>) -> Result<(), AllocError>
+        ensures { OnOk result (out.new.items ≡ out.old.items ++ mention_text self.now) }
+    {
+        match self {
+            Mention::Recipient(line, address) => {
+                put_word(b"envelope line", out)?;
+                put_number(*line, out)?;
+                put_path(Some(address), out)
+            }
+            Mention::Item(listed) => listed.put(out),
+        }
+    }
+}
+
+impl Step {
+    /// Writes what the mention names.
+    fn put_target(&self, out: &mut Vec<u8>) -> Result<(), AllocError>
+        ensures { OnOk result (out.new.items ≡ out.old.items ++ is_text self.now.target) }
+    {
+        put_word(b"is", out)?;
+        self.target.put(out)
+    }
+
+    pub(crate) fn put_line(&self, out: &mut Vec<u8>) -> Result<(), AllocError>
+        ensures { OnOk result (out.new.items ≡ out.old.items ++ line (step_line self.now)) }
+    {
+        out.extend_from_slice(b"step")?;
+        self.mention.put(out)?;
+        self.put_target(out)?;
+        out.push(b'\n')?;
+        Ok(())
+    }
+}

@@ -1,0 +1,9 @@
+pub mod Orders
+pub mod Ends
+pub mod Linking
+pub mod Taking
+pub mod Going
+pub mod Covering
+pub mod Placing
+pub mod Named
+pub mod Reading

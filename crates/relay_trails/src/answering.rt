@@ -1,0 +1,78 @@
+//! The answers of a search.
+ghost use Rattle.std.specs.Prelude.{◌≡◌, ◌<◌, length, All, IfOk};
+ghost use Rattle.relay_pairs.specs.Pairs.{ArePairs};
+ghost use Rattle.relay_trails.specs.Trails.{AreBestTrails, trail_of};
+ghost use Rattle.relay_trails.specs.Steps.{AreLinked, trail_at};
+ghost use Rattle.relay_trails.specs.Answers.{AreAnswers, HasSteps};
+
+use crate::found::Found;
+use crate::search::Search;
+use crate::step::{Link, Step};
+use relay_pairs::Reached;
+use relay_tables::Graph;
+use std::alloc::{AllocError, Global};
+
+/// For each sender under which the node is reached, ascending, the best trail there: the least of the shortest, by recipient and then
+/// by items. No other sender has an answer, and a node that is not reached has none.
+///
+/// The pairs are all that are reached, as `reached_pairs` gives them. The time is near linear in their number and in the items of
+/// their nodes. Memory is taken for each pair and for the answers, and the only error is that it's refused.
+pub fn best_trails(
+    alloc: Global,
+    graph: &Graph,
+    pairs: &[Reached],
+    node: u32,
+) -> Result<Vec<Found>, AllocError>
+    requires pairs { ArePairs graph.now pairs.now }
+    requires in_graph { All (λ p. (p.sender < length graph.now.senders) × (p.node < length graph.now.nodes)) pairs.now }
+    ensures { IfOk result (λ found. AreBestTrails graph.now node found.items) }
+{
+    let search = Search::run(alloc, graph, pairs)?;
+    answers(alloc, &search, pairs, node)
+}
+
+// The answers for the pairs of a node, in the order of the pairs.
+fn answers(
+    alloc: Global,
+    search: &Search,
+    pairs: &[Reached],
+    node: u32,
+) -> Result<Vec<Found>, AllocError>
+    requires { HasSteps (length pairs.now) search.now.found.items search.now.steps.items }
+    ensures { IfOk result (λ found. AreAnswers pairs.now pairs.now search.now.found.items search.now.steps.items node found.items) }
+{
+    let mut found = Vec::new(alloc);
+    for (place, pair) in pairs.iter().enumerate() {
+        if pair.node == node {
+            let at = search.found[place].unwrap();
+            found.push(read_back(alloc, &search.steps, at, pair.sender)?)?;
+        }
+    }
+    Ok(found)
+}
+
+// The trail of a step, read from its end.
+fn read_back(alloc: Global, steps: &[Step], mut at: usize, sender: u32) -> Result<Found, AllocError>
+    requires linked { AreLinked steps.now }
+    requires at { at < length steps.now }
+    ensures sender { IfOk result (λ found. found.sender ≡ sender) }
+    ensures trail { IfOk result (λ found. trail_of found ≡ trail_at steps.now at) }
+{
+    let mut items = Vec::new(alloc);
+    loop {
+        match steps[at].link {
+            Link::Recipient(recipient) => {
+                items.reverse();
+                return Ok(Found {
+                    sender,
+                    recipient,
+                    items,
+                });
+            }
+            Link::Item(from, item) => {
+                items.push(item)?;
+                at = from;
+            }
+        }
+    }
+}

@@ -1,0 +1,119 @@
+//! The search for the best trails.
+//!
+//! It takes the recipients in their order, and then the items of each pair that it has come to, in the order in which it came there. A
+//! pair has its trail from the first that leads to it. So the trails rise, and no later one to the same pair is less.
+ghost use Rattle.std.specs.Prelude.{◌≡◌, ◌+◌, ◌<◌, ◌≤◌, length, map, All, IfOk, OnOk};
+ghost use Rattle.relay_pairs.specs.Pairs.{ArePairs};
+ghost use Rattle.relay_trails.specs.declared.step.Link.TheVariants.{Recipient, Item};
+ghost use Rattle.relay_trails.specs.Steps.{IsTaken};
+ghost use Rattle.relay_trails.specs.Searches.{IsAt, IsDone};
+
+use crate::places::place_of;
+use crate::step::{Link, Step};
+use relay_pairs::Reached;
+use relay_tables::Graph;
+use std::alloc::{AllocError, Global};
+
+// The step of each place, once it has one, and the steps in their order.
+#[derive(Drop)]
+pub(crate) struct Search {
+    pub(crate) found: Vec<Option<usize>>,
+    pub(crate) steps: Vec<Step>,
+}
+
+impl Search {
+    // Looks for the best trail to each of the pairs.
+    pub(crate) fn run(alloc: Global, graph: &Graph, pairs: &[Reached]) -> Result<Search, AllocError>
+        requires pairs { ArePairs graph.now pairs.now }
+        requires in_graph { All (λ p. (p.sender < length graph.now.senders) × (p.node < length graph.now.nodes)) pairs.now }
+        ensures { IfOk result (λ search. IsDone graph.now pairs.now search.found.items search.steps.items) }
+    {
+        let mut search = Search {
+            found: vec![in alloc; None; pairs.len()]?,
+            steps: Vec::with_capacity(alloc, pairs.len())?,
+        };
+        search.take_recipients(graph, pairs)?;
+        search.go_on(graph, pairs)?;
+        Ok(search)
+    }
+
+    // Takes the recipients.
+    fn take_recipients(&mut self, graph: &Graph, pairs: &[Reached]) -> Result<(), AllocError>
+        requires pairs { ArePairs graph.now pairs.now }
+        requires in_graph { All (λ p. (p.sender < length graph.now.senders) × (p.node < length graph.now.nodes)) pairs.now }
+        requires before { IsAt graph.now pairs.now self.old.found.items self.old.steps.items (Recipient 0) }
+        ensures { OnOk result (IsAt graph.now pairs.now self.new.found.items self.new.steps.items (Item 0 0)) }
+    {
+        // For what the call says alone: there are few nodes.
+        let _ = graph.nodes();
+        for (recipient, node) in graph.roots().iter().enumerate() {
+            let place = place_of(
+                pairs,
+                Reached {
+                    sender: 0,
+                    node: *node,
+                },
+            );
+            self.take(place, Link::Recipient(recipient))?;
+        }
+        Ok(())
+    }
+
+    // Takes the items of each pair that it has come to.
+    fn go_on(&mut self, graph: &Graph, pairs: &[Reached]) -> Result<(), AllocError>
+        requires pairs { ArePairs graph.now pairs.now }
+        requires in_graph { All (λ p. (p.sender < length graph.now.senders) × (p.node < length graph.now.nodes)) pairs.now }
+        requires before { IsAt graph.now pairs.now self.old.found.items self.old.steps.items (Item 0 0) }
+        ensures { OnOk result (IsAt graph.now pairs.now self.new.found.items self.new.steps.items (Item (length self.new.steps.items) 0)) }
+    {
+        let mut from = 0;
+        while from < self.steps.len() {
+            self.take_items(graph, pairs, from)?;
+            from += 1;
+        }
+        Ok(())
+    }
+
+    // Takes the items of the pair of a step.
+    fn take_items(
+        &mut self,
+        graph: &Graph,
+        pairs: &[Reached],
+        from: usize,
+    ) -> Result<(), AllocError>
+        requires pairs { ArePairs graph.now pairs.now }
+        requires in_graph { All (λ p. (p.sender < length graph.now.senders) × (p.node < length graph.now.nodes)) pairs.now }
+        requires from { from < length self.old.steps.items }
+        requires before { IsAt graph.now pairs.now self.old.found.items self.old.steps.items (Item from 0) }
+        ensures after { OnOk result (IsAt graph.now pairs.now self.new.found.items self.new.steps.items (Item (from + 1) 0)) }
+        ensures longer { OnOk result (length self.old.steps.items ≤ length self.new.steps.items) }
+    {
+        // For what the call says alone: there are few nodes.
+        let _ = graph.nodes();
+        let pair = pairs[self.steps[from].place];
+        let sender = graph.sender_after(pair.sender, pair.node);
+        for (item, node) in graph.children(pair.node).iter().enumerate() {
+            let place = place_of(
+                pairs,
+                Reached {
+                    sender,
+                    node: *node,
+                },
+            );
+            self.take(place, Link::Item(from, item))?;
+        }
+        Ok(())
+    }
+
+    // Comes to a pair, if it hasn't before.
+    fn take(&mut self, place: usize, link: Link) -> Result<(), AllocError>
+        requires { place < length self.old.found.items }
+        ensures { OnOk result (IsTaken place link self.old.found.items self.old.steps.items self.new.found.items self.new.steps.items) }
+    {
+        if self.found[place].is_none() {
+            self.found[place] = Some(self.steps.len());
+            self.steps.push(Step { place, link })?;
+        }
+        Ok(())
+    }
+}
