@@ -6,12 +6,12 @@ use std::alloc::Global;
 
 /// The threads, what is asked of them, and how much a job may have.
 #[derive(Drop)]
-pub(crate) struct Crew<'a, G, R> {
-    pub(crate) rt: &'a R,
-    pub(crate) alloc: Global,
-    pub(crate) options: Options,
-    pub(crate) limits: Limits,
-    pub(crate) gate: &'a G,
+pub struct Crew<'a, G, R> {
+    pub rt: &'a R,
+    pub alloc: Global,
+    pub options: Options,
+    pub limits: Limits,
+    pub gate: &'a G,
     ghost asked: { AreOptions options },
     ghost limited: { AreLimits limits },
 }

@@ -1,5 +1,5 @@
 //! The answer to what a command line asks for.
-ghost use Rattle.std.specs.Prelude.{◌≡◌, ◌≢◌, IfOk, IfErr};
+ghost use Rattle.std.specs.Prelude.{◌≡◌, ◌≢◌, true, false, IfOk, IfErr};
 ghost use Rattle.aliasplan.specs.Outcomes.{AreOptions};
 ghost use Rattle.aliasplan_command.specs.Requests.{IsRequest};
 ghost use Rattle.aliasplan_command.specs.Statuses.{code_of, code_after, IsStatusOf};
@@ -14,9 +14,11 @@ use crate::json_run::run_as_json;
 use crate::standard_input::StandardInput;
 use crate::status::Status;
 use aliasplan::{
-    Device, Limits, NoGate, Options, Paths, RunFault, SourceFault, gather, run, run_domains,
-    run_returns,
+    Crew, Device, Feed, Limits, NoGate, Options, Paths, RunFault, Sink, SourceFault, gather, run,
+    run_domains, run_returns,
 };
+use aliasplan_explain::run_explain;
+use relay_explain::Asked;
 use relay_text::Text;
 use std::io;
 use std::io::{ErrorKind, Read};
@@ -42,16 +44,47 @@ fn status_of(findings: usize) -> Status
     }
 }
 
+/// What a run ends with that explained an address which is in the plan, or isn't.
+fn status_where(in_plan: bool) -> Status
+    ensures { (in_plan ≡ true → result ≡ Status.Done) × (in_plan ≡ false → result ≡ Status.Found) }
+{
+    if in_plan { Status::Done } else { Status::Found }
+}
+
+/// What becomes of an address that is explained by the job that a reader gives.
+fn explained<R: AllocGlobal + Threads + Sync, F: Feed, S: Sink>(
+    rt: &R,
+    reader: &mut F,
+    writer: &mut S,
+    asked: &Asked,
+    options: Options,
+) -> Result<Status, RunFault>
+    requires options { AreOptions options }
+    requires reader { (F.has_failed reader.old ≡ false) × (F.has_ended reader.old ≡ false) }
+    requires writer { S.has_failed writer.old ≡ false }
+    ensures { IfOk result (λ status. status ≢ Status.CommandLine) }
+{
+    let crew = Crew {
+        rt,
+        alloc: rt.alloc(),
+        options,
+        limits: Limits::default(),
+        gate: &NoGate,
+    };
+    let in_plan = run_explain(&crew, reader, writer, asked)?;
+    Ok(status_where(in_plan))
+}
+
 /// What becomes of the answer to the job that a reader gives.
 fn planned<R: Print + Eprint + AllocGlobal + Threads + Sync, J: Read + Drop>(
     rt: &R,
     job: J,
     options: Options,
-    output: Output,
+    output: Output<'_>,
 ) -> Result<Status, RunFault>
     requires { AreOptions options }
     ensures asked { IfOk result (λ status. status ≢ Status.CommandLine) }
-    ensures domains { output ≡ Output.Domains → IfOk result (λ status. status ≢ Status.Found) }
+    ensures domains { output.entry ≡ Output.Domains → IfOk result (λ status. status ≢ Status.Found) }
 {
     let mut reader = Device::new(job);
     let mut writer = Device::new(io::writer(rt));
@@ -93,6 +126,7 @@ fn planned<R: Print + Eprint + AllocGlobal + Threads + Sync, J: Read + Drop>(
             let findings = run_check(rt, &mut reader, &mut writer, scope, options, limits)?;
             return Ok(status_of(findings));
         }
+        Output::Explain(asked) => return explained(rt, &mut reader, &mut writer, asked, options),
     };
     Ok(status_of(summary.findings))
 }
@@ -102,11 +136,11 @@ fn plan<R: Print + Eprint + AllocGlobal + Threads + Sync, J: Read + Drop>(
     rt: &R,
     job: J,
     options: Options,
-    output: Output,
+    output: Output<'_>,
 ) -> Status
     requires { AreOptions options }
     ensures asked { result ≢ Status.CommandLine }
-    ensures domains { output ≡ Output.Domains → result ≢ Status.Found }
+    ensures domains { output.entry ≡ Output.Domains → result ≢ Status.Found }
 {
     match planned(rt, job, options, output) {
         Ok(status) => status,
@@ -141,11 +175,11 @@ fn plan_verbosely<R: Print + Eprint + AllocGlobal + Threads + Sync, J: Read + Dr
     job: J,
     name: &str,
     options: Options,
-    output: Output,
+    output: Output<'_>,
 ) -> Status
     requires { AreOptions options }
     ensures asked { result ≢ Status.CommandLine }
-    ensures domains { output ≡ Output.Domains → result ≢ Status.Found }
+    ensures domains { output.entry ≡ Output.Domains → result ≢ Status.Found }
 {
     let bytes = match read_whole(rt, job, name) {
         Ok(bytes) => bytes,
@@ -153,7 +187,7 @@ fn plan_verbosely<R: Print + Eprint + AllocGlobal + Threads + Sync, J: Read + Dr
     };
     match planned(rt, bytes.as_slice(), options, output) {
         Ok(status) => {
-            if status == Status::Found {
+            if status == Status::Found && !matches!(output, Output::Explain(_)) {
                 explain_items(rt, bytes.as_slice());
             }
             status
@@ -170,12 +204,12 @@ fn plan_verbosely<R: Print + Eprint + AllocGlobal + Threads + Sync, J: Read + Dr
 fn plan_input<R: Input + Print + Eprint + AllocGlobal + Threads + Sync>(
     rt: &R,
     options: Options,
-    output: Output,
+    output: Output<'_>,
     detail: Detail,
 ) -> Status
     requires { AreOptions options }
     ensures asked { result ≢ Status.CommandLine }
-    ensures domains { output ≡ Output.Domains → result ≢ Status.Found }
+    ensures domains { output.entry ≡ Output.Domains → result ≢ Status.Found }
 {
     let input = StandardInput::new(rt.reader());
     match detail {
@@ -189,12 +223,12 @@ fn plan_file<R: Files + Print + Eprint + AllocGlobal + Threads + Sync>(
     rt: &R,
     path: &Text,
     options: Options,
-    output: Output,
+    output: Output<'_>,
     detail: Detail,
 ) -> Status
     requires { AreOptions options }
     ensures asked { result ≢ Status.CommandLine }
-    ensures domains { output ≡ Output.Domains → result ≢ Status.Found }
+    ensures domains { output.entry ≡ Output.Domains → result ≢ Status.Found }
 {
     match file_source::open(rt, path.as_bytes()) {
         Ok(file) => match detail {
@@ -217,12 +251,12 @@ fn plan_named<R: Input + Files + Print + Eprint + AllocGlobal + Threads + Sync>(
     rt: &R,
     path: Option<&Text>,
     options: Options,
-    output: Output,
+    output: Output<'_>,
     detail: Detail,
 ) -> Status
     requires { AreOptions options }
     ensures asked { result ≢ Status.CommandLine }
-    ensures domains { output ≡ Output.Domains → result ≢ Status.Found }
+    ensures domains { output.entry ≡ Output.Domains → result ≢ Status.Found }
 {
     match path {
         None => plan_input(rt, options, output, detail),
@@ -269,6 +303,9 @@ pub fn answer<R: Input + Files + Print + Eprint + AllocGlobal + Threads + Sync>(
         }
         Request::Check(options, scope, path, detail) => {
             plan_named(rt, path.as_ref(), options, Output::Check(scope), detail)
+        }
+        Request::Explain(options, asked, path, detail) => {
+            plan_named(rt, path.as_ref(), options, Output::Explain(&asked), detail)
         }
         Request::Gather(paths, detail) => gather_job(rt, &paths, detail),
         Request::Help => Status::Done,

@@ -10,7 +10,8 @@ use crate::check_run::Scope;
 use aliasplan::{Form, Options, Paths, RunFault};
 use clap::error::ErrorKind;
 use clap::{Arg, ArgAction, ArgMatches, Command, value_parser};
-use relay_text::{Seq, Text};
+use relay_explain::Asked;
+use relay_text::{Seq, Text, TextFault};
 use std::alloc::{AllocError, Global};
 use std::rt::Env;
 use std::{env, io};
@@ -19,11 +20,13 @@ use std::{env, io};
 #[derive(Drop)]
 pub enum Request {
     /// A plan of the job in the file of this path, or on standard input where there is none.
-    Plan(Options, Output, Option<Text>, Detail),
+    Plan(Options, Output<'static>, Option<Text>, Detail),
     /// The domains that the job asks for, which is read likewise.
     Domains(Options, Option<Text>, Detail),
     /// What is wrong with the job's files and tables, which is read likewise.
     Check(Options, Scope, Option<Text>, Detail),
+    /// Why a name or an address is in the job's plan, or isn't. The job is read likewise.
+    Explain(Options, Asked, Option<Text>, Detail),
     /// A job of the files of these paths.
     Gather(Paths, Detail),
     /// The help or the version, which is printed.
@@ -35,8 +38,8 @@ pub enum Request {
 }
 
 /// What is written of a job.
-#[derive(Clone, Copy, Debug, PartialEq, Eq)]
-pub enum Output {
+#[derive(Clone, Copy)]
+pub enum Output<'a> {
     /// The text of its plan, in the form that the options name.
     Text,
     /// The same, with whom to tell of what can't be delivered.
@@ -47,6 +50,8 @@ pub enum Output {
     Domains,
     /// What is wrong with its files and tables.
     Check(Scope),
+    /// Why a name or an address is in its plan, or isn't.
+    Explain(&'a Asked),
 }
 
 /// How much is said of a fault.
@@ -85,6 +90,15 @@ const AFTER_CHECK: &str =
       Exit status: 0 no findings, 1 findings, 2 the job is refused, 3 out of memory, 4 the job can't be read or\n\
       the text can't be written, 5 a fault of the command line.\n\n\
       Example: aliasplan check --all examples/first.job";
+
+/// What stands below the options in the help of `explain`.
+const AFTER_EXPLAIN: &str =
+    "ADDRESS may stand in angle brackets. A name without a domain is one at the origin: an alias, a mailbox or a\n\
+      missing name. An address is explained as the mailbox or the remote address that it is, where mail is\n\
+      delivered there, else as what it stands for. Of several chains of items the shortest is told.\n\n\
+      Exit status: 0 a transaction of the plan has the address, 1 none has it, 2 the job is refused, 3 out of\n\
+      memory, 4 the job can't be read or the text can't be written, 5 a fault of the command line.\n\n\
+      Example: aliasplan explain joe@example.org examples/first.job";
 
 /// What stands below the options in the help of `gather`.
 const AFTER_GATHER: &str =
@@ -187,6 +201,21 @@ fn check_command<'a>(alloc: Global) -> Result<Command<'a>, AllocError> {
         .arg(job_file(alloc))
 }
 
+fn explain_command<'a>(alloc: Global) -> Result<Command<'a>, AllocError> {
+    let address = Arg::new(alloc, "address")
+        .value_name("ADDRESS")
+        .required(true)
+        .help("The address or local name that is asked for");
+    Command::new(alloc, "explain")
+        .about("Reads a job and writes why an address is in its plan, or isn't")
+        .after_help(AFTER_EXPLAIN)
+        .arg(workers(alloc))?
+        .arg(cut(alloc))?
+        .arg(verbose(alloc))?
+        .arg(address)?
+        .arg(job_file(alloc))
+}
+
 /// The files that a job is gathered of, each by the name of its section, and what naming several does.
 const FILES: [(&str, ArgAction, &str); 6] = [
     ("settings", ArgAction::Set, "The settings"),
@@ -232,12 +261,13 @@ fn command<'a>(alloc: Global) -> Result<Command<'a>, AllocError> {
         .subcommand_required(true)
         .arg_required_else_help(false)
         .subcommand(plan_command(alloc)?)?
+        .subcommand(explain_command(alloc)?)?
         .subcommand(check_command(alloc)?)?
         .subcommand(domains_command(alloc)?)?
         .subcommand(gather_command(alloc)?)
 }
 
-/// The options that the words after `plan`, `check` or `domains` say, or their defaults. What is out of range is refused before.
+/// The options that the words after `plan`, `explain`, `check` or `domains` say, or their defaults. What is out of range is refused before.
 fn options_of(words: &ArgMatches<'_>, form: Form) -> Options
     ensures { AreOptions result }
 {
@@ -260,7 +290,7 @@ fn form_of(plan: &ArgMatches<'_>) -> Form {
 }
 
 /// What the words after `plan` say that the plan is written as.
-fn output_of(plan: &ArgMatches<'_>) -> Output {
+fn output_of(plan: &ArgMatches<'_>) -> Output<'static> {
     match plan.get_str("form") {
         Some("json") => Output::Json,
         _ if plan.get_flag("returns") => Output::Returns,
@@ -330,6 +360,31 @@ fn check_of(alloc: Global, words: &ArgMatches<'_>) -> Result<Request, AllocError
         Scope::Texts
     };
     Ok(Request::Check(options, scope, path, detail_of(words)))
+}
+
+/// What the words after `explain` ask for of this name or address. There is one form.
+fn explain_of(alloc: Global, words: &ArgMatches<'_>, asked: Asked) -> Result<Request, AllocError>
+    ensures { IfOk result (λ request. IsRequest request) }
+{
+    let path = job_path_of(alloc, words)?;
+    let options = options_of(words, Form::Plan);
+    Ok(Request::Explain(options, asked, path, detail_of(words)))
+}
+
+/// What the words after `explain` ask for. A text that is no name and no address is a fault of the command line.
+fn explain_request<R: Eprint + AllocGlobal>(rt: &R, words: &ArgMatches<'_>) -> Request
+    ensures { IsRequest result }
+{
+    let alloc = rt.alloc();
+    let text = words.get_str("address").unwrap_or_default();
+    match Asked::parse(alloc, text.as_bytes()) {
+        Ok(asked) => { explain_of(alloc, words, asked).unwrap_or(Request::Fault(RunFault::Memory)) }
+        Err(TextFault::Memory) => Request::Fault(RunFault::Memory),
+        Err(_) => {
+            let _ = eprintln!(rt; "aliasplan: {text}: no address and no local name");
+            Request::Unknown
+        }
+    }
 }
 
 /// The paths that the words after `gather` say.
@@ -420,6 +475,7 @@ pub fn read_words<R: Env + Print + Eprint + AllocGlobal>(rt: &R) -> Request
                 let _ = eprintln!(rt; "aliasplan: --returns has no JSON form");
                 Request::Unknown
             }
+            Some(("explain", words)) => explain_request(rt, words),
             Some((name, words)) => request_of(rt.alloc(), name, words),
             None => Request::Unknown,
         },

@@ -1,5 +1,6 @@
-//! What the program does with its command line: `plan` reads a job and writes its plan on standard output, `check` what is wrong with
-//! its files and tables, `domains` the names that it asks for, and `gather` writes a job of files that lie apart.
+//! What the program does with its command line: `plan` reads a job and writes its plan on standard output, `explain` why an address is in
+//! it or isn't, `check` what is wrong with its files and tables, `domains` the names that it asks for, and `gather` writes a job of files
+//! that lie apart.
 //!
 //! `read_words` reads the command line into a `Request`, `answer` carries it out and tells the `Status` that the process ends with.
 #![tactic(auto)]

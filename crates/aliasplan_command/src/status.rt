@@ -7,9 +7,10 @@ use relay_job::RunFault;
 /// The exit statuses.
 #[derive(Clone, Copy, Debug, PartialEq, Eq)]
 pub enum Status {
-    /// The plan is written and has no findings, or the domains are written, or the job is gathered.
+    /// The plan is written and has no findings, or the domains are written, or the job is gathered, or an address is explained that is in
+    /// the plan.
     Done,
-    /// The plan is written, and has findings.
+    /// The plan is written and has findings, or an address is explained that isn't in the plan.
     Found,
     /// The job is refused.
     Refused,

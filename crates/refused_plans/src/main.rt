@@ -1,9 +1,10 @@
-//! The public calls of relay_job, relay_gather and aliasplan that take memory, each on a worked example, made and judged as
+//! The public calls of relay_job, relay_gather, aliasplan and aliasplan_explain that take memory, each on a worked example, made and judged as
 //! growth_answers says.
 #![tactic(auto)]
 
 mod checks;
 mod devices;
+mod explaining;
 mod gathering;
 mod jobs;
 mod planning;
@@ -25,5 +26,6 @@ fn main(rt: HostRuntime) -> ExitCode {
     planning::tell(&mut teller);
     checks::tell(&mut teller);
     running::tell(&mut teller);
+    explaining::tell(&mut teller);
     ExitCode::from(teller.status())
 }

@@ -1,0 +1,97 @@
+//! A plan beside what it is made from, for those who ask more of it than its text.
+use relay_pairs::Reached;
+use relay_routes::Router;
+use relay_tables::{Graph, Tables};
+use relay_wire::Plan;
+
+/// A plan, what a job's names stand for, what routes its addresses, its graph, and the pairs of sender and node that it reaches.
+#[derive(Drop)]
+pub struct Workings {
+    pub tables: Tables,
+    pub router: Router,
+    pub graph: Graph,
+    /// By the numbers of senders and nodes in the graph.
+    pub pairs: Vec<Reached>,
+    pub plan: Plan,
+}
+
+ghost use Rattle.std.specs.Prelude.{◌≡◌, ◌<◌, ℕ, List, IfOk, IfErr, OnOk};
+ghost use Rattle.relay_text.specs.Bytes.{has_text};
+ghost use Rattle.relay_routes.specs.declared.transport.Transport as names;
+ghost use Rattle.relay_job.specs.Settings.{limit_of};
+ghost use Rattle.relay_job.specs.JobAnswers.{IsJobWithin};
+ghost use Rattle.relay_pairs.specs.Pairs.{ArePairs};
+ghost use Rattle.aliasplan.specs.Delivery.{directory_of, routing_of, IsJobGraph};
+ghost use Rattle.aliasplan.specs.Outcomes.{IsWithin, IsRefused};
+ghost use Rattle.aliasplan.specs.Plans.{IsPlanOf};
+ghost use Rattle.aliasplan.specs.Reaching.{AreReachedPairs};
+ghost use Rattle.aliasplan.specs.Texts.{has_fault_line};
+
+use crate::crew::Crew;
+use crate::planning::{graph_of, pairs_of, plan_reached};
+use crate::sources::Sources;
+use relay_aliasfile::file_counts;
+use relay_job::{Job, RunFault, parsed_jobs};
+use relay_rounds::Gate;
+use relay_wire::FindingLines;
+use std::thread::Threads;
+
+/// The plan and the workings of a job whose files and tables are read. Their lines that are at fault are given.
+fn workings_of<G: Gate, R: Threads + Sync>(
+    crew: &Crew<G, R>,
+    job: &Job,
+    sources: Sources,
+    lines: FindingLines,
+) -> Result<Workings, RunFault>
+    requires batches { (t : names.Transport) → 0 < limit_of job.now.settings t }
+    requires tables { sources.tables ≡ directory_of job.now }
+    requires router { sources.router ≡ routing_of job.now }
+    requires lines { (q : List ℕ) → has_text lines q ≡ has_fault_line job.now q }
+    ensures plan { IfOk result (λ workings. IsPlanOf job.now workings.plan) }
+    ensures tables { IfOk result (λ workings. workings.tables ≡ directory_of job.now) }
+    ensures router { IfOk result (λ workings. workings.router ≡ routing_of job.now) }
+    ensures graph { IfOk result (λ workings. IsJobGraph job.now workings.graph) }
+    ensures pairs { IfOk result (λ workings. ArePairs workings.graph workings.pairs.items) }
+    ensures reached { IfOk result (λ workings. AreReachedPairs job.now workings.graph workings.pairs.items) }
+    ensures within { OnOk result (IsWithin crew.now.limits job.now) }
+    ensures refused { IfErr result (IsRefused crew.now.limits job.now) }
+{
+    let graph = graph_of(crew.alloc, job, &sources.tables, crew.limits)?;
+    let pairs = pairs_of(crew, job, &graph)?;
+    let Ok(plan) = plan_reached(crew, job, &sources, &graph, &pairs, lines) else {
+        return Err(RunFault::Memory);
+    };
+    let Sources { tables, router } = sources;
+    Ok(Workings {
+        tables,
+        router,
+        graph,
+        pairs,
+        plan,
+    })
+}
+
+/// The plan of a job with what it is made from. The errors are those of `plan_job`, in the same order, and neither the number of threads
+/// nor how the work is cut changes the answer.
+pub fn plan_with_workings<G: Gate, R: Threads + Sync>(
+    crew: &Crew<G, R>,
+    job: &Job,
+) -> Result<Workings, RunFault>
+    requires job { IsJobWithin crew.now.limits.bytes job.now }
+    ensures plan { IfOk result (λ workings. IsPlanOf job.now workings.plan) }
+    ensures tables { IfOk result (λ workings. workings.tables ≡ directory_of job.now) }
+    ensures router { IfOk result (λ workings. workings.router ≡ routing_of job.now) }
+    ensures graph { IfOk result (λ workings. IsJobGraph job.now workings.graph) }
+    ensures pairs { IfOk result (λ workings. ArePairs workings.graph workings.pairs.items) }
+    ensures reached { IfOk result (λ workings. AreReachedPairs job.now workings.graph workings.pairs.items) }
+    ensures within { OnOk result (IsWithin crew.now.limits job.now) }
+    ensures refused { IfErr result (IsRefused crew.now.limits job.now) }
+{
+    parsed_jobs();
+    file_counts();
+    let mut lines = FindingLines::new(crew.alloc);
+    let Ok(sources) = Sources::read(crew.alloc, job, &mut lines) else {
+        return Err(RunFault::Memory);
+    };
+    workings_of(crew, job, sources, lines)
+}

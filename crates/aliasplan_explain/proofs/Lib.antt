@@ -1,0 +1,10 @@
+pub mod NodeFacts
+pub mod TargetFacts
+pub mod RowFacts
+pub mod EndingFacts
+pub mod WalkFacts
+pub mod AnswerFacts
+pub mod UnreachedFacts
+pub mod AskingFacts
+pub mod AskedTargets
+pub mod RunFacts

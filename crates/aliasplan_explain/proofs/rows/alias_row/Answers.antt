@@ -1,0 +1,36 @@
+use Rattle.std.proofs.Common.{◌≡◌, Option, Some, None, map, slice_get, ap, sym, ◌∙◌}
+use Rattle.std.specs.Borrow.{Bor}
+use Rattle.std.specs.Option.{option_map}
+use Rattle.std.proofs.lemmas.Result.{IfOk-weaker}
+use Rattle.relay_text.specs.Lines.{logical_lines_of}
+use Rattle.relay_aliasfile.specs.AliasFiles.{alias_file_of}
+use Rattle.relay_aliasfile.specs.ItemPlaces.{place_value}
+use Rattle.relay_aliasfile.specs.declared.entry.Entry.{Entry}
+use Rattle.aliasplan_explain.specs.Rows.{entry_row_if}
+use Rattle.aliasplan_explain.proofs.RowFacts.{entry_got, line_of_entry, row_of_entry}
+use Rattle.aliasplan_explain.proofs.rows.alias_row.Goals as goal
+
+abbrev entry_now : Option (Bor Entry) → Option Entry
+entry_now r = option_map (λ (x : Bor Entry). x.now) r
+
+pub entry_places-requires-clause-there : goal.entry_places-requires-clause-there
+entry_places-requires-clause-there c =
+    let job = c.args.grounds.now.job.now in
+    let at : slice_get (alias_file_of job.aliases).entries c.args.number ≡ Some c.in-Some.entry.now =
+    entry_got job c.args.grounds.now.workings.now.tables c.requires.made.tables c.aliases.result.now c.aliases.ensures.entries c.args.number c.get.result c.get.ensures.lookup ∙ ap entry_now c.in-Some.is in
+    line_of_entry job c.deref.result.now (c.deref.ensures.value ∙ c.args.grounds.now.aliases) c.args.number c.in-Some.entry.now at c.entries_on_lines.ensures.there
+
+pub returns-in-Some : goal.returns-in-Some
+returns-in-Some c =
+    let job = c.args.grounds.now.job.now in
+    let at : slice_get (alias_file_of job.aliases).entries c.args.number ≡ Some c.in-Some.entry.now =
+    entry_got job c.args.grounds.now.workings.now.tables c.requires.made.tables c.aliases.result.now c.aliases.ensures.entries c.args.number c.get.result c.get.ensures.lookup ∙ ap entry_now c.in-Some.is in
+    IfOk-weaker c.entry_places.result _ _
+    (λ row is. row_of_entry job c.deref.result.now (c.deref.ensures.value ∙ c.args.grounds.now.aliases) c.args.number c.in-Some.entry.now at c.entries_on_lines.ensures.ascending (map place_value row.items) is) c.entry_places.ensures
+
+pub returns-in-None : goal.returns-in-None
+returns-in-None c =
+    let job = c.args.grounds.now.job.now in
+    let at : slice_get (alias_file_of job.aliases).entries c.args.number ≡ None =
+    entry_got job c.args.grounds.now.workings.now.tables c.requires.made.tables c.aliases.result.now c.aliases.ensures.entries c.args.number c.get.result c.get.ensures.lookup ∙ ap entry_now c.in-None.is in
+    ap (map place_value) c.new.ensures.items ∙ sym (ap (entry_row_if (logical_lines_of job.aliases).lines) at)

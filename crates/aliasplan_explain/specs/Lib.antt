@@ -1,0 +1,9 @@
+pub mod Targets
+pub mod Rows
+pub mod Ways
+pub mod Decisions
+pub mod Unreached
+pub mod Explanations
+pub mod Grounds
+pub mod Endings
+pub mod Runs

@@ -1,0 +1,176 @@
+//! What decides where a node goes.
+ghost use Rattle.std.specs.Prelude.{◌≡◌, option_map, option_and_then, Some, Result, IfOk};
+ghost use Rattle.relay_routes.specs.declared.destination.Destination as destinations;
+ghost use Rattle.relay_routes.specs.declared.unrouted.Unrouted as reasons;
+ghost use Rattle.relay_routes.specs.Destinations.{looked_up_name};
+ghost use Rattle.relay_routes.specs.Routes.{Answers};
+ghost use Rattle.aliasplan_explain.specs.Decisions.{decision_by, decision_of, fate_at, ok_of, record_at, records_of, rule_for};
+ghost use Rattle.aliasplan_explain.specs.Grounds.{AreWorkingsOf};
+ghost use Rattle.aliasplan.specs.Delivery.{routing_of};
+
+use crate::grounds::Grounds;
+use relay_explain::{Decision, Fate, Record, Rule};
+use relay_job::Job;
+use relay_routes::{
+    Destination, ExchangerLine, Fate as Known, Unrouted, Via, deciding_line, exchanger_lines,
+};
+use relay_tables::Node;
+use relay_text::{Address, Seq, Text};
+use std::alloc::{AllocError, Global};
+
+fn copy_of_via(alloc: Global, via: &Via) -> Result<Via, AllocError>
+    ensures { IfOk result (λ copy. copy ≡ via.now) }
+{
+    let nexthop = match &via.nexthop {
+        Some(nexthop) => Some(Text::copy_of(alloc, nexthop.as_bytes())?),
+        None => None,
+    };
+    Ok(Via {
+        transport: via.transport,
+        nexthop,
+    })
+}
+
+// The line of the transport table that decides, or else the setting.
+fn rule_for(alloc: Global, job: &Job, address: &Address) -> Result<Rule, AllocError>
+    ensures { IfOk result (λ rule. rule ≡ rule_for job.now address.now) }
+{
+    let table = job.transport.as_bytes();
+    match deciding_line(alloc, table, address, job.settings.delimiter)? {
+        Some(line) => Ok(Rule::Line(line.line, line.pattern, line.result)),
+        None => Ok(Rule::DefaultTransport(job.settings.default_transport)),
+    }
+}
+
+fn fate_of(fate: Known) -> Fate
+    ensures { result ≡ fate_at fate }
+{
+    match fate {
+        Known::Host => Fate::Host,
+        Known::Repeated => Fate::Repeated,
+        Known::Own => Fate::Own,
+        Known::Discarded => Fate::Discarded,
+        Known::Null => Fate::Null,
+    }
+}
+
+fn record_of(line: ExchangerLine) -> Record
+    ensures { result ≡ record_at line }
+{
+    let ExchangerLine {
+        line,
+        preference,
+        host,
+        fate,
+    } = line;
+    Record {
+        line,
+        preference,
+        host,
+        fate: fate_of(fate),
+    }
+}
+
+// The relay's own names: its host name, its origin and its local domains.
+fn own_names(alloc: Global, job: &Job) -> Result<Vec<Text>, AllocError>
+    ensures { IfOk result (λ names. names.items ≡ (routing_of job.now).settings.own_names) }
+{
+    let settings = &job.settings;
+    let mut names = Vec::new(alloc);
+    names.push(Text::copy_of(alloc, settings.hostname.as_bytes())?)?;
+    names.push(Text::copy_of(alloc, settings.origin.as_bytes())?)?;
+    for name in settings.destinations.as_slice() {
+        names.push(Text::copy_of(alloc, name.as_bytes())?)?;
+    }
+    Ok(names)
+}
+
+// The records of a name, in the order of the table.
+fn records_of_name(alloc: Global, job: &Job, name: &[u8]) -> Result<Seq<Record>, AllocError>
+    ensures { IfOk result (λ records. records ≡ records_of job.now (Some name.now)) }
+{
+    let own_names = own_names(alloc, job)?;
+    let lines = exchanger_lines(alloc, job.mx.as_bytes(), name, &own_names)?;
+    let mut records = Vec::with_capacity(alloc, lines.len())?;
+    for line in lines {
+        records.push(record_of(line))?;
+    }
+    Ok(Seq::of(records))
+}
+
+// The records of the name whose exchangers are looked up, where they are.
+fn records_of(alloc: Global, job: &Job, lookup: Option<&Text>) -> Result<Seq<Record>, AllocError>
+    ensures { IfOk result (λ records. records ≡ records_of job.now (option_map (λ name. name.now) lookup.entry)) }
+{
+    match lookup {
+        Some(name) => records_of_name(alloc, job, name.as_bytes()),
+        None => Ok(Seq::of(Vec::new(alloc))),
+    }
+}
+
+// The destination where there is one. `Err` where memory ran out.
+fn destination_in(found: Result<Destination, Unrouted>) -> Result<Option<Destination>, AllocError>
+    ensures { (given : Result destinations.Destination reasons.Unrouted) → Answers found given → IfOk result (λ to. to ≡ ok_of given) }
+{
+    match found {
+        Ok(to) => Ok(Some(to)),
+        Err(Unrouted::Memory) => Err(AllocError),
+        Err(_) => Ok(None),
+    }
+}
+
+// The name whose exchangers are looked up on the way to a destination.
+fn lookup_of(alloc: Global, to: Option<&Destination>) -> Result<Option<Text>, AllocError>
+    ensures { IfOk result (λ name. name ≡ option_and_then looked_up_name (option_map (λ d. d.now) to.entry)) }
+{
+    match to {
+        Some(to) => to.looked_up_name(alloc),
+        None => Ok(None),
+    }
+}
+
+// What decides, where this is the rule and the destination.
+fn decision_by(
+    alloc: Global,
+    job: &Job,
+    rule: Rule,
+    to: Option<Destination>,
+) -> Result<Decision, AllocError>
+    ensures { IfOk result (λ decision. decision ≡ decision_by job.now rule to) }
+{
+    let lookup = lookup_of(alloc, to.as_ref())?;
+    let records = records_of(alloc, job, lookup.as_ref())?;
+    Ok(Decision {
+        rule,
+        to,
+        lookup,
+        records,
+    })
+}
+
+/// What decides where a node goes, where it is a mailbox or a remote address. `Err` where memory runs out.
+pub(crate) fn decision_of(
+    alloc: Global,
+    grounds: &Grounds<'_>,
+    node: &Node,
+) -> Result<Option<Decision>, AllocError>
+    requires made { AreWorkingsOf grounds.now.job.now grounds.now.workings.now }
+    ensures { IfOk result (λ decision. decision ≡ decision_of grounds.now.job.now node.now) }
+{
+    let job = grounds.job;
+    let router = &grounds.workings.router;
+    match node {
+        Node::Mailbox(address) => {
+            let via = &job.settings.mailbox_transport;
+            let rule = Rule::MailboxTransport(copy_of_via(alloc, via)?);
+            let to = destination_in(router.destination_via(alloc, via, address))?;
+            Ok(Some(decision_by(alloc, job, rule, to)?))
+        }
+        Node::Remote(address) => {
+            let rule = rule_for(alloc, job, address)?;
+            let to = destination_in(router.destination(alloc, address))?;
+            Ok(Some(decision_by(alloc, job, rule, to)?))
+        }
+        _ => Ok(None),
+    }
+}

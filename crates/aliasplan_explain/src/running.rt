@@ -1,0 +1,81 @@
+//! A run from a job's bytes to the text of an explanation.
+ghost use Rattle.std.specs.Prelude.{◌≡◌, ◌≢◌, ◌≤◌, false, true, length, Err, IfOk, IfErr, IfSome};
+ghost use Rattle.std.specs.Io.KnownBytes.{Keeps};
+ghost use Rattle.aliasplan.specs.Outcomes.{Refuses, RefusesBytes};
+ghost use Rattle.aliasplan_explain.specs.Explanations.{is_in_plan};
+ghost use Rattle.aliasplan_explain.specs.Runs.{Explains, IsExplained, WritesExplanationFront};
+
+use crate::explaining::explain;
+use aliasplan::{Crew, Feed, Gate, RunFault, Sink, parse_job, read_job, write_text};
+use relay_explain::{Asked, Explanation, Outcome, explanation_text};
+use relay_job::{each_recipient_has_line, recipient_lines};
+use relay_text::Text;
+use std::thread::Threads;
+
+// An explanation's text, and whether the address is in the plan.
+#[derive(Drop)]
+struct Explained {
+    text: Text,
+    in_plan: bool,
+}
+
+// Whether some answer says that a transaction has the address.
+fn is_in_plan(explanation: &Explanation) -> bool
+    ensures { result ≡ is_in_plan explanation.now }
+{
+    let answers = explanation.answers.as_slice();
+    answers.iter().any(|answer| matches!(answer.outcome, Some(Outcome::Transaction(_))))
+}
+
+// What is written for a job's bytes.
+fn answer_input<G: Gate, R: Threads + Sync>(
+    crew: &Crew<G, R>,
+    input: &[u8],
+    asked: &Asked,
+) -> Result<Explained, RunFault>
+    requires { length input.now ≤ crew.now.limits.bytes }
+    ensures explained { IfOk result (λ it. IsExplained crew.now.limits asked.now input.now it.text it.in_plan) }
+    ensures refused { IfErr result (RefusesBytes crew.now.limits input.now) }
+{
+    each_recipient_has_line();
+    let job = parse_job(crew.alloc, input)?;
+    let lines = recipient_lines(crew.alloc, input)?;
+    let explanation = explain(crew, &job, &lines, asked)?;
+    let text = explanation_text(crew.alloc, &explanation)?;
+    Ok(Explained {
+        text,
+        in_plan: is_in_plan(&explanation),
+    })
+}
+
+/// Reads a job, and writes why a name or an address is reached by its message, or isn't, and nothing else. All of the text is there before
+/// the first write. Returns whether a transaction of the job's plan has the address.
+///
+/// The faults are those of `run` of aliasplan. The form of the options is not regarded.
+pub fn run_explain<F: Feed, S: Sink, G: Gate, R: Threads + Sync>(
+    crew: &Crew<G, R>,
+    reader: &mut F,
+    writer: &mut S,
+    asked: &Asked,
+) -> Result<bool, RunFault>
+    requires reader { (F.has_failed reader.old ≡ false) × (F.has_ended reader.old ≡ false) }
+    requires writer { S.has_failed writer.old ≡ false }
+    // The bytes written are the text of the explanation by the job that the bytes read are.
+    ensures explains { IfOk result (λ in_plan. IfSome (F.remaining reader.old) (λ input. Explains crew.now.limits asked.now input (S.contents writer.old) (S.contents writer.new) in_plan)) }
+    ensures refuses { IfErr result (λ fault. IfSome (F.remaining reader.old) (λ input. Refuses crew.now.limits input fault)) }
+    // Read exactly where the reader failed, and Write exactly where the writer did.
+    ensures read { (result ≡ Err RunFault.Read → F.has_failed reader.new ≡ true) × (result ≢ Err RunFault.Read → F.has_failed reader.new ≡ false) }
+    ensures write { (result ≡ Err RunFault.Write → S.has_failed writer.new ≡ true) × (result ≢ Err RunFault.Write → S.has_failed writer.new ≡ false) }
+    // A failed write leaves a front of the text; every other refusal writes nothing.
+    ensures front { result ≡ Err RunFault.Write → IfSome (F.remaining reader.old) (λ input. WritesExplanationFront crew.now.limits asked.now input (S.contents writer.old) (S.contents writer.new)) }
+    ensures nothing { IfErr result (λ fault. fault ≢ RunFault.Write → Keeps (S.contents writer.old) (S.contents writer.new)) }
+    // But for Read, TooLong and Memory, the reader has ended.
+    ensures ended { (result ≢ Err RunFault.Read) → (result ≢ Err RunFault.TooLong) → (result ≢ Err RunFault.Memory) → F.has_ended reader.new ≡ true }
+{
+    let input = read_job(crew.alloc, reader, crew.limits.bytes)?;
+    let Explained { text, in_plan } = answer_input(crew, input.as_bytes(), asked)?;
+    match write_text(writer, text.as_bytes()) {
+        Ok(()) => Ok(in_plan),
+        Err(_) => Err(RunFault::Write),
+    }
+}

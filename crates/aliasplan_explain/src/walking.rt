@@ -1,0 +1,151 @@
+//! The steps of trails, and who gives the sender on the way.
+use relay_explain::{GivenBy, Step};
+
+/// The steps of a trail, and who gave the sender after them.
+#[derive(Drop)]
+pub(crate) struct Way {
+    pub(crate) steps: Vec<Step>,
+    pub(crate) given_by: GivenBy,
+}
+
+ghost use Rattle.std.specs.Prelude.{◌≡◌, ◌<◌, ◌++◌, Some, ℕ, List, length, slice_get, IsSome, IfOk};
+ghost use Rattle.relay_tables.specs.declared.node.Node as nodes;
+ghost use Rattle.relay_tables.specs.Graphs.{child_numbers};
+ghost use Rattle.relay_tables.specs.Targets.{recipient_target};
+ghost use Rattle.relay_text.specs.AddressParts.{AddressParts};
+ghost use Rattle.relay_trails.specs.Trails.{pair_along, trail_of};
+ghost use Rattle.relay_trails.specs.Chains.{leads_to};
+ghost use Rattle.aliasplan.specs.Delivery.{directory_of};
+ghost use Rattle.relay_explain.specs.declared.step.Mention.TheVariants as mentions;
+ghost use Rattle.relay_explain.specs.declared.step.Step as walked;
+ghost use Rattle.aliasplan_explain.specs.Grounds.{AreWorkingsOf};
+ghost use Rattle.aliasplan_explain.specs.Targets.{target_at};
+ghost use Rattle.aliasplan_explain.specs.Ways.{AreStepsFrom, AreStepsOf, IsStepTo, given_at, given_past};
+
+use crate::grounds::Grounds;
+use crate::rows::listed_at;
+use crate::targets::target_of;
+use relay_aliasfile::{entries_on_lines, places_of_items};
+use relay_explain::Mention;
+use relay_tables::Node;
+use relay_text::Text;
+use relay_trails::{Found, trails_by_numbers};
+use std::alloc::{AllocError, Global};
+
+// The owner alias that gives the sender of what a node leads to, by its number: none where the envelope does.
+fn owner_past(grounds: &Grounds<'_>, node: &Node, owner: Option<u32>) -> Option<u32>
+    requires made { AreWorkingsOf grounds.now.job.now grounds.now.workings.now }
+    requires node { IsSome (target_at (directory_of grounds.now.job.now) node.now) }
+    ensures { given_at grounds.now.job.now result ≡ given_past grounds.now.job.now (given_at grounds.now.job.now owner) node.now }
+{
+    match node {
+        Node::Alias(number) => match grounds.workings.tables.owner_of(*number) {
+            Some(other) => Some(other),
+            None => owner,
+        },
+        _ => owner,
+    }
+}
+
+// Who gives the sender.
+fn given_by(alloc: Global, grounds: &Grounds<'_>, owner: Option<u32>) -> Result<GivenBy, AllocError>
+    requires made { AreWorkingsOf grounds.now.job.now grounds.now.workings.now }
+    ensures { IfOk result (λ given. given ≡ given_at grounds.now.job.now owner) }
+{
+    let Some(number) = owner else {
+        return Ok(GivenBy::Envelope);
+    };
+    match grounds.workings.tables.aliases().get(number as usize) {
+        Some(entry) => {
+            let name = Text::copy_of(alloc, entry.name.as_bytes())?;
+            Ok(GivenBy::Alias(name, entry.line))
+        }
+        None => Ok(GivenBy::Envelope),
+    }
+}
+
+// The step to a recipient's target.
+fn first_step(
+    alloc: Global,
+    grounds: &Grounds<'_>,
+    recipient: usize,
+    root: u32,
+) -> Result<Step, AllocError>
+    requires made { AreWorkingsOf grounds.now.job.now grounds.now.workings.now }
+    requires recipient { recipient < length grounds.now.job.now.recipients }
+    requires root { slice_get grounds.now.workings.now.graph.roots recipient ≡ Some root }
+    ensures mention { IfOk result (λ step. (line : ℕ) (address : AddressParts) → slice_get grounds.now.recipient_lines.now recipient ≡ Some line → slice_get grounds.now.job.now.recipients recipient ≡ Some address → step.mention ≡ mentions.Recipient line address) }
+    ensures target { IfOk result (λ step. (address : AddressParts) → slice_get grounds.now.job.now.recipients recipient ≡ Some address → target_at (directory_of grounds.now.job.now) (recipient_target (directory_of grounds.now.job.now) address) ≡ Some step.target) }
+{
+    let line = grounds.recipient_lines[recipient];
+    let address = grounds.job.recipients.as_slice()[recipient].copy(alloc)?;
+    let node = grounds.workings.graph.node(root);
+    Ok(Step {
+        mention: Mention::Recipient(line, address),
+        target: target_of(alloc, &grounds.workings.tables, node)?,
+    })
+}
+
+// The step from a node to the target of an item, which has this number.
+fn next_step(
+    alloc: Global,
+    grounds: &Grounds<'_>,
+    from: u32,
+    item: usize,
+    to: u32,
+) -> Result<Step, AllocError>
+    requires made { AreWorkingsOf grounds.now.job.now grounds.now.workings.now }
+    requires from { from < length grounds.now.workings.now.graph.nodes }
+    requires to { slice_get (child_numbers grounds.now.workings.now.graph from) item ≡ Some to }
+    ensures { IfOk result (λ step. (a b : nodes.Node) → slice_get grounds.now.workings.now.graph.nodes from ≡ Some a → slice_get grounds.now.workings.now.graph.nodes to ≡ Some b → IsStepTo grounds.now.job.now a item b step) }
+{
+    entries_on_lines();
+    places_of_items();
+    let graph = &grounds.workings.graph;
+    let Some(listed) = listed_at(alloc, grounds, graph.node(from), item)? else {
+        unreachable!()
+    };
+    Ok(Step {
+        mention: Mention::Item(listed),
+        target: target_of(alloc, &grounds.workings.tables, graph.node(to))?,
+    })
+}
+
+// Adds the steps from a root by items, and says who gave the sender after them.
+fn add_steps(
+    alloc: Global,
+    grounds: &Grounds<'_>,
+    root: u32,
+    items: &[usize],
+    steps: &mut Vec<Step>,
+) -> Result<GivenBy, AllocError>
+    requires made { AreWorkingsOf grounds.now.job.now grounds.now.workings.now }
+    requires root { root < length grounds.now.workings.now.graph.nodes }
+    requires items { IsSome (pair_along grounds.now.workings.now.graph (Some (record { sender = 0; node = root })) items.now) }
+    ensures { IfOk result (λ after. (from : nodes.Node) → slice_get grounds.now.workings.now.graph.nodes root ≡ Some from → (more : List walked.Step) × (steps.new.items ≡ steps.old.items ++ more) × AreStepsFrom grounds.now.job.now from GivenBy.Envelope items.now more after) }
+{
+    let graph = &grounds.workings.graph;
+    let mut at = root;
+    let mut owner = None;
+    for item in items {
+        let to = graph.children(at)[*item];
+        steps.push(next_step(alloc, grounds, at, *item, to)?)?;
+        owner = owner_past(grounds, graph.node(at), owner);
+        at = to;
+    }
+    given_by(alloc, grounds, owner)
+}
+
+/// The steps of a trail that was found, and who gave the sender after them.
+pub(crate) fn way_of(alloc: Global, grounds: &Grounds<'_>, found: &Found) -> Result<Way, AllocError>
+    requires made { AreWorkingsOf grounds.now.job.now grounds.now.workings.now }
+    requires leads { IsSome (leads_to (directory_of grounds.now.job.now) grounds.now.job.now.sender grounds.now.job.now.recipients (trail_of found.now)) }
+    ensures { IfOk result (λ way. AreStepsOf grounds.now.job.now grounds.now.recipient_lines.now (trail_of found.now) way.steps.items way.given_by) }
+{
+    trails_by_numbers();
+    let root = grounds.workings.graph.roots()[found.recipient];
+    let mut steps = Vec::new(alloc);
+    steps.push(first_step(alloc, grounds, found.recipient, root)?)?;
+    let given_by = add_steps(alloc, grounds, root, &found.items, &mut steps)?;
+    Ok(Way { steps, given_by })
+}
