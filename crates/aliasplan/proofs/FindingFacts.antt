@@ -18,7 +18,7 @@ use Rattle.relay_wire.specs.declared.finding.Finding.{Finding}
 use Rattle.relay_wire.specs.declared.finding.Finding.TheVariants as findings
 use Rattle.relay_wire.specs.Findings.{finding_text_of}
 use Rattle.relay_job.specs.declared.job.Job.{Job}
-use Rattle.aliasplan.specs.Delivery.{directory_of, IsReachedNode, IsOnLoop, IsJobGraph}
+use Rattle.aliasplan.specs.Delivery.{directory_of, IsReachedNode, IsOnLoop, IsJobPart}
 use Rattle.aliasplan.specs.Reaching.{AreReachedNodes}
 use Rattle.aliasplan.specs.Report.{entries, part_of, IsReachedEntry, IsReachedInclude, HasTarget, IsFinding, IsLineOf}
 use Rattle.aliasplan.specs.Listing.{place_of, empty_finding, loop_finding, target_finding}
@@ -31,7 +31,7 @@ map_nil : {X Y : Type 0} (f : X → Y) (xs : List X) → map f xs ≡ [] → xs 
 map_nil f [] e = refl
 map_nil f (x ∷ xs) e = absurd (let none : ⊥ = cc in none)
 
-module _ (job : Job) (g : GraphParts) (nodes loops : List ℕ) (is : IsJobGraph job g) (all : AreReachedNodes job g nodes) (looped : AreLoopsOf g nodes loops) where
+module _ (job : Job) (g : GraphParts) (nodes loops : List ℕ) (is : IsJobPart job g) (all : AreReachedNodes job g nodes) (looped : AreLoopsOf g nodes loops) where
   abbrev d : Directory
   d = directory_of job
 

@@ -10,7 +10,7 @@ use Rattle.relay_tables.specs.Directory.{Directory}
 use Rattle.relay_tables.specs.GraphParts.{GraphParts}
 use Rattle.relay_tables.specs.Targets.{targets_of, recipient_target}
 use Rattle.relay_tables.specs.Senders.{Sender}
-use Rattle.relay_tables.specs.Graphs.{child_numbers, nodes_at, IsGraphOf}
+use Rattle.relay_tables.specs.Graphs.{child_numbers, nodes_at, IsGraphFrom}
 use Rattle.aliasplan.specs.Entries.{LeadsWithin}
 use Rattle.aliasplan.proofs.Members.{Contains-map, Contains-from_map}
 
@@ -34,7 +34,7 @@ one_place xs i j x apart here there =
           ]
     ]
 
-module _ (d : Directory) (sender : Sender) (recipients : List AddressParts) (g : GraphParts) (is : IsGraphOf d sender recipients g) where
+module _ (d : Directory) (sender : Sender) (recipients : List AddressParts) (g : GraphParts) (is : IsGraphFrom d sender recipients g) where
   -- where numbers lead to targets, each target has its number, and each number its target
   module _ (X : Type 0) (target : X → Node) (numbers : List ℕ) (xs : List X) (e : nodes_at g numbers ≡ map (λ x. Some (target x)) xs) where
     number_at : (x : X) → Contains xs x → (c : ℕ) × Contains numbers c × (slice_get g.nodes c ≡ Some (target x))

@@ -9,7 +9,7 @@ use Rattle.relay_pairs.specs.Pairs.{ArePairs, AreNodesOf}
 use Rattle.relay_pairs.specs.Chains.{HasNumbers}
 use Rattle.relay_pairs.proofs.Numbered.{has_pair, leads}
 use Rattle.relay_job.specs.declared.job.Job.{Job}
-use Rattle.aliasplan.specs.Delivery.{directory_of, IsReachedPair, IsJobGraph}
+use Rattle.aliasplan.specs.Delivery.{directory_of, IsReachedPair, IsJobPart}
 use Rattle.aliasplan.specs.Reaching.{AreReachedPairs, AreReachedNodes}
 
 module _ (job : Job) (g : GraphParts) (numbers : (pair : Pair) → IsReachedPair job pair ↔ ((n : Reached) × HasNumbers g pair n)) (pairs : List Reached) (all : ArePairs g pairs) where
@@ -25,7 +25,7 @@ module _ (job : Job) (g : GraphParts) (numbers : (pair : Pair) → IsReachedPair
             (h.0, (all.members h.0).1 h.1.reached, h.1.sender, h.1.node);
       }
 
-  pub nodes_reached : IsJobGraph job g → (nodes : List ℕ) → AreNodesOf pairs nodes → All (λ n. n < length g.nodes) nodes → AreReachedNodes job g nodes
+  pub nodes_reached : IsJobPart job g → (nodes : List ℕ) → AreNodesOf pairs nodes → All (λ n. n < length g.nodes) nodes → AreReachedNodes job g nodes
   nodes_reached is nodes are in_graph =
       record {
         in_graph = in_graph;

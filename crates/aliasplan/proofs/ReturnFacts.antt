@@ -25,7 +25,7 @@ use Rattle.relay_wire.specs.Findings.{finding_text_of}
 use Rattle.relay_returns.specs.declared.block.Return.{Return}
 use Rattle.relay_returns.specs.Returns.{return_cmp, return_text_of}
 use Rattle.relay_job.specs.declared.job.Job.{Job}
-use Rattle.aliasplan.specs.Delivery.{directory_of, IsJobGraph}
+use Rattle.aliasplan.specs.Delivery.{directory_of, IsJobPart}
 use Rattle.aliasplan.specs.Listing.{target_finding}
 use Rattle.aliasplan.specs.Reaching.{AreReachedNodes}
 use Rattle.aliasplan.specs.Returns.{AreReturnsOf, HasAtMostReturnPairs, HasMoreReturnPairs, IsReturnLine, IsReturned, IsReturnedFrom, IsReturnedItself}
@@ -44,7 +44,7 @@ one_place xs i j x apart here there =
       | inr low ↦ elim (cases_lt j i) [ inl after ↦ absurd (apart j i x after (slice_get_within xs i x here) (sym same)) | inr high ↦ omega arith ]
     ]
 
-module _ (job : Job) (g : GraphParts) (is : IsJobGraph job g) where
+module _ (job : Job) (g : GraphParts) (is : IsJobPart job g) where
   abbrev d : Directory
   d = directory_of job
 

@@ -22,7 +22,7 @@ use Rattle.relay_wire.specs.declared.finding.Finding.{Finding}
 use Rattle.relay_wire.specs.declared.finding.Finding.TheVariants as findings
 use Rattle.relay_wire.specs.Findings.{finding_text_of}
 use Rattle.relay_job.specs.declared.job.Job.{Job}
-use Rattle.aliasplan.specs.Delivery.{directory_of, routing_of, final_address, final_route, IsJobGraph}
+use Rattle.aliasplan.specs.Delivery.{directory_of, routing_of, final_address, final_route, IsJobPart}
 use Rattle.aliasplan.specs.Report.{reason_of}
 use Rattle.aliasplan.specs.Listing.{place_of, target_finding}
 use Rattle.aliasplan.specs.Entries.{IsLineIn, HaveLine, IsTargetLine, IsListLine, IsListLineIn, IsNodeLine}
@@ -77,7 +77,7 @@ module _ (job : Job) where
   unrouted_line (Command text) a cause reason is routed because = absurd (let no : ⊥ = cc in no)
   unrouted_line (File path) a cause reason is routed because = absurd (let no : ⊥ = cc in no)
 
-  module _ (g : GraphParts) (is : IsJobGraph job g) (n : ℕ) (node : Node) (here : slice_get g.nodes n ≡ Some node) where
+  module _ (g : GraphParts) (is : IsJobPart job g) (n : ℕ) (node : Node) (here : slice_get g.nodes n ≡ Some node) where
     abbrev d : Directory
     d = directory_of job
 

@@ -10,7 +10,7 @@ use Rattle.relay_tables.specs.declared.include_entry.IncludeEntry.{IncludeEntry}
 use Rattle.relay_tables.specs.declared.local.Local.{Local}
 use Rattle.relay_tables.specs.Directory.{Directory}
 use Rattle.relay_tables.specs.GraphParts.{GraphParts}
-use Rattle.relay_tables.specs.Graphs.{IsGraphOf}
+use Rattle.relay_tables.specs.Graphs.{IsGraphOf, IsGraphFrom}
 use Rattle.relay_tables.specs.Targets.{targets_of}
 use Rattle.relay_tables.specs.Senders.{Sender, Pair}
 use Rattle.relay_rounds.specs.Walks.{IsOnCycle}
@@ -108,3 +108,7 @@ module _ (job : Job) where
   -- a graph of the job's tables and envelope
   abbrev pub IsJobGraph : GraphParts → Type 0
   IsJobGraph g = IsGraphOf directory_of job.sender job.recipients g
+
+  -- a graph on which all stands that the job's recipients lead to
+  abbrev pub IsJobPart : GraphParts → Type 0
+  IsJobPart g = IsGraphFrom directory_of job.sender job.recipients g

@@ -12,5 +12,6 @@ pub mod Entries
 pub mod Collecting
 pub mod Routes
 pub mod Checks
+pub mod Planners
 pub mod Returns
 pub mod ReturnLines

@@ -1,5 +1,5 @@
 -- What the calls answer, and why they refuse.
-use Rattle.std.specs.Prelude.{◌≡◌, ℕ, ◌<◌, ◌≤◌, List, length, take, Option, Ok, Err, ⊤}
+use Rattle.std.specs.Prelude.{◌≡◌, ℕ, ◌<◌, ◌≤◌, List, [], length, take, Option, Ok, Err, ⊤}
 use Rattle.std.specs.Io.KnownBytes.{Appends}
 use Rattle.relay_tables.specs.Graphs.{nodes_of, owner_count}
 use Rattle.relay_wire.specs.declared.plan.Plan.{Plan}
@@ -53,6 +53,24 @@ IsRefused limits job (BadJob line) = ⊥
 IsRefused limits job (BadSetting line) = ⊥
 IsRefused limits job (BadEnvelope line) = ⊥
 IsRefused limits job Write = ⊥
+
+-- tables that are within the limits, whatever the envelope
+pub record AreTablesFew (limits : Limits) (tables : Job) : Type 0 where
+  pub names : length (nodes_of (directory_of tables) []) ≤ limits.names
+  pub owners : owned_count tables ≤ limits.owners
+
+-- Why no envelope is planned with these tables: they alone have too many names, else too many owners. Memory may run out at any moment.
+abbrev pub HasRefusedTables : Limits → Job → RunFault → Type 0
+HasRefusedTables limits tables TooManyNames = limits.names < length (nodes_of (directory_of tables) [])
+HasRefusedTables limits tables TooManyOwners = (length (nodes_of (directory_of tables) []) ≤ limits.names) × (limits.owners < owned_count tables)
+HasRefusedTables limits tables Memory = ⊤
+HasRefusedTables limits tables TooManyPairs = ⊥
+HasRefusedTables limits tables Read = ⊥
+HasRefusedTables limits tables TooLong = ⊥
+HasRefusedTables limits tables (BadJob line) = ⊥
+HasRefusedTables limits tables (BadSetting line) = ⊥
+HasRefusedTables limits tables (BadEnvelope line) = ⊥
+HasRefusedTables limits tables Write = ⊥
 
 abbrev pub summary_of : Plan → Summary
 summary_of p = record { transactions = length p.transactions; recipients = recipient_count p; findings = length p.findings }

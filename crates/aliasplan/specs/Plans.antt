@@ -7,7 +7,7 @@ use Rattle.relay_delivery.specs.Groups as groups
 use Rattle.relay_job.specs.declared.job.Job.{Job}
 use Rattle.relay_job.specs.Settings.{limit_of}
 use Rattle.aliasplan.specs.Delivery.{IsPlaced}
-use Rattle.aliasplan.specs.Report.{IsFindingLine}
+use Rattle.aliasplan.specs.Report.{IsFindingLine, IsOwnFindingLine}
 
 module _ (job : Job) where
   -- The transactions of what is placed: its groups by sender, transport and nexthop, each cut into consecutive batches within its
@@ -29,3 +29,17 @@ module _ (job : Job) where
     pub transactions : AreTransactionsOf plan.transactions
     pub findings_ascending : IsAscendingBy text_cmp plan.findings
     pub findings : (line : List ℕ) → Contains plan.findings line ↔ IsFindingLine job line
+
+  -- The plan with the findings of what is reached alone, without the lines of files and tables that are at fault.
+  pub record IsOwnPlanOf (plan : Plan) : Type 0 where
+    pub hostname : plan.hostname ≡ job.settings.hostname
+    pub transactions : AreTransactionsOf plan.transactions
+    pub findings_ascending : IsAscendingBy text_cmp plan.findings
+    pub findings : (line : List ℕ) → Contains plan.findings line ↔ IsOwnFindingLine job line
+
+  -- A plan whose findings are the lines of which `IsLine` holds.
+  pub record IsPlanWith (IsLine : List ℕ → Type 0) (plan : Plan) : Type 0 where
+    pub hostname : plan.hostname ≡ job.settings.hostname
+    pub transactions : AreTransactionsOf plan.transactions
+    pub findings_ascending : IsAscendingBy text_cmp plan.findings
+    pub findings : (line : List ℕ) → Contains plan.findings line ↔ IsLine line

@@ -1,5 +1,5 @@
 -- What a plan reports of a job: each finding by its condition.
-use Rattle.std.specs.Prelude.{◌≡◌, ℕ, List, [], map, Contains, slice_get, Option, Some, None}
+use Rattle.std.specs.Prelude.{◌≡◌, ◌⊎◌, ℕ, List, [], map, Contains, slice_get, Option, Some, None}
 use Rattle.relay_aliasfile.specs.AliasFiles.{alias_file_of}
 use Rattle.relay_aliasfile.specs.IncludeFiles.{include_file_of}
 use Rattle.relay_aliasfile.specs.MailboxFiles.{mailbox_file_of}
@@ -122,3 +122,7 @@ module _ (job : Job) where
   -- the line of some finding of a part of the report
   abbrev pub IsLineOf : Part → List ℕ → Type 0
   IsLineOf part line = (finding : Finding) × (part_of finding ≡ part) × IsFinding finding × (line ≡ finding_text_of finding)
+
+  -- the line of some finding of what is reached, and not of the text of files and tables
+  abbrev pub IsOwnFindingLine : List ℕ → Type 0
+  IsOwnFindingLine line = IsLineOf entries line ⊎ IsLineOf routes line

@@ -4,36 +4,22 @@ ghost use Rattle.relay_routes.specs.declared.transport.Transport as names;
 ghost use Rattle.relay_job.specs.Settings.{limit_of};
 ghost use Rattle.relay_delivery.specs.Groups.{limit_at};
 ghost use Rattle.relay_delivery.specs.Placings.{senders_of};
-ghost use Rattle.aliasplan.specs.Delivery.{routing_of, IsJobGraph};
+ghost use Rattle.aliasplan.specs.Delivery.{routing_of, IsJobPart};
 ghost use Rattle.aliasplan.specs.Findings.{Reports};
 ghost use Rattle.aliasplan.specs.Plans.{AreTransactionsOf, IsFewest, IsSoundFor};
 ghost use Rattle.aliasplan.specs.Reaching.{AreReachedPairs};
 ghost use Rattle.aliasplan.specs.Report.{routes, IsLineOf};
 
 use crate::gathering::{Gathering, gather_pairs};
-use relay_chains::hash_text;
+use crate::sources::Sources;
 use relay_delivery::{BatchLimits, transactions};
 use relay_destinations::Destinations;
 use relay_job::{Job, Settings};
 use relay_pairs::Reached;
-use relay_routes::Router;
 use relay_tables::Graph;
 use relay_text::Address;
 use relay_wire::{FindingLines, Planned};
 use std::alloc::{AllocError, Global};
-
-// An odd number whose bits look drawn at random: the first 64 bits of the root of 5.
-const MULTIPLIER: u64 = 0x3c6e_f372_fe94_f82b;
-
-/// A key for the hashes of domains and nexthops, in which all files and tables of a job have a part. Who writes some of them doesn't
-/// know which names have one hash under it.
-pub(crate) fn key_of(job: &Job) -> u64 {
-    let mut key = job.settings.seed;
-    for table in [&job.aliases, &job.mailboxes, &job.transport, &job.mx] {
-        key = key.wrapping_mul(MULTIPLIER) ^ u64::from(hash_text(key, table.as_bytes()));
-    }
-    key
-}
 
 /// How many recipients a transaction of each transport takes.
 fn limits_of(settings: &Settings) -> BatchLimits
@@ -64,13 +50,13 @@ fn senders_of<'a>(alloc: Global, graph: &'a Graph) -> Result<Vec<Option<&'a Addr
 pub fn plan_addresses(
     alloc: Global,
     job: &Job,
-    router: &Router,
+    sources: &Sources,
     graph: &Graph,
     pairs: &[Reached],
     lines: &mut FindingLines,
 ) -> Result<Vec<Planned>, AllocError>
-    requires router { router.now ≡ routing_of job.now }
-    requires graph { IsJobGraph job.now graph.now }
+    requires router { sources.now.router ≡ routing_of job.now }
+    requires graph { IsJobPart job.now graph.now }
     requires pairs { AreReachedPairs job.now graph.now pairs.now }
     requires few { length pairs.now ≤ 16777216 }
     requires limits { (t : names.Transport) → 0 < limit_of job.now.settings t }
@@ -80,7 +66,7 @@ pub fn plan_addresses(
     ensures lines { OnOk result (Reports lines.old lines.new (IsLineOf job.now routes)) }
 {
     let via = &job.settings.mailbox_transport;
-    let destinations = Destinations::new(alloc, router, via, key_of(job))?;
+    let destinations = Destinations::new(alloc, &sources.router, via, sources.key)?;
     let gathering = gather_pairs(alloc, job, graph, destinations, pairs, lines)?;
     let Gathering {
         destinations,

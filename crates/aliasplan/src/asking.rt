@@ -2,7 +2,7 @@
 ghost use Rattle.std.specs.Prelude.{◌≡◌, ◌<◌, [], Some, Err, length, All, IfOk, IfErr, OnOk};
 ghost use Rattle.relay_job.specs.JobAnswers.{IsJobWithin};
 ghost use Rattle.relay_pairs.specs.Pairs.{ArePairs};
-ghost use Rattle.aliasplan.specs.Delivery.{directory_of, routing_of, IsJobGraph};
+ghost use Rattle.aliasplan.specs.Delivery.{directory_of, routing_of, IsJobPart};
 ghost use Rattle.aliasplan.specs.Domains.{domain_of_found, AreAskedDomains, AsksFor};
 ghost use Rattle.aliasplan.specs.Entries.{HaveLine};
 ghost use Rattle.aliasplan.specs.Findings.{Reports};
@@ -100,7 +100,7 @@ fn domains_of_pairs(
     pairs: &[Reached],
 ) -> Result<Seq<Text>, AllocError>
     requires router { router.now ≡ routing_of job.now }
-    requires graph { IsJobGraph job.now graph.now }
+    requires graph { IsJobPart job.now graph.now }
     requires pairs { ArePairs graph.now pairs.now }
     ensures { IfOk result (AreAskedDomains job.now) }
 {

@@ -2,7 +2,7 @@
 ghost use Rattle.std.specs.Prelude.{◌≡◌, ◌<◌, None, length, All, IsTrue, OnOk};
 ghost use Rattle.relay_tables.specs.Graphs.{child_numbers};
 ghost use Rattle.relay_loops.specs.Loops.{AreLoopsOf};
-ghost use Rattle.aliasplan.specs.Delivery.{directory_of, IsJobGraph};
+ghost use Rattle.aliasplan.specs.Delivery.{directory_of, IsJobPart};
 ghost use Rattle.aliasplan.specs.Reaching.{AreReachedNodes};
 ghost use Rattle.aliasplan.specs.Report.{IsLineOf};
 ghost use Rattle.aliasplan.specs.Report.{entries};
@@ -180,7 +180,7 @@ pub fn report_entries(
     lines: &mut FindingLines,
 ) -> Result<(), AllocError>
     requires tables { tables.now ≡ directory_of job.now }
-    requires graph { IsJobGraph job.now graph.now }
+    requires graph { IsJobPart job.now graph.now }
     requires nodes { AreReachedNodes job.now graph.now reach.now.nodes.now }
     requires loops { AreLoopsOf graph.now reach.now.nodes.now reach.now.loops.now }
     ensures { OnOk result (Reports lines.old lines.new (IsLineOf job.now entries)) }

@@ -6,10 +6,10 @@ ghost use Rattle.relay_job.specs.Settings.{limit_of};
 ghost use Rattle.relay_job.specs.JobAnswers.{IsJobWithin};
 ghost use Rattle.relay_loops.specs.Loops.{AreLoopsOf, IsClosedPart};
 ghost use Rattle.relay_pairs.specs.Pairs.{ArePairs};
-ghost use Rattle.aliasplan.specs.Delivery.{directory_of, routing_of, HasAtMostPairs, IsJobGraph};
+ghost use Rattle.aliasplan.specs.Delivery.{directory_of, routing_of, HasAtMostPairs, IsJobGraph, IsJobPart};
 ghost use Rattle.aliasplan.specs.Outcomes.{name_count, owned_count, AreOptions, AreLimits, IsWithin, IsRefused};
-ghost use Rattle.aliasplan.specs.Plans.{AreTransactionsOf, IsFewest, IsPlanOf, IsSoundFor};
-ghost use Rattle.aliasplan.specs.Report.{entries, IsFindingLine, IsLineOf};
+ghost use Rattle.aliasplan.specs.Plans.{AreTransactionsOf, IsFewest, IsPlanOf, IsPlanWith, IsSoundFor};
+ghost use Rattle.aliasplan.specs.Report.{entries, IsLineOf, IsOwnFindingLine};
 ghost use Rattle.aliasplan.specs.Texts.{has_fault_line};
 ghost use Rattle.aliasplan.specs.Reaching.{AreReachedPairs, AreReachedNodes};
 
@@ -40,6 +40,7 @@ pub(crate) fn graph_of(
     requires tables { tables.now ≡ directory_of job.now }
     requires limits { AreLimits limits }
     ensures graph { IfOk result (IsJobGraph job.now) }
+    ensures part { IfOk result (IsJobPart job.now) }
     ensures names { OnOk result (name_count job.now ≤ limits.names) }
     ensures owners { OnOk result (owned_count job.now ≤ limits.owners) }
     ensures refused { IfErr result (IsRefused limits job.now) }
@@ -66,7 +67,7 @@ pub(crate) fn pairs_of<G: Gate, R: Threads + Sync>(
     job: &Job,
     graph: &Graph,
 ) -> Result<Vec<Reached>, RunFault>
-    requires graph { IsJobGraph job.now graph.now }
+    requires graph { IsJobPart job.now graph.now }
     requires names { name_count job.now ≤ crew.now.limits.names }
     requires owners { owned_count job.now ≤ crew.now.limits.owners }
     ensures pairs { IfOk result (λ pairs. ArePairs graph.now pairs.items) }
@@ -100,7 +101,7 @@ pub(crate) fn nodes_of(
     graph: &Graph,
     pairs: &[Reached],
 ) -> Result<Vec<u32>, AllocError>
-    requires graph { IsJobGraph job.now graph.now }
+    requires graph { IsJobPart job.now graph.now }
     requires pairs { ArePairs graph.now pairs.now }
     ensures reached { IfOk result (λ nodes. AreReachedNodes job.now graph.now nodes.items) }
     ensures part { IfOk result (λ nodes. IsClosedPart graph.now nodes.items) }
@@ -120,7 +121,7 @@ fn report_reached<G: Gate, R: Threads + Sync>(
     lines: &mut FindingLines,
 ) -> Result<(), AllocError>
     requires tables { tables.now ≡ directory_of job.now }
-    requires graph { IsJobGraph job.now graph.now }
+    requires graph { IsJobPart job.now graph.now }
     requires pairs { ArePairs graph.now pairs.now }
     ensures { OnOk result ((q : List ℕ) → IsTrue (has_text lines.new q) ↔ (IsTrue (has_text lines.old q) ⊎ IsLineOf job.now entries q)) }
 {
@@ -152,8 +153,7 @@ fn plan_of(
     requires transactions { AreTransactionsOf job.now transactions.items }
     requires sound { IsSoundFor job.now transactions.items }
     requires fewest { IsFewest job.now transactions.items }
-    requires lines { (q : List ℕ) → IsTrue (has_text lines q) ↔ IsFindingLine job.now q }
-    ensures plan { IfOk result (IsPlanOf job.now) }
+    ensures plan { IfOk result (IsPlanWith job.now (λ q. IsTrue (has_text lines q))) }
     ensures sound { IfOk result (λ plan. IsSoundFor job.now plan.transactions) }
     ensures fewest { IfOk result (λ plan. IsFewest job.now plan.transactions) }
 {
@@ -165,7 +165,7 @@ fn plan_of(
     })
 }
 
-/// The plan of a job that reaches these pairs. The lines of its files and tables that are at fault are given.
+/// The plan of a job that reaches these pairs, with the lines that are given and those of what is reached.
 pub(crate) fn plan_reached<G: Gate, R: Threads + Sync>(
     crew: &Crew<G, R>,
     job: &Job,
@@ -177,19 +177,17 @@ pub(crate) fn plan_reached<G: Gate, R: Threads + Sync>(
     requires batches { (t : names.Transport) → 0 < limit_of job.now.settings t }
     requires tables { sources.now.tables ≡ directory_of job.now }
     requires router { sources.now.router ≡ routing_of job.now }
-    requires graph { IsJobGraph job.now graph.now }
+    requires graph { IsJobPart job.now graph.now }
     requires pairs { ArePairs graph.now pairs.now }
     requires reached { AreReachedPairs job.now graph.now pairs.now }
     requires few { length pairs.now ≤ 16777216 }
-    requires lines { (q : List ℕ) → has_text lines q ≡ has_fault_line job.now q }
-    ensures plan { IfOk result (IsPlanOf job.now) }
+    ensures plan { IfOk result (IsPlanWith job.now (λ q. IsTrue (has_text lines q) ⊎ IsOwnFindingLine job.now q)) }
     ensures sound { IfOk result (λ plan. IsSoundFor job.now plan.transactions) }
     ensures fewest { IfOk result (λ plan. IsFewest job.now plan.transactions) }
 {
     let mut lines = lines;
     report_reached(crew, job, &sources.tables, graph, pairs, &mut lines)?;
-    let router = &sources.router;
-    let transactions = plan_addresses(crew.alloc, job, router, graph, pairs, &mut lines)?;
+    let transactions = plan_addresses(crew.alloc, job, sources, graph, pairs, &mut lines)?;
     plan_of(crew.alloc, job, transactions, lines)
 }
 

@@ -5,7 +5,7 @@ ghost use Rattle.relay_routes.specs.declared.transport.Transport as names;
 ghost use Rattle.relay_job.specs.Settings.{limit_of};
 ghost use Rattle.relay_job.specs.JobAnswers.{IsJobWithin};
 ghost use Rattle.relay_pairs.specs.Pairs.{ArePairs};
-ghost use Rattle.aliasplan.specs.Delivery.{directory_of, routing_of, IsJobGraph};
+ghost use Rattle.aliasplan.specs.Delivery.{directory_of, routing_of, IsJobPart};
 ghost use Rattle.aliasplan.specs.Outcomes.{AreOptions, AreLimits, IsWithin};
 ghost use Rattle.aliasplan.specs.Plans.{IsFewest, IsPlanOf, IsSoundFor};
 ghost use Rattle.aliasplan.specs.Reaching.{AreReachedNodes};
@@ -41,7 +41,7 @@ fn return_lines<G: Gate, R: Threads + Sync>(
     nodes: &[u32],
     undelivered: &[Seq<Text>],
 ) -> Result<Vec<TextSet>, RunFault>
-    requires graph { IsJobGraph job.now graph.now }
+    requires graph { IsJobPart job.now graph.now }
     requires within { IsWithin crew.now.limits job.now }
     requires nodes { AreReachedNodes job.now graph.now nodes.now }
     requires lines { AreLinesOf graph.now job.now nodes.now undelivered.now }
@@ -75,7 +75,7 @@ fn blocks_of_lines(
     graph: &Graph,
     lists: Vec<TextSet>,
 ) -> Result<Seq<Return>, AllocError>
-    requires graph { IsJobGraph job.now graph.now }
+    requires graph { IsJobPart job.now graph.now }
     requires lines { AreReturnLines job.now graph.now lists.items }
     ensures { IfOk result (AreReturnsOf job.now) }
 {
@@ -95,7 +95,7 @@ fn returns_of<G: Gate, R: Threads + Sync>(
 ) -> Result<Seq<Return>, RunFault>
     requires tables { sources.now.tables ≡ directory_of job.now }
     requires router { sources.now.router ≡ routing_of job.now }
-    requires graph { IsJobGraph job.now graph.now }
+    requires graph { IsJobPart job.now graph.now }
     requires pairs { ArePairs graph.now pairs.now }
     requires within { IsWithin crew.now.limits job.now }
     ensures returns { IfOk result (AreReturnsOf job.now) }

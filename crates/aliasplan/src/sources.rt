@@ -7,6 +7,9 @@ use relay_tables::Tables;
 pub struct Sources {
     pub tables: Tables,
     pub router: Router,
+    /// A key for the hashes of domains and nexthops, in which all files and tables have a part. Who writes some of them doesn't know
+    /// which names have one hash under it.
+    pub key: u64,
 }
 
 ghost use Rattle.std.specs.Prelude.{◌≡◌, ◌≢◌, ◌<◌, ◌-◌, ◌^◌, length, All, AllPairs, IsTrue, IfOk, OnOk};
@@ -25,12 +28,25 @@ use crate::source::Source;
 use crate::table::Table;
 use crate::texts::{read_includes, report_file, report_table};
 use relay_aliasfile::{parse_aliases, parse_mailboxes};
+use relay_chains::hash_text;
 use relay_job::{Job, Settings};
 use relay_routes::{MxTable, TransportTable};
 use relay_tables::{Local, parsed_files};
 use relay_text::{Seq, Text};
 use relay_wire::FindingLines;
 use std::alloc::{AllocError, Global};
+
+// An odd number whose bits look drawn at random: the first 64 bits of the root of 5.
+const MULTIPLIER: u64 = 0x3c6e_f372_fe94_f82b;
+
+/// The key of a job's files and tables.
+fn key_of(job: &Job) -> u64 {
+    let mut key = job.settings.seed;
+    for table in [&job.aliases, &job.mailboxes, &job.transport, &job.mx] {
+        key = key.wrapping_mul(MULTIPLIER) ^ u64::from(hash_text(key, table.as_bytes()));
+    }
+    key
+}
 
 /// Which domains are local, and how a local name is read.
 fn local_of(alloc: Global, settings: &Settings) -> Result<Local, AllocError>
@@ -94,6 +110,10 @@ impl Sources {
     {
         let tables = read_tables(alloc, job, lines)?;
         let router = read_router(alloc, job, lines)?;
-        Ok(Sources { tables, router })
+        Ok(Sources {
+            tables,
+            router,
+            key: key_of(job),
+        })
     }
 }

@@ -3,10 +3,9 @@ ghost use Rattle.std.specs.Prelude.{◌≡◌, ◌<◌, [], All, length, slice_g
 ghost use Rattle.relay_tables.specs.declared.node.Node as parts;
 ghost use Rattle.relay_tables.specs.Graphs.{child_numbers};
 ghost use Rattle.relay_destinations.specs.Ways.{Keeps};
-ghost use Rattle.aliasplan.specs.Delivery.{directory_of, routing_of, IsJobGraph};
+ghost use Rattle.aliasplan.specs.Delivery.{directory_of, routing_of, IsJobPart};
 ghost use Rattle.aliasplan.specs.ReturnLines.{AreFindings, AreUndelivered, AreLinesOf};
 
-use crate::addresses::key_of;
 use crate::entries::report_node;
 use crate::gathering::recipient_of;
 use crate::sources::Sources;
@@ -27,7 +26,7 @@ fn lines_of_node<'a>(
     destinations: &mut Destinations<'a>,
 ) -> Result<Seq<Text>, AllocError>
     requires tables { tables.now ≡ directory_of job.now }
-    requires graph { IsJobGraph job.now graph.now }
+    requires graph { IsJobPart job.now graph.now }
     requires node { node < length graph.now.nodes }
     requires routing { destinations.old.routing ≡ routing_of job.now }
     requires via { destinations.old.via ≡ job.now.settings.mailbox_transport }
@@ -64,13 +63,13 @@ pub fn undelivered_at<'a>(
 ) -> Result<Vec<Seq<Text>>, AllocError>
     requires tables { sources.now.tables ≡ directory_of job.now }
     requires router { sources.now.router ≡ routing_of job.now }
-    requires graph { IsJobGraph job.now graph.now }
+    requires graph { IsJobPart job.now graph.now }
     requires nodes { All (λ n. n < length graph.now.nodes) nodes.now }
     ensures lines { IfOk result (λ lists. AreLinesOf graph.now job.now nodes.now lists.items) }
     ensures findings { IfOk result (λ lists. All AreFindings lists.items) }
 {
     let via = &job.settings.mailbox_transport;
-    let mut destinations = Destinations::new(alloc, &sources.router, via, key_of(job))?;
+    let mut destinations = Destinations::new(alloc, &sources.router, via, sources.key)?;
     let mut lists = no_lines(alloc, graph)?;
     for node in nodes {
         let lines = lines_of_node(alloc, job, &sources.tables, graph, *node, &mut destinations)?;

@@ -61,7 +61,7 @@ fn workings_of<G: Gate, R: Threads + Sync>(
     let Ok(plan) = plan_reached(crew, job, &sources, &graph, &pairs, lines) else {
         return Err(RunFault::Memory);
     };
-    let Sources { tables, router } = sources;
+    let Sources { tables, router, .. } = sources;
     Ok(Workings {
         tables,
         router,

@@ -7,7 +7,8 @@ use Rattle.relay_text.specs.AddressParts.{AddressParts}
 use Rattle.relay_tables.specs.declared.node.Node.{Node}
 use Rattle.relay_tables.specs.Directory.{Directory}
 use Rattle.relay_tables.specs.GraphParts.{GraphParts}
-use Rattle.relay_tables.specs.Graphs.{child_numbers, nodes_at, sender_number_after, IsGraphOf}
+use Rattle.relay_tables.specs.Graphs.{child_numbers, nodes_at, sender_number_after, IsGraphFrom}
+use Rattle.relay_tables.proofs.GraphsFrom.{from_whole}
 use Rattle.relay_tables.specs.Senders.{Sender, Pair}
 use Rattle.relay_tables.specs.Targets.{recipient_target, targets_of}
 use Rattle.relay_pairs.specs.declared.reached.Reached.{Reached}
@@ -81,10 +82,10 @@ module _ (job : Job) (g : GraphParts) (is : IsJobGraph job g) where
   child_node n node at item to is_child = named g (λ (t : Node). t) (child_numbers g n) (targets_of (directory_of job) node) (is.children n node at) item to is_child
 
   -- The root that a trail begins with, where the roots were looked up before. The first premise is a law of `relay_trails`.
-  pub trail_root : ((d : Directory) (sender : Sender) (recipients : List AddressParts) (g : GraphParts) → IsGraphOf d sender recipients g → (t : Trail) (pair : Pair) → leads_to d sender recipients t ≡ Some pair → (numbers : Reached) × AreNumbersOf g pair numbers × (ends_in g t ≡ Some numbers)) → (t : Trail) → IsSome (leads_to (directory_of job) job.sender job.recipients t) → (roots : List ℕ) → roots ≡ g.roots → (t.recipient < length roots) × (slice_get g.roots t.recipient ≡ Some (get_or roots t.recipient 0)) × IsSome (pair_along g (Some (record { sender = 0; node = get_or roots t.recipient 0 })) t.items)
+  pub trail_root : ((d : Directory) (sender : Sender) (recipients : List AddressParts) (g : GraphParts) → IsGraphFrom d sender recipients g → (t : Trail) (pair : Pair) → leads_to d sender recipients t ≡ Some pair → (numbers : Reached) × AreNumbersOf g pair numbers × (ends_in g t ≡ Some numbers)) → (t : Trail) → IsSome (leads_to (directory_of job) job.sender job.recipients t) → (roots : List ℕ) → roots ≡ g.roots → (t.recipient < length roots) × (slice_get g.roots t.recipient ≡ Some (get_or roots t.recipient 0)) × IsSome (pair_along g (Some (record { sender = 0; node = get_or roots t.recipient 0 })) t.items)
   trail_root ends t leads roots same =
       let pair = some_is (leads_to (directory_of job) job.sender job.recipients t) leads in
-      let numbers = ends (directory_of job) job.sender job.recipients g is t pair.0 pair.1 in
+      let numbers = ends (directory_of job) job.sender job.recipients g (from_whole (directory_of job) job.sender job.recipients g is) t pair.0 pair.1 in
       let root = root_of g t numbers.0 numbers.2 in
       let here : slice_get roots t.recipient ≡ Some root.0 = ap (λ (rs : List ℕ). slice_get rs t.recipient) same ∙ root.1 in
       let is_root : root.0 ≡ get_or roots t.recipient 0 = sym (get_or_from_slice_get roots t.recipient root.0 0 here) in

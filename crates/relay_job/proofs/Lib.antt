@@ -15,3 +15,7 @@ pub mod JobBounds
 pub mod TablesBounds
 pub mod ReasonFacts
 pub mod RecipientLineFacts
+pub mod EnvelopeTextFacts
+pub mod JoinedLines
+pub mod ShiftedLines
+pub mod JoinedFacts

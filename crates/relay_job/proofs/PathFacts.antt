@@ -74,7 +74,7 @@ distinct done (x ∷ xs) h = at (breaks_job done x) refl h (distinct (done ++ x 
   at true e g later = absurd (let no : ⊥ = cc in no)
   at false e g later = with_line done x xs e (later g)
 
-no_numbers : (numbers : List ℕ) → slice_get numbers 0 ≡ None → numbers ≡ []
+pub no_numbers : (numbers : List ℕ) → slice_get numbers 0 ≡ None → numbers ≡ []
 no_numbers [] h = refl
 no_numbers (n ∷ numbers) h = absurd (let no : ⊥ = cc in no)
 

@@ -1,9 +1,10 @@
 -- Worked examples of the definitions, by computation.
-use Rattle.std.proofs.Common.{◌≡◌, ◌++◌, ℕ, false, List, [], ◌∷◌, refl, codes, Some, None, Ok}
+use Rattle.std.proofs.Common.{◌≡◌, ◌++◌, ℕ, false, List, [], ◌∷◌, refl, codes, Some, None, Ok, Err}
 use Rattle.relay_text.specs.Addresses.{spelling_of, path_of, local_text_of, is_domain}
 use Rattle.relay_routes.specs.declared.transport.Transport.TheVariants.{Smtp, Lmtp}
 use Rattle.relay_job.specs.declared.fault.RunFault.TheVariants.{BadJob, BadSetting, BadEnvelope}
 use Rattle.relay_job.specs.JobText.{job_of, job_fault}
+use Rattle.relay_job.specs.Envelopes.{envelope_of}
 
 abbrev pub S : List ℕ
 S = codes "%settings\nmyhostname = relay.example.org\nmyorigin = example.org\nmydestination = example.org, localhost\nrecipient_delimiter = +\ndefault_destination_recipient_limit = 50\nmailbox_transport = lmtp:unix:mbox\nseed = 0\n"
@@ -31,6 +32,19 @@ no_recipient = refl
 cut_recipient : job_fault (S ++ codes "%envelope\nMAIL FROM:<>\nRCPT TO:<joe@exam") ≡ Some (BadEnvelope 11)
 unfolding spelling_of path_of local_text_of is_domain
 cut_recipient = refl
+
+-- an envelope's section by itself
+section_alone : envelope_of (codes "example.org") (codes "\nMAIL FROM:<>\nRCPT TO:<joe@example.org>\n") ≡ Ok (record { sender = None; recipients = (record { local = codes "joe"; domain = codes "example.org" }) ∷ [] })
+unfolding envelope_of spelling_of path_of local_text_of is_domain
+section_alone = refl
+
+section_cut : envelope_of (codes "example.org") (codes "MAIL FROM:<>\n") ≡ Err (BadEnvelope 0)
+unfolding envelope_of spelling_of path_of local_text_of is_domain
+section_cut = refl
+
+section_broken : envelope_of (codes "example.org") (codes "\nMAIL FROM:<>\nRCPT TO:<joe@exam\n") ≡ Err (BadEnvelope 3)
+unfolding envelope_of spelling_of path_of local_text_of is_domain
+section_broken = refl
 
 repeated_path : job_fault (codes "%include /a\n%include\t/a \n") ≡ Some (BadJob 2)
 repeated_path = refl

@@ -10,3 +10,4 @@ pub mod JobSizes
 pub mod Reasons
 pub mod LocatedLines
 pub mod RecipientLines
+pub mod Envelopes

@@ -47,7 +47,11 @@ fn read_recipients(
 impl Envelope {
     /// The envelope behind a heading. BadEnvelope has the first line that isn't `MAIL FROM:` and a path, or after it `RCPT TO:` and
     /// an address's path; where there are fewer than two lines, the heading's line.
-    pub fn read(alloc: Global, section: Place<'_>, origin: &[u8]) -> Result<Envelope, RunFault>
+    pub(crate) fn read(
+        alloc: Global,
+        section: Place<'_>,
+        origin: &[u8],
+    ) -> Result<Envelope, RunFault>
         requires { IsTrue (is_origin origin.now) }
         ensures sender { IfOk result (λ envelope. envelope.sender ≡ sender_of origin.now (commands_at section.entry)) }
         ensures recipients { IfOk result (λ envelope. envelope.recipients ≡ recipients_of origin.now (drop 1 (commands_at section.entry))) }
@@ -72,7 +76,11 @@ impl Envelope {
     }
 
     /// The rule of envelopes that the one behind a heading breaks, where it breaks one.
-    pub fn reason(alloc: Global, section: Place<'_>, origin: &[u8]) -> Result<Reason, AllocError>
+    pub(crate) fn reason(
+        alloc: Global,
+        section: Place<'_>,
+        origin: &[u8],
+    ) -> Result<Reason, AllocError>
         requires { IsTrue (is_origin origin.now) }
         ensures { IfOk result (λ reason. (number : ℕ) → first_bad_command origin.now section.entry.line (commands_at section.entry) ≡ Some number → BreaksEnvelope origin.now number section.entry.line (commands_at section.entry) reason) }
     {

@@ -1,7 +1,9 @@
-//! What a job's text says.
-ghost use Rattle.std.specs.Prelude.{◌≡◌};
+//! What a job's text says, and what an envelope's says by itself.
+ghost use Rattle.std.specs.Prelude.{◌≡◌, IsTrue};
+ghost use Rattle.relay_text.specs.Addresses.{is_origin};
 ghost use Rattle.relay_job.specs.JobText.{job_of};
 ghost use Rattle.relay_job.specs.Tables.{tables_of};
+ghost use Rattle.relay_job.specs.Envelopes.{envelope_of};
 ghost use Rattle.relay_job.specs.JobAnswers.{Answers};
 
 use crate::envelope::Envelope;
@@ -9,6 +11,7 @@ use crate::fault::RunFault;
 use crate::job::Job;
 use crate::job_files::JobFiles;
 use crate::parts::Parts;
+use crate::place::Place;
 use crate::section::Section;
 use crate::setting_values::SettingValues;
 use relay_text::Seq;
@@ -68,4 +71,16 @@ pub fn parse_tables(alloc: Global, bytes: &[u8]) -> Result<Job, RunFault>
         sender: None,
         recipients: Seq::of(Vec::new(alloc)),
     })
+}
+
+/// What an envelope's section says by itself, without a heading, where addresses without a domain are of this origin. A heading ends
+/// it, and what stands behind isn't looked at.
+///
+/// BadEnvelope comes at the first bad line, from 1, and at 0 where the envelope ends too early, for there is no heading that could
+/// stand for it. Memory comes where a growth was refused.
+pub fn parse_envelope(alloc: Global, bytes: &[u8], origin: &[u8]) -> Result<Envelope, RunFault>
+    requires { IsTrue (is_origin origin.now) }
+    ensures { Answers result (envelope_of origin.now bytes.now) }
+{
+    Envelope::read(alloc, Place::start(bytes), origin)
 }

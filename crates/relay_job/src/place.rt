@@ -46,7 +46,7 @@ impl<'a> Place<'a> {
 
     /// The next line of this section, and the place behind it; `None` at the next heading and at the job's end.
     #[inline]
-    pub fn split_content(&self) -> Option<(RawLine<'a>, Place<'a>)>
+    pub(crate) fn split_content(&self) -> Option<(RawLine<'a>, Place<'a>)>
         ensures none { IfNone result (content_at self.now ≡ []) }
         ensures lines { IfSome result (λ split. content_at self.now ≡ line_of split.0 ∷ content_at split.1) }
         ensures bytes { IfSome result (λ split. self.now.rest.now ≡ split.0.raw.now ++ split.1.rest.now) }

@@ -49,21 +49,21 @@ impl<'a> RawLine<'a> {
 
     /// The line as it stands for itself, without its end.
     #[inline]
-    pub fn content_text(&self) -> &'a [u8]
+    pub(crate) fn content_text(&self) -> &'a [u8]
         ensures { result.now ≡ line_text (content_of self.now.raw.now) }
     {
         without_end(self.content())
     }
 
     /// Whether the line begins with `%%`, and so stands for another.
-    pub fn is_doubled(&self) -> bool
+    pub(crate) fn is_doubled(&self) -> bool
         ensures { result ≡ begins_with (codes "%%") self.now.raw.now }
     {
         matches!(self.raw, [b'%', b'%', ..])
     }
 
     /// The line's bytes as they stand for themselves: without the first `%` of a leading `%%`.
-    pub fn content(&self) -> &'a [u8]
+    pub(crate) fn content(&self) -> &'a [u8]
         ensures bytes { result.now ≡ content_of self.now.raw.now }
         ensures ends_once { length result.now ≤ position_or_len (λ b. b == 10) result.now + 1 }
     {

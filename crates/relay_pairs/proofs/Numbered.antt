@@ -8,7 +8,7 @@ use Rattle.relay_tables.specs.Directory.{Directory}
 use Rattle.relay_tables.specs.GraphParts.{GraphParts}
 use Rattle.relay_tables.specs.Targets.{targets_of, recipient_target}
 use Rattle.relay_tables.specs.Senders.{Sender, Pair, Step, sender_past}
-use Rattle.relay_tables.specs.Graphs.{child_numbers, nodes_at, sender_number_after, IsGraphOf}
+use Rattle.relay_tables.specs.Graphs.{child_numbers, nodes_at, sender_number_after, IsGraphFrom}
 use Rattle.relay_pairs.specs.declared.reached.Reached.{Reached}
 use Rattle.relay_pairs.specs.Pairs.{with_root, IsRoot, IsStep, IsReachedPair}
 use Rattle.relay_pairs.specs.Chains.{IsStart, IsReachedBy, IsRootOf, HasNumbers}
@@ -24,7 +24,7 @@ pub record Leads (d : Directory) (sender : Sender) (recipients : List AddressPar
   pub envelope_first : slice_get g.senders 0 ≡ Some sender
   pub after : (s k : ℕ) (a : Sender) (n : Node) → slice_get g.senders s ≡ Some a → slice_get g.nodes k ≡ Some n → slice_get g.senders (sender_number_after g s k) ≡ Some (sender_past d a n)
 
-pub leads : (d : Directory) (sender : Sender) (recipients : List AddressParts) (g : GraphParts) → IsGraphOf d sender recipients g → Leads d sender recipients g
+pub leads : (d : Directory) (sender : Sender) (recipients : List AddressParts) (g : GraphParts) → IsGraphFrom d sender recipients g → Leads d sender recipients g
 leads d sender recipients g is = record {
   distinct = is.distinct;
   children = is.children;
@@ -35,7 +35,7 @@ leads d sender recipients g is = record {
 }
 
 -- a message to one of the recipients alone, in the same graph
-pub leads_from : (d : Directory) (sender : Sender) (recipients : List AddressParts) (g : GraphParts) → IsGraphOf d sender recipients g
+pub leads_from : (d : Directory) (sender : Sender) (recipients : List AddressParts) (g : GraphParts) → IsGraphFrom d sender recipients g
     → (k : ℕ) (recipient : AddressParts) (root : ℕ) → IsRootOf recipients g k recipient root → Leads d sender (recipient ∷ []) (with_root g root)
 leads_from d sender recipients g is k recipient root at =
     let at_number : slice_get (nodes_at g g.roots) k ≡ Some (slice_get g.nodes root) = slice_get-map (slice_get g.nodes) g.roots k ∙ ap (option_map (slice_get g.nodes)) at.number in

@@ -21,7 +21,7 @@ use Rattle.relay_tables.specs.declared.include_entry.IncludeEntry.{IncludeEntry}
 use Rattle.relay_tables.specs.Targets.{alias_number, item_target, items_of_entry, items_of_include, targets_of, recipient_target}
 use Rattle.relay_tables.specs.Senders.{Sender, owner_name, owner_entry, sender_or, sender_past}
 use Rattle.relay_tables.specs.Graphs.{entry_nodes, nodes_of, owner_count, refusal_of, IsGraphOf, Refuses}
-use Rattle.relay_tables.specs.Numbering.{Numbered, Numbers, IsFor, entries_of, with_nodes, with_all}
+use Rattle.relay_tables.specs.Numbering.{Numbered, Numbers, entries_of, with_nodes, with_all}
 use Rattle.relay_tables.specs.Rowing.{nodes_in, some_of, LeadTo, Adds}
 use Rattle.relay_tables.specs.Sending.{IsOwnedBy, AreOwned}
 use Rattle.relay_tables.specs.Building.{AreParents, AreRows}
@@ -75,10 +75,10 @@ rows_below nodes (k ∷ ks) (t ∷ ts) e =
     All-append (λ n. n < length nodes) k (concat ks) (row_below (λ (n : Node). n) nodes k t first) (rows_below nodes ks ts rest)
 
 module _ (d : Directory) where
-  alias_past : (j : ℕ) → length d.aliases ≤ j → targets_of d (Alias j) ≡ []
+  pub alias_past : (j : ℕ) → length d.aliases ≤ j → targets_of d (Alias j) ≡ []
   alias_past j past = ap (λ (e : Option Entry). map (item_target d (Some j)) (items_of_entry d e)) (slice_get_past d.aliases j past)
 
-  include_past : (j : ℕ) → length d.includes ≤ j → targets_of d (Include j) ≡ []
+  pub include_past : (j : ℕ) → length d.includes ≤ j → targets_of d (Include j) ≡ []
   include_past j past = ap (λ (e : Option IncludeEntry). map (item_target d None) (items_of_include d e)) (slice_get_past d.includes j past)
 
   -- a node that is none of the entries has no targets, and leaves the sender
@@ -107,7 +107,7 @@ module _ (d : Directory) where
   keeps_sender (File x) s a = refl
 
   -- the sender after an alias
-  sets_sender : (senders : List Sender) (number : Option ℕ) (owner : Option Entry) (s : ℕ) (a : Sender) → IsOwnedBy d senders number owner → slice_get senders s ≡ Some a
+  pub sets_sender : (senders : List Sender) (number : Option ℕ) (owner : Option Entry) (s : ℕ) (a : Sender) → IsOwnedBy d senders number owner → slice_get senders s ≡ Some a
       → slice_get senders (unwrap_or number s) ≡ Some (sender_or d a owner)
   sets_sender senders None None s a h at = at
   sets_sender senders None (Some owner) s a h at = absurd h
@@ -284,7 +284,11 @@ module _ (d : Directory) (recipients : List AddressParts) where
     pub nodes_are : s.nodes ≡ entry_nodes d
     pub limit_is : s.limit ≡ names
 
-  pub start_is : (names aliases includes : ℕ) (s : Numbered) → s ≡ record { nodes = entries_of aliases includes; aliases = aliases; includes = includes; limit = names } → IsFor d s → IsStart names s
+  -- all of the directory's entries stand in front
+  abbrev pub IsFor : Numbered → Type 0
+  IsFor s = (s.aliases ≡ length d.aliases) × (s.includes ≡ length d.includes)
+
+  pub start_is : (names aliases includes : ℕ) (s : Numbered) → s ≡ record { nodes = entries_of aliases includes; aliases = aliases; includes = includes; limit = names } → IsFor s → IsStart names s
   start_is names aliases includes s is h =
       let a : aliases ≡ length d.aliases = sym (ap (λ (m : Numbered). m.aliases) is) ∙ h.0 in
       let i : includes ≡ length d.includes = sym (ap (λ (m : Numbered). m.includes) is) ∙ h.1 in

@@ -9,10 +9,10 @@ use Rattle.relay_tables.specs.Directory.{Directory}
 use Rattle.relay_tables.specs.GraphParts.{GraphParts}
 use Rattle.relay_tables.specs.Targets.{targets_of, recipient_target}
 use Rattle.relay_tables.specs.Senders.{Sender, sender_past}
-use Rattle.relay_tables.specs.Graphs.{child_numbers, sender_number_after, IsClosedGraph, IsGraphOf}
+use Rattle.relay_tables.specs.Graphs.{child_numbers, sender_number_after, IsClosedGraph, IsGraphFrom}
 use Rattle.relay_tables.proofs.Assembled.{row_below}
 
-module _ (d : Directory) (sender : Sender) (recipients : List AddressParts) (g : GraphParts) (is : IsGraphOf d sender recipients g) where
+module _ (d : Directory) (sender : Sender) (recipients : List AddressParts) (g : GraphParts) (is : IsGraphFrom d sender recipients g) where
   children_below : (n : ℕ) → n < length g.nodes → All (λ c. c < length g.nodes) (child_numbers g n)
   children_below n below =
       let node : Node = get_or g.nodes n (Alias 0) in

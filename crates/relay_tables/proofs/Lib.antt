@@ -17,3 +17,6 @@ pub mod SenderSteps
 pub mod Assembled
 pub mod ClosedGraphs
 pub mod ParsedFiles
+pub mod GraphsFrom
+pub mod Counts
+pub mod Found

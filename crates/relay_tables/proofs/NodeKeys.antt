@@ -12,7 +12,7 @@ use Rattle.relay_text.specs.JoinedAddresses.{joined_text_of}
 use Rattle.relay_tables.specs.declared.node.Node.{Node}
 use Rattle.relay_tables.specs.declared.node.Node.TheVariants.{Alias, Include, Mailbox, Remote, Missing, NoInclude, Command, File}
 use Rattle.relay_tables.specs.Graphs.{same_address, same_node}
-use Rattle.relay_tables.specs.Numbering.{is_final, address_key}
+use Rattle.relay_tables.specs.Numbering.{address_key}
 
 bytes_true : (xs ys : List ℕ) → bytes_eq xs ys ≡ true → xs ≡ ys
 bytes_true xs ys e = (bytes_eq-Decides xs ys).0 e
@@ -78,27 +78,6 @@ address_from (n ∷ text) = address_at (drop n text) (take n text)
 pub address_back : (a : AddressParts) → address_from (address_key a) ≡ a
 unfolding address_from
 address_back a = same_parts (address_from (address_key a)) a (drop_at a.domain a.local (length a.domain) refl) (take_at a.domain a.local (length a.domain) refl)
-
--- a final node is no entry
-pub final_alias : (n : Node) → is_final n ≡ true → (k : ℕ) → same_node n (Alias k) ≡ false
-final_alias (Alias n) e k = absurd (false≢true e)
-final_alias (Include n) e k = absurd (false≢true e)
-final_alias (Mailbox a) e k = refl
-final_alias (Remote a) e k = refl
-final_alias (Missing t) e k = refl
-final_alias (NoInclude t) e k = refl
-final_alias (Command t) e k = refl
-final_alias (File t) e k = refl
-
-pub final_include : (n : Node) → is_final n ≡ true → (k : ℕ) → same_node n (Include k) ≡ false
-final_include (Alias n) e k = absurd (false≢true e)
-final_include (Include n) e k = absurd (false≢true e)
-final_include (Mailbox a) e k = refl
-final_include (Remote a) e k = refl
-final_include (Missing t) e k = refl
-final_include (NoInclude t) e k = refl
-final_include (Command t) e k = refl
-final_include (File t) e k = refl
 
 -- a node that stands somewhere is among them
 pub any_at : (nodes : List Node) (k : ℕ) (n : Node) → slice_get nodes k ≡ Some n → list_any (same_node n) nodes ≡ true

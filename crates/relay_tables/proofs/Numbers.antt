@@ -1,18 +1,19 @@
 -- Lemmas on nodes by their numbers.
-use Rattle.std.proofs.Common.{◌≡◌, ℕ, ◌+◌, ◌<◌, ◌≤◌, ◌^◌, true, false, Some, None, List, [], ◌∷◌, ◌++◌, length, map, get_or, slice_get, position, refl, sym, ap, ◌∙◌, subst, arith}
-use Rattle.std.specs.List.{All, list_any, range_with_len}
-use Rattle.std.proofs.lemmas.Bool.{or_from}
+use Rattle.std.proofs.Common.{◌≡◌, ℕ, zero, suc, eqb, ◌+◌, ◌<◌, ◌≤◌, ◌^◌, false, Some, None, List, [], ◌∷◌, ◌++◌, length, map, get_or, slice_get, position, refl, sym, ap, ◌∙◌, arith}
+use Rattle.std.specs.List.{list_any, range_with_len}
+use Rattle.std.proofs.lemmas.Bool.{or_from, ne_eqb}
 use Rattle.std.proofs.lemmas.List.{append_assoc, append-nil, length-append, length_push, drop-append-le, drop_all, map_push, get_or_append_left, get_or-append-add, get_or_push}
-use Rattle.std.proofs.lemmas.List.Elements.{All-push, All-nil}
 use Rattle.std.proofs.lemmas.List.Folds.{list_any-append}
 use Rattle.std.proofs.lemmas.List.FromFn.{length-map-range_with_len, get_or-map-range_with_len}
 use Rattle.std.proofs.lemmas.List.Quantifiers.{position-Some}
 use Rattle.std.proofs.lemmas.Option.{slice_get-get_or}
 use Rattle.relay_tables.specs.declared.node.Node.{Node}
-use Rattle.relay_tables.specs.declared.node.Node.TheVariants.{Alias, Include}
+use Rattle.relay_tables.specs.declared.node.Node.TheVariants.{Alias, Include, Mailbox, Remote, Missing, NoInclude, Command, File}
+use Rattle.relay_tables.specs.declared.lead.Lead.{Lead}
+use Rattle.relay_tables.specs.declared.lead.Lead.TheVariants as lead
 use Rattle.relay_tables.specs.Graphs.{same_node}
-use Rattle.relay_tables.specs.Numbering.{is_final, node_hash, entries_of, finals_of, with_nodes, AreNumbered}
-use Rattle.relay_tables.proofs.NodeKeys.{node_true, final_alias, final_include, any_at, none_by_place}
+use Rattle.relay_tables.specs.Numbering.{node_hash, node_of, entries_of, behind_of, with_nodes, AreNumbered}
+use Rattle.relay_tables.proofs.NodeKeys.{node_true, any_at, none_by_place}
 use Rattle.relay_tables.proofs.Firsts.{with_node-there, with_node-new, with_nodes-one}
 
 pub last_is : {X : Type 0} (xs : List X) (x : X) (k : ℕ) → length xs ≡ k → slice_get (xs ++ x ∷ []) k ≡ Some x
@@ -41,29 +42,72 @@ pub numbered_none : (aliases includes limit key : ℕ) (nodes : List Node) → n
 numbered_none aliases includes limit key nodes is fits small =
     let entries = entries_of aliases includes in
     let long : length nodes ≡ aliases + includes = ap length is ∙ length-entries aliases includes in
-    let none : finals_of aliases includes nodes ≡ [] = drop_all (aliases + includes) nodes (omega arith) in
+    let none : behind_of aliases includes nodes ≡ [] = drop_all (aliases + includes) nodes (omega arith) in
     record {
       front = is ∙ sym (append-nil entries) ∙ ap (λ (ns : List Node). entries ++ ns) (sym none);
-      final = subst (λ (ns : List Node). All (λ n. is_final n ≡ true) ns) (sym none) (All-nil (λ n. is_final n ≡ true));
       hashed = sym (ap (map (node_hash key)) none);
       fits = fits;
       small = small;
       within = omega arith;
     }
 
-same_as : (nodes : List Node) (k : ℕ) (n : Node) → slice_get nodes k ≡ Some n → with_nodes nodes (n ∷ []) ≡ nodes
-same_as nodes k n at = with_nodes-one nodes n ∙ with_node-there nodes n (any_at nodes k n at)
+-- a node that is there changes nothing
+pub there_stays : (nodes : List Node) (k : ℕ) (n : Node) → slice_get nodes k ≡ Some n → with_nodes nodes (n ∷ []) ≡ nodes
+there_stays nodes k n at = with_nodes-one nodes n ∙ with_node-there nodes n (any_at nodes k n at)
 
-no_entry : (n : Node) → is_final n ≡ true → (f : ℕ → Node) → ((k : ℕ) → same_node n (f k) ≡ false) → (ks : List ℕ) → list_any (same_node n) (map f ks) ≡ false
-no_entry n final f other [] = refl
-no_entry n final f other (k ∷ ks) = or_from (same_node n (f k)) (list_any (same_node n) (map f ks)) (other k) (no_entry n final f other ks)
+-- a number past a run is none of it
+alias_past : (k a n : ℕ) → a + n ≤ k → list_any (same_node (Alias k)) (map Alias (range_with_len a n)) ≡ false
+alias_past k a zero past = refl
+alias_past k a (suc n) past = or_from (eqb k a) (list_any (same_node (Alias k)) (map Alias (range_with_len (a + 1) n))) (ne_eqb k a (λ e. omega arith)) (alias_past k (a + 1) n (omega arith))
+
+include_past : (k a n : ℕ) → a + n ≤ k → list_any (same_node (Include k)) (map Include (range_with_len a n)) ≡ false
+include_past k a zero past = refl
+include_past k a (suc n) past = or_from (eqb k a) (list_any (same_node (Include k)) (map Include (range_with_len (a + 1) n))) (ne_eqb k a (λ e. omega arith)) (include_past k (a + 1) n (omega arith))
+
+none_of_kind : (n : Node) (f : ℕ → Node) → ((k : ℕ) → same_node n (f k) ≡ false) → (ks : List ℕ) → list_any (same_node n) (map f ks) ≡ false
+none_of_kind n f other [] = refl
+none_of_kind n f other (k ∷ ks) = or_from (same_node n (f k)) (list_any (same_node n) (map f ks)) (other k) (none_of_kind n f other ks)
+
+neither : (n : Node) (aliases includes : ℕ) → list_any (same_node n) (map Alias (range_with_len 0 aliases)) ≡ false → list_any (same_node n) (map Include (range_with_len 0 includes)) ≡ false
+    → list_any (same_node n) (entries_of aliases includes) ≡ false
+neither n aliases includes a i =
+    list_any-append (same_node n) (map Alias (range_with_len 0 aliases)) (map Include (range_with_len 0 includes))
+    ∙ or_from (list_any (same_node n) (map Alias (range_with_len 0 aliases))) (list_any (same_node n) (map Include (range_with_len 0 includes))) a i
+
+-- what doesn't stand in front
+abbrev pub IsLater : ℕ → ℕ → Node → Type 0
+IsLater aliases includes (Alias k) = aliases ≤ k
+IsLater aliases includes (Include k) = includes ≤ k
+IsLater aliases includes n = Unit {0}
+
+pub no_entry : (aliases includes : ℕ) (n : Node) → IsLater aliases includes n → list_any (same_node n) (entries_of aliases includes) ≡ false
+no_entry aliases includes (Alias k) later = neither (Alias k) aliases includes (alias_past k 0 aliases (omega arith)) (none_of_kind (Alias k) Include (λ j. refl) (range_with_len 0 includes))
+no_entry aliases includes (Include k) later = neither (Include k) aliases includes (none_of_kind (Include k) Alias (λ j. refl) (range_with_len 0 aliases)) (include_past k 0 includes (omega arith))
+no_entry aliases includes (Mailbox a) later = neither (Mailbox a) aliases includes (none_of_kind (Mailbox a) Alias (λ j. refl) (range_with_len 0 aliases)) (none_of_kind (Mailbox a) Include (λ j. refl) (range_with_len 0 includes))
+no_entry aliases includes (Remote a) later = neither (Remote a) aliases includes (none_of_kind (Remote a) Alias (λ j. refl) (range_with_len 0 aliases)) (none_of_kind (Remote a) Include (λ j. refl) (range_with_len 0 includes))
+no_entry aliases includes (Missing t) later = neither (Missing t) aliases includes (none_of_kind (Missing t) Alias (λ j. refl) (range_with_len 0 aliases)) (none_of_kind (Missing t) Include (λ j. refl) (range_with_len 0 includes))
+no_entry aliases includes (NoInclude t) later = neither (NoInclude t) aliases includes (none_of_kind (NoInclude t) Alias (λ j. refl) (range_with_len 0 aliases)) (none_of_kind (NoInclude t) Include (λ j. refl) (range_with_len 0 includes))
+no_entry aliases includes (Command t) later = neither (Command t) aliases includes (none_of_kind (Command t) Alias (λ j. refl) (range_with_len 0 aliases)) (none_of_kind (Command t) Include (λ j. refl) (range_with_len 0 includes))
+no_entry aliases includes (File t) later = neither (File t) aliases includes (none_of_kind (File t) Alias (λ j. refl) (range_with_len 0 aliases)) (none_of_kind (File t) Include (λ j. refl) (range_with_len 0 includes))
+
+-- what no lead to an entry leads to
+pub other_behind : (aliases includes : ℕ) (l : Lead) → ((k : ℕ) → l ≡ lead.Alias k → ⊥) → ((k : ℕ) → l ≡ lead.Include k → ⊥) → list_any (same_node (node_of l)) (entries_of aliases includes) ≡ false
+other_behind aliases includes (lead.Alias k) a i = absurd (a k refl)
+other_behind aliases includes (lead.Include k) a i = absurd (i k refl)
+other_behind aliases includes (lead.Mailbox l o) a i = no_entry aliases includes (node_of (lead.Mailbox l o)) tt
+other_behind aliases includes (lead.Written x) a i = no_entry aliases includes (node_of (lead.Written x)) tt
+other_behind aliases includes (lead.Remote x) a i = no_entry aliases includes (node_of (lead.Remote x)) tt
+other_behind aliases includes (lead.Missing t) a i = no_entry aliases includes (node_of (lead.Missing t)) tt
+other_behind aliases includes (lead.NoInclude t) a i = no_entry aliases includes (node_of (lead.NoInclude t)) tt
+other_behind aliases includes (lead.Command t) a i = no_entry aliases includes (node_of (lead.Command t)) tt
+other_behind aliases includes (lead.File t) a i = no_entry aliases includes (node_of (lead.File t)) tt
 
 module _ (nodes : List Node) (aliases includes limit key : ℕ) (hashes : List ℕ) (p : AreNumbered nodes aliases includes limit key hashes) where
-  abbrev finals : List Node
-  finals = finals_of aliases includes nodes
+  abbrev later : List Node
+  later = behind_of aliases includes nodes
 
-  long : length nodes ≡ (aliases + includes) + length finals
-  long = ap length p.front ∙ omega (arith, length-append (entries_of aliases includes) (finals_of aliases includes nodes), length-entries aliases includes)
+  long : length nodes ≡ (aliases + includes) + length later
+  long = ap length p.front ∙ omega (arith, length-append (entries_of aliases includes) (behind_of aliases includes nodes), length-entries aliases includes)
 
   pub entries_within : aliases + includes ≤ length nodes
   entries_within = omega (arith, long)
@@ -71,7 +115,7 @@ module _ (nodes : List Node) (aliases includes limit key : ℕ) (hashes : List �
   in_front : (k : ℕ) (n : Node) → k < aliases + includes → get_or (entries_of aliases includes) k n ≡ n → slice_get nodes k ≡ Some n
   in_front k n below at =
       slice_get-get_or nodes k n (omega (arith, long))
-      ∙ ap (λ (x : Node). Some x) (ap (λ (ns : List Node). get_or ns k n) p.front ∙ get_or_append_left (entries_of aliases includes) (finals_of aliases includes nodes) n k (omega (arith, length-entries aliases includes)) ∙ at)
+      ∙ ap (λ (x : Node). Some x) (ap (λ (ns : List Node). get_or ns k n) p.front ∙ get_or_append_left (entries_of aliases includes) (behind_of aliases includes nodes) n k (omega (arith, length-entries aliases includes)) ∙ at)
 
   -- the aliases and include files by their numbers
   pub alias_at : (k : ℕ) → k < aliases → slice_get nodes k ≡ Some (Alias k)
@@ -80,46 +124,37 @@ module _ (nodes : List Node) (aliases includes limit key : ℕ) (hashes : List �
   pub include_at : (k : ℕ) → k < includes → slice_get nodes (aliases + k) ≡ Some (Include k)
   include_at k below = in_front (aliases + k) (Include k) (omega arith) (entry_include aliases includes k below)
 
-  pub there_stays : (k : ℕ) (n : Node) → slice_get nodes k ≡ Some n → with_nodes nodes (n ∷ []) ≡ nodes
-  there_stays k n at = same_as nodes k n at
-
   -- a node that is found behind the entries
-  pub found : (n : Node) (number : ℕ) → position (same_node n) finals ≡ Some number → (number < length finals) × (slice_get nodes (aliases + includes + number) ≡ Some n)
+  pub found : (n : Node) (number : ℕ) → position (same_node n) later ≡ Some number → (number < length later) × (slice_get nodes (aliases + includes + number) ≡ Some n)
   found n number at =
-      let place = position-Some (same_node n) finals number n at in
-      let same : get_or finals number n ≡ n = sym (node_true n (get_or finals number n) place.1) in
+      let place = position-Some (same_node n) later number n at in
+      let same : get_or later number n ≡ n = sym (node_true n (get_or later number n) place.1) in
       let size : length (entries_of aliases includes) + number ≡ aliases + includes + number = omega (arith, length-entries aliases includes) in (
         place.0,
         slice_get-get_or nodes (aliases + includes + number) n (omega (arith, long, place.0))
             ∙ ap (λ (x : Node). Some x)
             (ap (λ (ns : List Node). get_or ns (aliases + includes + number) n) p.front
-            ∙ ap (λ (i : ℕ). get_or (entries_of aliases includes ++ finals) i n) (sym size)
-            ∙ get_or-append-add (entries_of aliases includes) finals number n
+            ∙ ap (λ (i : ℕ). get_or (entries_of aliases includes ++ later) i n) (sym size)
+            ∙ get_or-append-add (entries_of aliases includes) later number n
             ∙ same),
       )
 
   -- a node that isn't found behind them
-  pub new_grows : (n : Node) → is_final n ≡ true → position (same_node n) finals ≡ None → with_nodes nodes (n ∷ []) ≡ nodes ++ n ∷ []
-  new_grows n final none =
-      let no_final : list_any (same_node n) finals ≡ false = none_by_place (same_node n) finals none in
-      let no_alias = no_entry n final Alias (final_alias n final) (range_with_len 0 aliases) in
-      let no_include = no_entry n final Include (final_include n final) (range_with_len 0 includes) in
-      let no_front : list_any (same_node n) (entries_of aliases includes) ≡ false =
-      list_any-append (same_node n) (map Alias (range_with_len 0 aliases)) (map Include (range_with_len 0 includes))
-      ∙ or_from (list_any (same_node n) (map Alias (range_with_len 0 aliases))) (list_any (same_node n) (map Include (range_with_len 0 includes))) no_alias no_include in
+  pub new_grows : (n : Node) → list_any (same_node n) (entries_of aliases includes) ≡ false → position (same_node n) later ≡ None → with_nodes nodes (n ∷ []) ≡ nodes ++ n ∷ []
+  new_grows n no_front none =
+      let no_later : list_any (same_node n) later ≡ false = none_by_place (same_node n) later none in
       let no_node : list_any (same_node n) nodes ≡ false =
       ap (λ (ns : List Node). list_any (same_node n) ns) p.front
-      ∙ list_any-append (same_node n) (entries_of aliases includes) finals
-      ∙ or_from (list_any (same_node n) (entries_of aliases includes)) (list_any (same_node n) finals) no_front no_final in
+      ∙ list_any-append (same_node n) (entries_of aliases includes) later
+      ∙ or_from (list_any (same_node n) (entries_of aliases includes)) (list_any (same_node n) later) no_front no_later in
       with_nodes-one nodes n ∙ with_node-new nodes n no_node
 
-  pub new_numbered : (n : Node) → is_final n ≡ true → (length nodes ≡ limit → ⊥) → AreNumbered (nodes ++ n ∷ []) aliases includes limit key (hashes ++ node_hash key n ∷ [])
-  new_numbered n final more =
-      let behind : finals_of aliases includes (nodes ++ n ∷ []) ≡ finals ++ n ∷ [] = drop-append-le (aliases + includes) nodes (n ∷ []) (omega (arith, long)) in
+  pub new_numbered : (n : Node) → (length nodes ≡ limit → ⊥) → AreNumbered (nodes ++ n ∷ []) aliases includes limit key (hashes ++ node_hash key n ∷ [])
+  new_numbered n more =
+      let behind : behind_of aliases includes (nodes ++ n ∷ []) ≡ later ++ n ∷ [] = drop-append-le (aliases + includes) nodes (n ∷ []) (omega (arith, long)) in
       record {
-        front = ap (λ (ns : List Node). ns ++ n ∷ []) p.front ∙ append_assoc (entries_of aliases includes) finals (n ∷ []) ∙ ap (λ (ns : List Node). entries_of aliases includes ++ ns) (sym behind);
-        final = subst (λ (ns : List Node). All (λ x. is_final x ≡ true) ns) (sym behind) (All-push (λ x. is_final x ≡ true) finals n p.final final);
-        hashed = ap (λ (hs : List ℕ). hs ++ node_hash key n ∷ []) p.hashed ∙ sym (map_push (node_hash key) finals n) ∙ ap (map (node_hash key)) (sym behind);
+        front = ap (λ (ns : List Node). ns ++ n ∷ []) p.front ∙ append_assoc (entries_of aliases includes) later (n ∷ []) ∙ ap (λ (ns : List Node). entries_of aliases includes ++ ns) (sym behind);
+        hashed = ap (λ (hs : List ℕ). hs ++ node_hash key n ∷ []) p.hashed ∙ sym (map_push (node_hash key) later n) ∙ ap (map (node_hash key)) (sym behind);
         fits = p.fits;
         small = p.small;
         within = omega (arith, length_push nodes n, p.within);

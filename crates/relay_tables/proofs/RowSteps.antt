@@ -16,7 +16,7 @@ use Rattle.relay_tables.specs.Targets.{item_target, items_of_entry, items_of_inc
 use Rattle.relay_tables.specs.declared.fault.TableFault.{TableFault}
 use Rattle.relay_tables.specs.declared.fault.TableFault.TheVariants.{TooManyNames, TooManyOwners, Memory}
 use Rattle.relay_tables.specs.Directory.{Directory}
-use Rattle.relay_tables.specs.Numbering.{Numbered, with_nodes, with_all, Numbers, IsFor}
+use Rattle.relay_tables.specs.Numbering.{Numbered, with_nodes, with_all, Numbers}
 use Rattle.relay_tables.specs.Rowing.{nodes_in, some_of, LeadTo, Adds}
 use Rattle.relay_tables.proofs.Firsts.{with_nodes-none, with_nodes-append, no_fewer, stays}
 use Rattle.relay_tables.proofs.Runs.{flat_run_more}
@@ -34,10 +34,6 @@ with_all-append s xs ys = ap (with_these s) (sym (with_nodes-append s.nodes xs y
 pub with_all-more : (s mid new : Numbered) (xs ys all : List Node) → mid ≡ with_all s xs → new ≡ with_all mid ys → all ≡ xs ++ ys → new ≡ with_all s all
 with_all-more s mid new xs ys all before step is =
     step ∙ ap (λ (m : Numbered). with_all m ys) before ∙ with_all-append s xs ys ∙ ap (with_all s) (sym is)
-
--- the numbering stays that of its directory
-pub still_for : (d : Directory) (s new : Numbered) (xs : List Node) → new ≡ with_all s xs → IsFor d s → IsFor d new
-still_for d s new xs is h = (ap (λ (m : Numbered). m.aliases) is ∙ h.0, ap (λ (m : Numbered). m.includes) is ∙ h.1)
 
 -- where a step finds too many nodes, all steps do
 pub too_many : (s mid : Numbered) (xs ys rest all : List Node) → mid ≡ with_all s xs → all ≡ xs ++ ys ++ rest → mid.limit < length (with_nodes mid.nodes ys) → s.limit < length (with_nodes s.nodes all)

@@ -135,13 +135,13 @@ module _ (d : Directory) where
   get_stays alias old new k s (inl same) at = ap (λ (ss : List Sender). slice_get ss k) same ∙ at
   get_stays alias old new k s (inr added) at = ap (λ (ss : List Sender). slice_get ss k) added.2 ∙ get-append old (Some (sender_by d added.0) ∷ []) k s at
 
-  owned_stays : (alias : ℕ) (old new : List Sender) (number : Option ℕ) (owner : Option Entry) → MayAddOwner d alias old new → IsOwnedBy d old number owner → IsOwnedBy d new number owner
+  pub owned_stays : (alias : ℕ) (old new : List Sender) (number : Option ℕ) (owner : Option Entry) → MayAddOwner d alias old new → IsOwnedBy d old number owner → IsOwnedBy d new number owner
   owned_stays alias old new None None m h = tt
   owned_stays alias old new None (Some owner) m h = h
   owned_stays alias old new (Some number) None m h = h
   owned_stays alias old new (Some number) (Some owner) m h = get_stays alias old new number (Some (sender_by d owner)) m h
 
-  of_stays : (alias : ℕ) (sender : Sender) (old new : List Sender) → MayAddOwner d alias old new → AreOf d sender old → AreOf d sender new
+  pub of_stays : (alias : ℕ) (sender : Sender) (old new : List Sender) → MayAddOwner d alias old new → AreOf d sender old → AreOf d sender new
   of_stays alias sender old new (inl same) h = subst (λ (ss : List Sender). AreOf d sender ss) (sym same) h
   of_stays alias sender old new (inr added) h =
       let last : Sender = Some (sender_by d added.0) in

@@ -91,3 +91,15 @@ pub record IsGraphOf (d : Directory) (sender : Sender) (recipients : List Addres
   pub envelope_first : slice_get g.senders 0 ≡ Some sender
   pub other_senders : (s : ℕ) (a : Sender) → 0 < s → slice_get g.senders s ≡ Some a → IsOwnerSender d a
   pub after : (s k : ℕ) (a : Sender) (n : Node) → slice_get g.senders s ≡ Some a → slice_get g.nodes k ≡ Some n → slice_get g.senders (sender_number_after g s k) ≡ Some (sender_past d a n)
+
+-- Each node once, the recipients' targets and all that they lead to among them, children and roots as their targets are; the envelope's
+-- sender first, and the senders after each node. What nobody reaches need not be there: of a whole graph it is all that `IsGraphOf` says
+-- but which nodes there are.
+pub record IsGraphFrom (d : Directory) (sender : Sender) (recipients : List AddressParts) (g : GraphParts) : Type 0 where
+  pub distinct : AllPairs (λ m n. m ≢ n) g.nodes
+  pub children : (k : ℕ) (n : Node) → slice_get g.nodes k ≡ Some n → nodes_at g (child_numbers g k) ≡ map (λ t. Some t) (targets_of d n)
+  pub roots : nodes_at g g.roots ≡ map (λ a. Some (recipient_target d a)) recipients
+  pub senders_distinct : AllPairs (λ s t. s ≢ t) g.senders
+  pub envelope_first : slice_get g.senders 0 ≡ Some sender
+  pub other_senders : (s : ℕ) (a : Sender) → 0 < s → slice_get g.senders s ≡ Some a → IsOwnerSender d a
+  pub after : (s k : ℕ) (a : Sender) (n : Node) → slice_get g.senders s ≡ Some a → slice_get g.nodes k ≡ Some n → slice_get g.senders (sender_number_after g s k) ≡ Some (sender_past d a n)

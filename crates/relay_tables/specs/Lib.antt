@@ -15,3 +15,4 @@ pub mod Numbering
 pub mod Rowing
 pub mod Sending
 pub mod Building
+pub mod Reaches

@@ -1,6 +1,7 @@
 -- Nodes that come one by one, each numbered by its first place.
-use Rattle.std.specs.Prelude.{◌≡◌, ℕ, ◌+◌, ◌<◌, ◌≤◌, ◌^◌, Bool, true, false, List, [], ◌∷◌, ◌++◌, length, map, drop, All, IsTrue, Result, Ok, Err, ⊤, if◌then◌else◌}
+use Rattle.std.specs.Prelude.{◌≡◌, ℕ, ◌+◌, ◌<◌, ◌≤◌, ◌^◌, false, List, [], ◌∷◌, ◌++◌, length, map, drop, IsTrue, Result, Ok, Err, ⊤, if◌then◌else◌}
 use Rattle.std.specs.List.{list_any, range_with_len}
+use Rattle.std.specs.Int.{w32, to_le_bytes}
 use Rattle.relay_chains.specs.TextHash.{text_hash}
 use Rattle.relay_text.specs.AddressParts.{AddressParts}
 use Rattle.relay_text.specs.Addresses.{is_address}
@@ -11,10 +12,9 @@ use Rattle.relay_tables.specs.declared.fault.TableFault.{TableFault}
 use Rattle.relay_tables.specs.declared.fault.TableFault.TheVariants.{TooManyNames, TooManyOwners, Memory}
 use Rattle.relay_tables.specs.declared.lead.Lead.{Lead}
 use Rattle.relay_tables.specs.declared.lead.Lead.TheVariants as lead
-use Rattle.relay_tables.specs.Directory.{Directory}
 use Rattle.relay_tables.specs.Graphs.{same_node}
 
--- The nodes by their numbers, and how many there may be. The aliases stand first, and then the include files.
+-- The nodes by their numbers, and how many there may be. So many of the aliases stand first, and then so many of the include files.
 pub record Numbered : Type 0 where
   pub nodes : List Node
   pub aliases : ℕ
@@ -55,21 +55,6 @@ node_of (lead.NoInclude path) = NoInclude path.now
 node_of (lead.Command text) = Command text.now
 node_of (lead.File path) = File path.now
 
--- the numbering of a directory's nodes
-abbrev pub IsFor : Directory → Numbered → Type 0
-IsFor d s = (s.aliases ≡ length d.aliases) × (s.includes ≡ length d.includes)
-
--- an entry is there, and an address is one
-abbrev pub IsGood : ℕ → ℕ → Node → Type 0
-IsGood aliases includes (Alias number) = number < aliases
-IsGood aliases includes (Include number) = number < includes
-IsGood aliases includes (Mailbox a) = IsTrue (is_address a)
-IsGood aliases includes (Remote a) = IsTrue (is_address a)
-IsGood aliases includes (Missing name) = ⊤
-IsGood aliases includes (NoInclude path) = ⊤
-IsGood aliases includes (Command text) = ⊤
-IsGood aliases includes (File path) = ⊤
-
 -- an address is one
 abbrev pub HasGoodAddress : Node → Type 0
 HasGoodAddress (Alias number) = ⊤
@@ -81,25 +66,18 @@ HasGoodAddress (NoInclude path) = ⊤
 HasGoodAddress (Command text) = ⊤
 HasGoodAddress (File path) = ⊤
 
--- all but the aliases and the include files
-abbrev pub is_final : Node → Bool
-is_final (Alias number) = false
-is_final (Include number) = false
-is_final (Mailbox a) = true
-is_final (Remote a) = true
-is_final (Missing name) = true
-is_final (NoInclude path) = true
-is_final (Command text) = true
-is_final (File path) = true
+-- none of the entries that stand first
+abbrev pub IsBehind : Numbered → Node → Type 0
+IsBehind s n = list_any (same_node n) (entries_of s.aliases s.includes) ≡ false
 
 -- the text by which an address is told: its domain comes first, after its length
 abbrev pub address_key : AddressParts → List ℕ
 address_key a = length a.domain ∷ (a.domain ++ a.local)
 
--- The hash by which a node is found. A mailbox is found as its name is.
+-- The hash by which a node is found: an alias and an include file are found by the bytes of their numbers, and a mailbox as its name is.
 unfoldable pub node_hash : ℕ → Node → ℕ
-node_hash key (Alias number) = 0
-node_hash key (Include number) = 0
+node_hash key (Alias number) = text_hash key (to_le_bytes w32 number)
+node_hash key (Include number) = text_hash key (to_le_bytes w32 number)
 node_hash key (Mailbox a) = text_hash key a.local
 node_hash key (Remote a) = text_hash key (joined_text_of a)
 node_hash key (Missing name) = text_hash key name
@@ -107,15 +85,14 @@ node_hash key (NoInclude path) = text_hash key path
 node_hash key (Command text) = text_hash key text
 node_hash key (File path) = text_hash key path
 
--- the nodes behind the aliases and the include files
-abbrev pub finals_of : ℕ → ℕ → List Node → List Node
-finals_of aliases includes nodes = drop (aliases + includes) nodes
+-- the nodes behind the aliases and include files that stand first
+abbrev pub behind_of : ℕ → ℕ → List Node → List Node
+behind_of aliases includes nodes = drop (aliases + includes) nodes
 
--- The entries stand first, and the hashes are those of the nodes behind them.
+-- So many entries stand first, and the hashes are those of the nodes behind them.
 pub record AreNumbered (nodes : List Node) (aliases includes limit key : ℕ) (hashes : List ℕ) : Type 0 where
-  pub front : nodes ≡ entries_of aliases includes ++ finals_of aliases includes nodes
-  pub final : All (λ n. is_final n ≡ true) (finals_of aliases includes nodes)
-  pub hashed : hashes ≡ map (node_hash key) (finals_of aliases includes nodes)
+  pub front : nodes ≡ entries_of aliases includes ++ behind_of aliases includes nodes
+  pub hashed : hashes ≡ map (node_hash key) (behind_of aliases includes nodes)
   pub fits : aliases + includes ≤ limit
   pub small : limit ≤ 2 ^ 24
   pub within : length nodes ≤ limit

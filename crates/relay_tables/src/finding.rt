@@ -15,8 +15,7 @@ pub(crate) fn lead_hash(key: u64, lead: Lead<'_>) -> u32
     ensures { result ≡ node_hash key (node_of lead.entry) }
 {
     match lead {
-        Lead::Alias(_) => 0,
-        Lead::Include(_) => 0,
+        Lead::Alias(number) | Lead::Include(number) => hash_text(key, &number.to_le_bytes()),
         Lead::Mailbox(local, _) => hash_text(key, local),
         Lead::Written(address) => hash_text(key, address.local()),
         Lead::Remote(address) => hash_text(key, address.joined()),

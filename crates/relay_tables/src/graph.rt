@@ -1,11 +1,12 @@
 //! The numbered graph of what leads to what.
 ghost use Rattle.std.specs.Prelude.{◌≡◌, ◌<◌, ◌≤◌, ◌^◌, ◌+◌, ◌++◌, length, slice_get, Some, Err, IfOk, OnOk, option_map, option_copied};
-ghost use Rattle.relay_tables.specs.Graphs.{IsClosedGraph, IsGraphOf, owner_count, refusal_of, Refuses, child_numbers, parent_numbers, sender_number_after};
+ghost use Rattle.relay_tables.specs.Graphs.{IsClosedGraph, IsGraphOf, IsGraphFrom, nodes_of, owner_count, refusal_of, Refuses, child_numbers, parent_numbers, sender_number_after};
 
 use crate::adjacency::Adjacency;
 use crate::building::{Rows, number_all};
 use crate::fault::TableFault;
 use crate::node::Node;
+use crate::reaching::{Reach, reach_all};
 use crate::sending::{SenderList, count_owners, number_owners};
 use crate::tables::Tables;
 use crate::transpose::transposed;
@@ -13,11 +14,10 @@ use relay_text::Address;
 use std::alloc::Global;
 use std::marker::Model;
 
-/// Every alias of the tables, every include file and every target of an item or a recipient as a numbered node, and which leads to
-/// which; and the senders that owners give, numbered too.
+/// The aliases of the tables, the include files and the targets of items and recipients as numbered nodes, and which leads to which; and
+/// the senders that owners give, numbered too. `build` takes all of them, and `reached` what the recipients lead to.
 ///
-/// Aliases have the first numbers, then include files, then all other targets as they first stand in the items of aliases, of include
-/// files, and among the recipients. Children and parents lie in one vector each: 4 bytes for an item, and 8 for a node.
+/// Children and parents lie in one vector each: 4 bytes for an item, and 8 for a node.
 #[derive(Drop)]
 pub struct Graph {
     nodes: Vec<Node>,
@@ -41,6 +41,9 @@ impl Model for Graph {
 
 impl Graph {
     /// The graph of the tables, and of the envelope's sender, `None` for the null sender, and recipients.
+    ///
+    /// Aliases have the first numbers, then include files, then all other targets as they first stand in the items of aliases, of include
+    /// files, and among the recipients.
     ///
     /// `TooManyNames` where there are more nodes than `names`, otherwise `TooManyOwners` where more aliases have an owner than
     /// `owners`, whatever they give as sender. The time is near linear in the items and recipients.
@@ -80,6 +83,46 @@ impl Graph {
             roots,
             senders: senders.into_vec(),
             owners: numbers,
+        })
+    }
+
+    /// The graph of what an envelope reaches: the recipients' targets and all that they lead to, numbered as they are found, under the
+    /// envelope's sender, `None` for the null sender. It takes the time and memory of that, and not of the tables.
+    ///
+    /// `TooManyNames` where more than `names` nodes are reached, and so only where `build` gives it too. Owners aren't limited: no more are
+    /// reached than nodes.
+    pub fn reached(
+        alloc: Global,
+        tables: &Tables,
+        sender: Option<&Address>,
+        recipients: &[Address],
+        names: usize,
+    ) -> Result<Graph, TableFault>
+        requires names { names ≤ 2 ^ 24 }
+        ensures graph { IfOk result (IsGraphFrom tables.now (option_map (λ a. a.now) sender.entry) recipients.now) }
+        ensures nodes { IfOk result (λ graph. length graph.nodes ≤ names) }
+        ensures senders { IfOk result (λ graph. length graph.senders ≤ length graph.nodes + 1) }
+        ensures full { result ≡ Err TableFault.TooManyNames → names < length (nodes_of tables.now recipients.now) }
+        ensures owners { result ≡ Err TableFault.TooManyOwners → ⊥ }
+    {
+        let found = reach_all(alloc, tables, sender, recipients, names)?;
+        let count = found.names.len();
+        let parents = transposed(alloc, &found.children, count)?;
+        let Reach {
+            names: numbering,
+            roots,
+            children,
+            senders: list,
+            owners,
+            scratch: _,
+        } = found;
+        Ok(Graph {
+            nodes: numbering.into_nodes(),
+            children,
+            parents,
+            roots,
+            senders: list.into_vec(),
+            owners,
         })
     }
 

@@ -4,7 +4,7 @@ ghost use Rattle.std.specs.List.{list_all};
 ghost use Rattle.relay_text.specs.Bytes.{folded};
 ghost use Rattle.relay_tables.specs.Parts.{is_local_part, is_good_item};
 ghost use Rattle.relay_tables.specs.Targets.{resolved, node_named, name_target, address_target, include_target, include_number, item_target, recipient_target};
-ghost use Rattle.relay_tables.specs.Numbering.{node_of, Numbers, IsGood, IsFor};
+ghost use Rattle.relay_tables.specs.Numbering.{node_of, Numbers, HasGoodAddress};
 
 use crate::domain_kind::DomainKind;
 use crate::fault::TableFault;
@@ -22,7 +22,7 @@ fn lead_named<'a>(tables: &'a Tables, name: &'a [u8], parent: Option<u32>) -> Le
     requires local { IsTrue (is_local_part name.now) }
     requires parent { IfSome parent (λ number. number < length tables.now.aliases) }
     ensures lead { node_of result ≡ node_named tables.now name.now (resolved tables.now name.now parent) }
-    ensures good { IsGood (length tables.now.aliases) (length tables.now.includes) (node_of result) }
+    ensures good { HasGoodAddress (node_of result) }
 {
     let origin = tables.origin();
     match tables.resolve(name, parent) {
@@ -38,7 +38,7 @@ fn lead_written<'a>(tables: &Tables, address: &'a Address, parent: Option<u32>) 
     requires origin { address.now.domain ≡ tables.now.local.origin }
     requires parent { IfSome parent (λ number. number < length tables.now.aliases) }
     ensures lead { node_of result ≡ node_named tables.now address.now.local (resolved tables.now address.now.local parent) }
-    ensures good { IsGood (length tables.now.aliases) (length tables.now.includes) (node_of result) }
+    ensures good { HasGoodAddress (node_of result) }
 {
     let local = address.local();
     match tables.resolve(local, parent) {
@@ -51,7 +51,7 @@ fn lead_written<'a>(tables: &Tables, address: &'a Address, parent: Option<u32>) 
 // What the path of an include item leads to.
 fn lead_included<'a>(tables: &Tables, path: &'a [u8]) -> Lead<'a>
     ensures lead { node_of result ≡ include_target tables.now path.now (include_number tables.now path.now) }
-    ensures good { IsGood (length tables.now.aliases) (length tables.now.includes) (node_of result) }
+    ensures good { HasGoodAddress (node_of result) }
 {
     match tables.include_of(path) {
         Some(number) => Lead::Include(number),
@@ -77,7 +77,6 @@ fn number_folded(
     requires folded { folded name.now ≡ name.now }
     requires local { IsTrue (is_local_part name.now) }
     requires parent { IfSome parent (λ number. number < length tables.now.aliases) }
-    requires names { IsFor tables.now names.old }
     ensures number { IfOk result (λ number. slice_get names.new.nodes number ≡ Some (node_named tables.now name.now (resolved tables.now name.now parent))) }
     ensures numbers { Numbers names.old (node_named tables.now name.now (resolved tables.now name.now parent) ∷ []) result names.new }
 {
@@ -96,7 +95,6 @@ fn number_name(
 ) -> Result<u32, TableFault>
     requires local { IsTrue (is_local_part local.now) }
     requires parent { IfSome parent (λ number. number < length tables.now.aliases) }
-    requires names { IsFor tables.now names.old }
     ensures number { IfOk result (λ number. slice_get names.new.nodes number ≡ Some (name_target tables.now parent local.now)) }
     ensures numbers { Numbers names.old (name_target tables.now parent local.now ∷ []) result names.new }
 {
@@ -120,7 +118,6 @@ fn number_at_origin(
 ) -> Result<u32, TableFault>
     requires origin { address.now.domain ≡ tables.now.local.origin }
     requires parent { IfSome parent (λ number. number < length tables.now.aliases) }
-    requires names { IsFor tables.now names.old }
     ensures number { IfOk result (λ number. slice_get names.new.nodes number ≡ Some (name_target tables.now parent address.now.local)) }
     ensures numbers { Numbers names.old (name_target tables.now parent address.now.local ∷ []) result names.new }
 {
@@ -142,7 +139,6 @@ pub(crate) fn number_address(
     name: &mut Vec<u8>,
 ) -> Result<u32, TableFault>
     requires parent { IfSome parent (λ number. number < length tables.now.aliases) }
-    requires names { IsFor tables.now names.old }
     ensures number { IfOk result (λ number. slice_get names.new.nodes number ≡ Some (address_target tables.now parent address.now)) }
     ensures numbers { Numbers names.old (address_target tables.now parent address.now ∷ []) result names.new }
 {
@@ -165,7 +161,6 @@ pub(crate) fn number_item(
 ) -> Result<u32, TableFault>
     requires item { IsTrue (is_good_item item.now) }
     requires parent { IfSome parent (λ number. number < length tables.now.aliases) }
-    requires names { IsFor tables.now names.old }
     ensures number { IfOk result (λ number. slice_get names.new.nodes number ≡ Some (item_target tables.now parent item.now)) }
     ensures numbers { Numbers names.old (item_target tables.now parent item.now ∷ []) result names.new }
 {

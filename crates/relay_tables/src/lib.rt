@@ -3,6 +3,7 @@
 
 mod adjacency;
 mod building;
+pub mod counting;
 mod domain_kind;
 pub mod fault;
 mod finding;
@@ -18,12 +19,14 @@ pub mod node;
 mod numbering;
 mod owning;
 pub mod parsed;
+mod reaching;
 mod rowing;
 mod sending;
 pub mod tables;
 pub mod target;
 mod transpose;
 
+pub use counting::{TableCounts, names_are_counted};
 pub use fault::TableFault;
 pub use graph::Graph;
 pub use include_entry::IncludeEntry;

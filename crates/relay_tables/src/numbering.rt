@@ -1,8 +1,8 @@
 //! Nodes by their numbers.
-ghost use Rattle.std.specs.Prelude.{◌≡◌, ◌<◌, ◌≤◌, ◌+◌, ◌^◌, ◌∷◌, ◌++◌, [], true, length, map, slice_get, Some, IfOk, OnOk, Err};
+ghost use Rattle.std.specs.Prelude.{◌≡◌, ◌<◌, ◌≤◌, ◌+◌, ◌^◌, ◌∷◌, ◌++◌, [], length, map, slice_get, Some, None, IfOk, IfSome, OnOk, Err};
 ghost use Rattle.std.specs.List.{range_with_len};
 ghost use Rattle.relay_tables.specs.declared.node.Node.TheVariants.{Alias, Include};
-ghost use Rattle.relay_tables.specs.Numbering.{node_of, entries_of, with_all, with_nodes, is_final, Numbers, IsGood};
+ghost use Rattle.relay_tables.specs.Numbering.{node_of, entries_of, with_all, with_nodes, Numbers, HasGoodAddress, IsBehind};
 
 use crate::fault::TableFault;
 use crate::finding::{lead_hash, place_of};
@@ -13,9 +13,10 @@ use relay_chains::Links;
 use std::alloc::{AllocError, Global};
 use std::marker::Model;
 
-/// Nodes in the order of their numbers, each once: the aliases first, then the include files, and then all others as they come.
+/// Nodes in the order of their numbers, each once: so many of the aliases first, then so many of the include files, and then all others
+/// as they come.
 ///
-/// An alias or include file has its number by its place; any other node is found by the hash of its text, which is read in the node itself.
+/// An entry that stands in front has its number by its place. Any other node is found by its hash, and what tells it is read in the node.
 #[derive(Drop)]
 pub(crate) struct Numbering {
     nodes: Vec<Node>,
@@ -37,8 +38,8 @@ impl Model for Numbering {
 }
 
 impl Numbering {
-    /// The aliases and include files, where there are so many, and at most `limit` nodes ever, found under a key. Take about as many
-    /// heads as other nodes are expected: there is room for so many of them, so that none is copied when more come.
+    /// So many aliases and so many include files in front, and at most `limit` nodes ever, found under a key. Take about as many heads as
+    /// other nodes are expected: there is room for so many of them, so that none is copied when more come.
     pub(crate) fn new(
         alloc: Global,
         key: u64,
@@ -73,29 +74,51 @@ impl Numbering {
 
     /// The number of a node. A new one gets the next number, where there is room for it.
     pub(crate) fn number(&mut self, alloc: Global, lead: Lead<'_>) -> Result<u32, TableFault>
-        requires { IsGood self.old.aliases self.old.includes (node_of lead) }
+        requires { HasGoodAddress (node_of lead) }
         ensures number { IfOk result (λ number. slice_get self.new.nodes number ≡ Some (node_of lead.entry)) }
         ensures numbers { Numbers self.old (node_of lead.entry ∷ []) result self.new }
     {
-        let first_include = self.aliases as u32;
-        match lead {
-            Lead::Alias(number) => Ok(number),
-            Lead::Include(number) => Ok(first_include + number),
-            _ => self.number_final(alloc, lead),
+        match self.number_in_front(lead) {
+            Some(number) => Ok(number),
+            None => self.number_behind(alloc, lead),
         }
     }
 
-    // The same of a node that is no entry.
-    fn number_final(&mut self, alloc: Global, lead: Lead<'_>) -> Result<u32, TableFault>
-        requires good { IsGood self.old.aliases self.old.includes (node_of lead) }
-        requires behind { is_final (node_of lead) ≡ true }
+    // The number of an entry that stands in front.
+    fn number_in_front(&self, lead: Lead<'_>) -> Option<u32>
+        ensures found { IfSome result (λ number. slice_get self.now.nodes number ≡ Some (node_of lead.entry)) }
+        ensures behind { result ≡ None → IsBehind self.now (node_of lead.entry) }
+    {
+        match lead {
+            Lead::Alias(number) => {
+                if (number as usize) < self.aliases {
+                    Some(number)
+                } else {
+                    None
+                }
+            }
+            Lead::Include(number) => {
+                if (number as usize) < self.includes {
+                    Some(self.aliases as u32 + number)
+                } else {
+                    None
+                }
+            }
+            _ => None,
+        }
+    }
+
+    // The number of a node that is none of these.
+    fn number_behind(&mut self, alloc: Global, lead: Lead<'_>) -> Result<u32, TableFault>
+        requires good { HasGoodAddress (node_of lead) }
+        requires behind { IsBehind self.old (node_of lead) }
         ensures number { IfOk result (λ number. slice_get self.new.nodes number ≡ Some (node_of lead.entry)) }
         ensures numbers { Numbers self.old (node_of lead.entry ∷ []) result self.new }
     {
         let hash = lead_hash(self.key, lead);
         let entries = self.aliases + self.includes;
-        let finals = &self.nodes[entries..];
-        if let Some(place) = place_of(finals, &self.links, self.key, hash, lead) {
+        let behind = &self.nodes[entries..];
+        if let Some(place) = place_of(behind, &self.links, self.key, hash, lead) {
             return Ok(entries as u32 + place);
         }
         let number = self.nodes.len();
@@ -110,11 +133,20 @@ impl Numbering {
         Ok(number as u32)
     }
 
-    /// How many aliases there are.
-    pub(crate) fn aliases(&self) -> usize
-        ensures { result ≡ self.now.aliases }
+    /// How many nodes there are.
+    pub(crate) fn len(&self) -> usize
+        ensures value { result ≡ length self.now.nodes }
+        ensures within { length self.now.nodes ≤ self.now.limit }
     {
-        self.aliases
+        self.nodes.len()
+    }
+
+    /// A node by its number.
+    pub(crate) fn node(&self, number: usize) -> &Node
+        requires { number < length self.now.nodes }
+        ensures { slice_get self.now.nodes number ≡ Some result.now }
+    {
+        &self.nodes[number]
     }
 
     /// The nodes in the order of their numbers, without taking memory.

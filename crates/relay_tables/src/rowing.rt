@@ -4,7 +4,7 @@ ghost use Rattle.std.specs.List.{list_all, range_with_len};
 ghost use Rattle.relay_tables.specs.declared.node.Node.TheVariants.{Alias, Include};
 ghost use Rattle.relay_tables.specs.Parts.{is_good_item};
 ghost use Rattle.relay_tables.specs.Targets.{item_target, recipient_target, targets_of};
-ghost use Rattle.relay_tables.specs.Numbering.{Numbers, IsFor};
+ghost use Rattle.relay_tables.specs.Numbering.{Numbers};
 ghost use Rattle.relay_tables.specs.Rowing.{nodes_in, some_of, Adds};
 
 use crate::adjacency::Adjacency;
@@ -23,8 +23,8 @@ pub(crate) struct Scratch {
     pub(crate) row: Vec<u32>,
 }
 
-// The numbers of the targets of items that stand in a parent, in their order, with repeats.
-fn number_items(
+/// The numbers of the targets of items that stand in a parent, in their order, with repeats: they go into the scratch's row.
+pub(crate) fn number_items(
     alloc: Global,
     tables: &Tables,
     items: &[Item],
@@ -34,7 +34,6 @@ fn number_items(
 ) -> Result<(), TableFault>
     requires items { IsTrue (list_all is_good_item items.now) }
     requires parent { IfSome parent (λ number. number < length tables.now.aliases) }
-    requires names { IsFor tables.now names.old }
     ensures row { OnOk result (nodes_in names.new.nodes scratch.new.row.items ≡ some_of (map (item_target tables.now parent) items.now)) }
     ensures numbers { Numbers names.old (map (item_target tables.now parent) items.now) result names.new }
 {
@@ -54,7 +53,6 @@ pub(crate) fn number_aliases(
     scratch: &mut Scratch,
     rows: &mut Adjacency,
 ) -> Result<(), TableFault>
-    requires names { IsFor tables.now names.old }
     ensures rows { OnOk result (Adds names.old.nodes rows.old (map (λ n. targets_of tables.now (Alias n)) (range_with_len 0 (length tables.now.aliases))) names.new.nodes rows.new) }
     ensures numbers { Numbers names.old (flat_map (λ n. targets_of tables.now (Alias n)) (range_with_len 0 (length tables.now.aliases))) result names.new }
 {
@@ -75,7 +73,6 @@ pub(crate) fn number_includes(
     scratch: &mut Scratch,
     rows: &mut Adjacency,
 ) -> Result<(), TableFault>
-    requires names { IsFor tables.now names.old }
     ensures rows { OnOk result (Adds names.old.nodes rows.old (map (λ n. targets_of tables.now (Include n)) (range_with_len 0 (length tables.now.includes))) names.new.nodes rows.new) }
     ensures numbers { Numbers names.old (flat_map (λ n. targets_of tables.now (Include n)) (range_with_len 0 (length tables.now.includes))) result names.new }
 {
@@ -96,7 +93,6 @@ pub(crate) fn number_recipients(
     names: &mut Numbering,
     scratch: &mut Scratch,
 ) -> Result<Vec<u32>, TableFault>
-    requires names { IsFor tables.now names.old }
     ensures roots { IfOk result (λ roots. nodes_in names.new.nodes roots.items ≡ some_of (map (recipient_target tables.now) recipients.now)) }
     ensures numbers { Numbers names.old (map (recipient_target tables.now) recipients.now) result names.new }
 {

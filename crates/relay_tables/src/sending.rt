@@ -114,8 +114,8 @@ pub(crate) fn count_owners(tables: &Tables) -> usize
     count
 }
 
-// The number of the sender that an alias's owner gives, where it has one.
-fn number_owner(
+/// The number of the sender that an alias's owner gives, where it has one.
+pub(crate) fn number_owner(
     alloc: Global,
     tables: &Tables,
     alias: u32,

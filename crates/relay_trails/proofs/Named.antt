@@ -11,7 +11,7 @@ use Rattle.relay_tables.specs.Directory.{Directory}
 use Rattle.relay_tables.specs.GraphParts.{GraphParts}
 use Rattle.relay_tables.specs.Targets.{recipient_target, targets_of}
 use Rattle.relay_tables.specs.Senders.{Sender, Pair, sender_past}
-use Rattle.relay_tables.specs.Graphs.{child_numbers, nodes_at, sender_number_after, IsGraphOf}
+use Rattle.relay_tables.specs.Graphs.{child_numbers, nodes_at, sender_number_after, IsGraphFrom}
 use Rattle.relay_pairs.specs.declared.reached.Reached.{Reached}
 use Rattle.relay_pairs.specs.Pairs.{IsReachedPair}
 use Rattle.relay_pairs.specs.Chains.{HasNumbers, IsReachedBy}
@@ -46,7 +46,7 @@ some_get : {X : Type 0} (xs : List X) (i : ℕ) → i < length xs → (x : X) ×
 some_get [] i h = absurd (omega arith)
 some_get (x ∷ xs) i h = (get_or (x ∷ xs) i x, slice_get-get_or (x ∷ xs) i x h)
 
-module _ (d : Directory) (sender : Sender) (recipients : List AddressParts) (g : GraphParts) (is : IsGraphOf d sender recipients g) where
+module _ (d : Directory) (sender : Sender) (recipients : List AddressParts) (g : GraphParts) (is : IsGraphFrom d sender recipients g) where
   -- numbers and their pair, or neither
   abbrev IsSameEnd : Option Reached → Option Pair → Type 0
   IsSameEnd None None = Unit {0}

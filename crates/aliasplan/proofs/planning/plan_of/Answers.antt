@@ -11,7 +11,7 @@ returns c =
     record {
       plan =
           plan_is job _ c.args.lines (c.of.ensures ∙ c.in_ok-hostname.ensures.items ∙ c.as_bytes.ensures) (subst (λ (ts : List Planned). AreTransactionsOf job ts) same c.requires.transactions)
-          c.in_ok-into_seq.ensures.all c.in_ok-into_seq.ensures.ascending c.requires.lines;
+          c.in_ok-into_seq.ensures.all c.in_ok-into_seq.ensures.ascending;
       sound = subst (λ (ts : List Planned). IsSoundFor job ts) same c.requires.sound;
       fewest = subst (λ (ts : List Planned). IsFewest job ts) same c.requires.fewest;
     }

@@ -1,6 +1,16 @@
-use Rattle.aliasplan.proofs.PlanFacts.{all_lines}
+use Rattle.std.proofs.Common.{◌⊎◌, List, ℕ}
+use Rattle.std.specs.Prelude.{IsTrue}
+use Rattle.std.proofs.lemmas.Result.{IfOk-weaker}
+use Rattle.relay_text.specs.Bytes.{has_text}
+use Rattle.aliasplan.specs.Report.{IsOwnFindingLine}
+use Rattle.aliasplan.proofs.PlanFacts.{own_lines, plan_over}
 use Rattle.aliasplan.proofs.planning.plan_reached.Goals as goal
 
-pub plan_of-requires-clause-lines : goal.plan_of-requires-clause-lines
-plan_of-requires-clause-lines g c = λ q.
-    all_lines c.args.job.now q c.args.lines c.report_reached.new.lines c.plan_addresses.new.lines (c.requires.lines q) (c.in_ok-report_reached.ensures q) (c.in_ok-transactions.ensures.lines q)
+pub returns-clause-plan : goal.returns-clause-plan
+returns-clause-plan g c =
+    let job = c.args.job.now in
+    let last = c.plan_addresses.new.lines in
+    IfOk-weaker c.plan_of.result _ _
+    (λ plan is. plan_over job plan (λ q. IsTrue (has_text last q)) (λ q. IsTrue (has_text c.args.lines q) ⊎ IsOwnFindingLine job q)
+    (λ q. own_lines job q c.args.lines c.report_reached.new.lines last (c.in_ok-report_reached.ensures q) (c.in_ok-transactions.ensures.lines q)) is)
+    c.plan_of.ensures.plan

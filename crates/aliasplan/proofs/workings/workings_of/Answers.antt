@@ -1,4 +1,5 @@
 use Rattle.std.proofs.lemmas.Result.{err_from_is_err_and}
+use Rattle.aliasplan.proofs.PlanFacts.{whole_plan}
 use Rattle.aliasplan.proofs.workings.workings_of.Goals as goal
 
 pub returns-in_err-graph-clause-refused : goal.returns-in_err-graph-clause-refused
@@ -10,3 +11,6 @@ pub returns-in_err-pairs-clause-refused : goal.returns-in_err-pairs-clause-refus
 returns-in_err-pairs-clause-refused g c =
     let p = err_from_is_err_and c.from_residual-in_err-pairs.result c.from_residual-in_err-pairs.ensures.1 in
     rw (p.1, p.2) c.in_err-pairs.ensures.refused
+
+pub returns-clause-plan : goal.returns-clause-plan
+returns-clause-plan g c = whole_plan c.args.job.now c.in-Ok.plan c.args.lines c.in-Ok.ensures.plan c.requires.lines

@@ -1,5 +1,6 @@
 use Rattle.std.proofs.Common.{◌≡◌, List, Some, slice_get, sym, ◌∙◌, subst}
 use Rattle.std.proofs.lemmas.Result.{IfOk-weaker}
+use Rattle.relay_tables.proofs.GraphsFrom.{from_whole}
 use Rattle.relay_trails.specs.declared.found.Found.{Found}
 use Rattle.relay_trails.specs.Chains.{AreBestBy}
 use Rattle.relay_trails.specs.Trails.{AreBestTrails}
@@ -15,7 +16,7 @@ returns-in-Some c =
     let node = c.args.node.now in
     let at : slice_get g.nodes c.in-Some.number ≡ Some node = found_at g.nodes node c.in-Some.number (sym c.number_of.ensures ∙ c.in-Some.is) in
     IfOk-weaker c.best_trails.result (λ found. AreBestTrails g c.in-Some.number found.items) _
-    (λ found all. c.trails_by_numbers.ensures.answers (directory_of job) job.sender job.recipients g c.requires.made.graph c.in-Some.number node at found.items all)
+    (λ found all. c.trails_by_numbers.ensures.answers (directory_of job) job.sender job.recipients g (from_whole (directory_of job) job.sender job.recipients g c.requires.made.graph) c.in-Some.number node at found.items all)
     c.best_trails.ensures
 
 pub returns-in-None : goal.returns-in-None

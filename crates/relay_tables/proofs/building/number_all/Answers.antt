@@ -2,8 +2,7 @@ use Rattle.std.proofs.Common.{rules, arith, ℕ, [], ◌++◌, Err, Vec, Global,
 use Rattle.std.proofs.lemmas.List.{append_assoc, append-nil}
 use Rattle.std.proofs.lemmas.Result.{err_from_is_err_and}
 use Rattle.relay_tables.specs.declared.fault.TableFault.{TableFault}
-use Rattle.relay_tables.specs.Numbering.{IsFor}
-use Rattle.relay_tables.proofs.Assembled.{alias_all, include_all, roots_all, entries_too_many, start_is, step_too_many, last_nodes, rows_made}
+use Rattle.relay_tables.proofs.Assembled.{IsFor, alias_all, include_all, roots_all, entries_too_many, start_is, step_too_many, last_nodes, rows_made}
 use Rattle.relay_tables.proofs.RowSteps.{same_fault, with_all-more, with_all-none}
 use Rattle.relay_tables.proofs.building.number_all.Goals as goal
 
@@ -18,7 +17,7 @@ returns-in_err-number_aliases-clause-full c =
     let d = c.args.tables.now in
     let rs = c.args.recipients.now in
     let s = c.in_ok-numbering.numbering in
-    let given : IsFor d s = search rules in
+    let given : IsFor d rs s = search rules in
     let start = start_is d rs c.args.names _ _ s c.in_ok-numbering.ensures.made given in
     let p = err_from_is_err_and c.from_residual-in_err-number_aliases.result c.from_residual-in_err-number_aliases.ensures.1 in
     rw (p.1, p.2) (λ e. step_too_many d rs (Unit {0}) c.in_err-number_aliases.field-0.0 c.args.names s s c.number_aliases.new.names [] (alias_all d rs) (include_all d rs ++ roots_all d rs)
@@ -29,7 +28,7 @@ returns-in_err-number_includes-clause-full c =
     let d = c.args.tables.now in
     let rs = c.args.recipients.now in
     let s = c.in_ok-numbering.numbering in
-    let given : IsFor d s = search rules in
+    let given : IsFor d rs s = search rules in
     let start = start_is d rs c.args.names _ _ s c.in_ok-numbering.ensures.made given in
     let p = err_from_is_err_and c.from_residual-in_err-number_includes.result c.from_residual-in_err-number_includes.ensures.1 in
     rw (p.1, p.2) (λ e. step_too_many d rs (Unit {0}) c.in_err-number_includes.field-0.0 c.args.names s c.number_aliases.new.names c.number_includes.new.names (alias_all d rs) (include_all d rs) (roots_all d rs)
@@ -40,7 +39,7 @@ returns-in_err-roots-clause-full c =
     let d = c.args.tables.now in
     let rs = c.args.recipients.now in
     let s = c.in_ok-numbering.numbering in
-    let given : IsFor d s = search rules in
+    let given : IsFor d rs s = search rules in
     let start = start_is d rs c.args.names _ _ s c.in_ok-numbering.ensures.made given in
     let both = with_all-more s c.number_aliases.new.names c.number_includes.new.names (alias_all d rs) (include_all d rs) (alias_all d rs ++ include_all d rs) c.in_ok-number_aliases.ensures.numbers c.in_ok-number_includes.ensures.numbers refl in
     let p = err_from_is_err_and c.from_residual-in_err-roots.result c.from_residual-in_err-roots.ensures.1 in
@@ -52,7 +51,7 @@ returns-clause-rows c =
     let d = c.args.tables.now in
     let rs = c.args.recipients.now in
     let s = c.in_ok-numbering.numbering in
-    let given : IsFor d s = search rules in
+    let given : IsFor d rs s = search rules in
     let start = start_is d rs c.args.names _ _ s c.in_ok-numbering.ensures.made given in
     rows_made d rs c.args.names s c.number_aliases.new.names c.number_includes.new.names c.number_recipients.new.names _ c.number_aliases.new.rows c.number_includes.new.rows c.in_ok-roots.roots.items _
     start c.in_ok-number_aliases.ensures.numbers c.in_ok-number_includes.ensures.numbers c.in_ok-roots.ensures.numbers c.in_ok-children.ensures
@@ -63,7 +62,7 @@ returns-clause-within c =
     let d = c.args.tables.now in
     let rs = c.args.recipients.now in
     let s = c.in_ok-numbering.numbering in
-    let given : IsFor d s = search rules in
+    let given : IsFor d rs s = search rules in
     let start = start_is d rs c.args.names _ _ s c.in_ok-numbering.ensures.made given in
     let last = last_nodes d rs c.args.names s c.number_aliases.new.names c.number_includes.new.names c.number_recipients.new.names start c.in_ok-number_aliases.ensures.numbers c.in_ok-number_includes.ensures.numbers c.in_ok-roots.ensures.numbers in
     omega (arith, last.1, ap length last.0, c.into_nodes.ensures.within)

@@ -3,11 +3,7 @@ use Rattle.relay_tables.specs.declared.node.Node.TheVariants.{Mailbox}
 use Rattle.relay_tables.specs.declared.target.Target.TheVariants as named
 use Rattle.relay_tables.specs.Targets.{at_origin, node_named, resolved}
 use Rattle.relay_tables.proofs.NodeKeys.{same_parts}
-use Rattle.relay_tables.proofs.Resolved.{resolved_below}
 use Rattle.relay_tables.proofs.leading.lead_written.Goals as goal
-
-pub returns-in-Alias-clause-good : goal.returns-in-Alias-clause-good
-returns-in-Alias-clause-good c = resolved_below c.args.tables.now c.local-local.result.now c.args.parent c.in-Alias.number (sym c.resolve.ensures ∙ c.in-Alias.is)
 
 pub returns-in-Mailbox-clause-lead : goal.returns-in-Mailbox-clause-lead
 returns-in-Mailbox-clause-lead c =

@@ -9,6 +9,7 @@ use Rattle.relay_tables.specs.Senders.{Sender}
 use Rattle.relay_tables.specs.Graphs.{entry_nodes}
 use Rattle.relay_tables.proofs.Assembled.{rows_below, rows_count, entries_within, graph_is, too_many_owners, not_refused, refused_by}
 use Rattle.relay_tables.proofs.ClosedGraphs.{closed_graph}
+use Rattle.relay_tables.proofs.GraphsFrom.{from_whole}
 use Rattle.relay_tables.proofs.graph.Graph.build.Goals as goal
 
 pub transposed-requires-clause-numbers : goal.transposed-requires-clause-numbers
@@ -52,7 +53,7 @@ invariant_of-result c =
     let few_nodes : length r.nodes.items ≤ 2 ^ 24 = omega (arith, c.in_ok-rows.ensures.few, c.requires.names) in
     let few_senders : length senders ≤ 2 ^ 32 = omega (arith, c.in_ok-numbers.ensures.few, c.count_owners-owned.ensures, c.if-owned-owners.false, c.requires.owners) in
     record {
-      closed = rw c.into_vec.ensures.senders (closed_graph d _ rs _ graph few_nodes few_senders);
+      closed = rw c.into_vec.ensures.senders (closed_graph d _ rs _ (from_whole d _ rs _ graph) few_nodes few_senders);
       turned = record { few = omega arith; parents_are = rw size at c.in_ok-parents.ensures };
     }
 

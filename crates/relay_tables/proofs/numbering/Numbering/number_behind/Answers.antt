@@ -2,21 +2,21 @@ use Rattle.std.proofs.Common.{rules, arith, ◌≡◌, ℕ, ◌+◌, ◌-◌, So
 use Rattle.std.proofs.lemmas.List.{length_push, length-drop, take_all}
 use Rattle.relay_tables.specs.declared.node.Node.{Node}
 use Rattle.relay_tables.specs.Graphs.{same_node}
-use Rattle.relay_tables.specs.Numbering.{Numbered, node_of, finals_of, with_nodes}
+use Rattle.relay_tables.specs.Numbering.{Numbered, node_of, behind_of, with_nodes}
 use Rattle.relay_tables.proofs.Numbers.{entries_within, found, there_stays, new_grows, new_numbered, last_is}
-use Rattle.relay_tables.proofs.numbering.Numbering.number_final.Goals as goal
+use Rattle.relay_tables.proofs.numbering.Numbering.number_behind.Goals as goal
 
 -- all that stands behind a place
 all_behind : (place : ℕ) (nodes : List Node) → take (length nodes - place) (drop place nodes) ≡ drop place nodes
 all_behind place nodes = take_all (length nodes - place) (drop place nodes) (omega (arith, length-drop place nodes))
 
-pub slice_bounds-finals-count : goal.slice_bounds-finals-count
-slice_bounds-finals-count c =
+pub slice_bounds-behind-count : goal.slice_bounds-behind-count
+slice_bounds-behind-count c =
     let i = c.self.inside in
     rw c.deref.ensures.value (entries_within i.nodes.items i.aliases i.includes i.limit i.key i.links c.self.invariant)
 
-pub slice_bounds-finals-start : goal.slice_bounds-finals-start
-slice_bounds-finals-start c =
+pub slice_bounds-behind-start : goal.slice_bounds-behind-start
+slice_bounds-behind-start c =
     let i = c.self.inside in
     omega (arith, c.deref.ensures.value, ap length c.deref.ensures.value, entries_within i.nodes.items i.aliases i.includes i.limit i.key i.links c.self.invariant)
 
@@ -24,8 +24,8 @@ pub returns-in-Some-clause-number : goal.returns-in-Some-clause-number
 returns-in-Some-clause-number c =
     let i = c.self.inside in
     let n = node_of c.args.lead in
-    let there : position (same_node n) (finals_of i.aliases i.includes i.nodes.items) ≡ Some c.in-Some.place =
-    ap (λ (ns : List Node). position (same_node n) (finals_of i.aliases i.includes ns)) (sym c.deref.ensures.value)
+    let there : position (same_node n) (behind_of i.aliases i.includes i.nodes.items) ≡ Some c.in-Some.place =
+    ap (λ (ns : List Node). position (same_node n) (behind_of i.aliases i.includes ns)) (sym c.deref.ensures.value)
     ∙ ap (position (same_node n)) (sym (all_behind (i.aliases + i.includes) c.deref.result.now)) ∙ sym c.in-Some.ensures in
     rw (← c.self.view_is) (found i.nodes.items i.aliases i.includes i.limit i.key i.links c.self.invariant n c.in-Some.place there).1
 
@@ -33,11 +33,11 @@ pub returns-in-Some-clause-numbers : goal.returns-in-Some-clause-numbers
 returns-in-Some-clause-numbers c =
     let i = c.self.inside in
     let n = node_of c.args.lead in
-    let there : position (same_node n) (finals_of i.aliases i.includes i.nodes.items) ≡ Some c.in-Some.place =
-    ap (λ (ns : List Node). position (same_node n) (finals_of i.aliases i.includes ns)) (sym c.deref.ensures.value)
+    let there : position (same_node n) (behind_of i.aliases i.includes i.nodes.items) ≡ Some c.in-Some.place =
+    ap (λ (ns : List Node). position (same_node n) (behind_of i.aliases i.includes ns)) (sym c.deref.ensures.value)
     ∙ ap (position (same_node n)) (sym (all_behind (i.aliases + i.includes) c.deref.result.now)) ∙ sym c.in-Some.ensures in
     let at = found i.nodes.items i.aliases i.includes i.limit i.key i.links c.self.invariant n c.in-Some.place there in
-    let stays = there_stays i.nodes.items i.aliases i.includes i.limit i.key i.links c.self.invariant (i.aliases + i.includes + c.in-Some.place) n at.1 in
+    let stays = there_stays i.nodes.items (i.aliases + i.includes + c.in-Some.place) n at.1 in
     let viewed : List Node → Numbered = λ ns. record { nodes = ns; aliases = i.aliases; includes = i.includes; limit = i.limit } in
     rw (← c.self.view_is) (ap viewed (sym stays))
 
@@ -48,10 +48,10 @@ returns-then-number-self-clause-numbers c =
     let nodes = c.deref.result.now in
     let entries = i.aliases + i.includes in
     let gone : position (same_node n) (take (length nodes - entries) (drop entries nodes)) ≡ None = search rules in
-    let none : position (same_node n) (finals_of i.aliases i.includes i.nodes.items) ≡ None =
-    ap (λ (ns : List Node). position (same_node n) (finals_of i.aliases i.includes ns)) (sym c.deref.ensures.value)
+    let none : position (same_node n) (behind_of i.aliases i.includes i.nodes.items) ≡ None =
+    ap (λ (ns : List Node). position (same_node n) (behind_of i.aliases i.includes ns)) (sym c.deref.ensures.value)
     ∙ ap (position (same_node n)) (sym (all_behind entries nodes)) ∙ gone in
-    let grown = new_grows i.nodes.items i.aliases i.includes i.limit i.key i.links c.self.invariant n c.requires.behind none in
+    let grown = new_grows i.nodes.items i.aliases i.includes i.limit i.key i.links c.self.invariant n (rw (← c.self.view_is) at c.requires.behind) none in
     let long : length (with_nodes i.nodes.items (n ∷ [])) ≡ length (i.nodes.items ++ n ∷ []) = ap length grown in
     rw (← c.self.view_is) (omega (arith, length_push i.nodes.items n, i.nodes.ok.0))
 
@@ -60,7 +60,7 @@ invariant_of-self-2 c =
     let i = c.self.inside in
     let more : length i.nodes.items ≡ i.limit → ⊥ = λ full. c.if-number-self.false (omega (arith, i.nodes.ok.0)) in
     rw (c.push_reserved.ensures.items, c.reserve.ensures.items, c.in_ok-push.ensures.ok, c.lead_hash-hash.ensures, c.in_ok-node.ensures)
-    (new_numbered i.nodes.items i.aliases i.includes i.limit i.key i.links c.self.invariant (node_of c.args.lead) c.requires.behind more)
+    (new_numbered i.nodes.items i.aliases i.includes i.limit i.key i.links c.self.invariant (node_of c.args.lead) more)
 
 pub returns-clause-number : goal.returns-clause-number
 returns-clause-number c =
@@ -75,9 +75,9 @@ returns-clause-numbers c =
     let nodes = c.deref.result.now in
     let entries = i.aliases + i.includes in
     let gone : position (same_node n) (take (length nodes - entries) (drop entries nodes)) ≡ None = search rules in
-    let none : position (same_node n) (finals_of i.aliases i.includes i.nodes.items) ≡ None =
-    ap (λ (ns : List Node). position (same_node n) (finals_of i.aliases i.includes ns)) (sym c.deref.ensures.value)
+    let none : position (same_node n) (behind_of i.aliases i.includes i.nodes.items) ≡ None =
+    ap (λ (ns : List Node). position (same_node n) (behind_of i.aliases i.includes ns)) (sym c.deref.ensures.value)
     ∙ ap (position (same_node n)) (sym (all_behind entries nodes)) ∙ gone in
-    let grown = new_grows i.nodes.items i.aliases i.includes i.limit i.key i.links c.self.invariant n c.requires.behind none in
+    let grown = new_grows i.nodes.items i.aliases i.includes i.limit i.key i.links c.self.invariant n (rw (← c.self.view_is) at c.requires.behind) none in
     let viewed : List Node → Numbered = λ ns. record { nodes = ns; aliases = i.aliases; includes = i.includes; limit = i.limit } in
     rw (← c.self.view_is, c.push_reserved.ensures.items, c.reserve.ensures.items, c.in_ok-node.ensures) (ap viewed (sym grown))

@@ -1,0 +1,97 @@
+//! The plan of one envelope, by tables that are read.
+ghost use Rattle.std.specs.Prelude.{◌≡◌, ◌≤◌, ◌+◌, ℕ, true, IfOk, IfErr, OnOk};
+ghost use Rattle.relay_job.specs.Tables.{without_envelope};
+ghost use Rattle.aliasplan.specs.Delivery.{directory_of, IsJobPart};
+ghost use Rattle.aliasplan.specs.Outcomes.{name_count, owned_count, AreLimits, IsRefused, IsWithin};
+ghost use Rattle.aliasplan.specs.Planners.{AreRead};
+ghost use Rattle.aliasplan.specs.Plans.{IsFewest, IsOwnPlanOf, IsSoundFor};
+
+use crate::crew::Crew;
+use crate::options::Limits;
+use crate::planning::{graph_of, pairs_of, plan_reached};
+use crate::sources::Sources;
+use relay_job::{Job, RunFault};
+use relay_rounds::Gate;
+use relay_tables::{Graph, TableCounts, TableFault, Tables, names_are_counted};
+use relay_wire::{FindingLines, Plan};
+use std::alloc::Global;
+use std::thread::Threads;
+
+/// Whether an envelope of so many recipients has no more names and owners than the limits, even if each recipient is a name of its own.
+fn are_surely_within(counts: TableCounts, recipients: usize, limits: Limits) -> bool
+    requires few { counts.names ≤ 16777216 }
+    requires recipients { recipients ≤ 9223372036854775807 }
+    ensures names { result ≡ true → counts.names + recipients ≤ limits.names }
+    ensures owners { result ≡ true → counts.owners ≤ limits.owners }
+{
+    counts.names + recipients <= limits.names && counts.owners <= limits.owners
+}
+
+/// The graph of what a job's envelope reaches.
+fn reached_graph(
+    alloc: Global,
+    job: &Job,
+    tables: &Tables,
+    limits: Limits,
+) -> Result<Graph, RunFault>
+    requires tables { tables.now ≡ directory_of job.now }
+    requires limits { AreLimits limits }
+    requires names { name_count job.now ≤ limits.names }
+    requires owners { owned_count job.now ≤ limits.owners }
+    ensures graph { IfOk result (IsJobPart job.now) }
+    ensures refused { IfErr result (IsRefused limits job.now) }
+{
+    let recipients = job.recipients.as_slice();
+    match Graph::reached(alloc, tables, job.sender.as_ref(), recipients, limits.names) {
+        Ok(graph) => Ok(graph),
+        Err(TableFault::TooManyNames) => Err(RunFault::TooManyNames),
+        Err(TableFault::TooManyOwners) => unreachable!(),
+        Err(TableFault::Memory) => Err(RunFault::Memory),
+    }
+}
+
+/// A graph of what a job's envelope reaches: of that alone, unless it has to be counted whether there are too many names or owners.
+fn part_of(
+    alloc: Global,
+    job: &Job,
+    sources: &Sources,
+    counts: TableCounts,
+    limits: Limits,
+) -> Result<Graph, RunFault>
+    requires read { AreRead (without_envelope job.now) sources.now counts }
+    requires limits { AreLimits limits }
+    ensures graph { IfOk result (IsJobPart job.now) }
+    ensures names { OnOk result (name_count job.now ≤ limits.names) }
+    ensures owners { OnOk result (owned_count job.now ≤ limits.owners) }
+    ensures refused { IfErr result (IsRefused limits job.now) }
+{
+    names_are_counted();
+    if are_surely_within(counts, job.recipients.as_slice().len(), limits) {
+        reached_graph(alloc, job, &sources.tables, limits)
+    } else {
+        graph_of(alloc, job, &sources.tables, limits)
+    }
+}
+
+/// The plan of a job whose files and tables are read, with the findings of what is reached alone.
+pub fn plan_envelope<G: Gate, R: Threads + Sync>(
+    crew: &Crew<G, R>,
+    job: &Job,
+    sources: &Sources,
+    counts: TableCounts,
+) -> Result<Plan, RunFault>
+    requires read { AreRead (without_envelope job.now) sources.now counts }
+    ensures plan { IfOk result (IsOwnPlanOf job.now) }
+    ensures sound { IfOk result (λ plan. IsSoundFor job.now plan.transactions) }
+    ensures fewest { IfOk result (λ plan. IsFewest job.now plan.transactions) }
+    ensures within { OnOk result (IsWithin crew.now.limits job.now) }
+    ensures refused { IfErr result (IsRefused crew.now.limits job.now) }
+{
+    let graph = part_of(crew.alloc, job, sources, counts, crew.limits)?;
+    let pairs = pairs_of(crew, job, &graph)?;
+    let lines = FindingLines::new(crew.alloc);
+    match plan_reached(crew, job, sources, &graph, &pairs, lines) {
+        Ok(plan) => Ok(plan),
+        Err(_) => Err(RunFault::Memory),
+    }
+}

@@ -1,0 +1,174 @@
+//! Settings, files and tables, read once for many envelopes.
+use crate::sources::Sources;
+use relay_job::Job;
+use relay_tables::TableCounts;
+use relay_text::{Seq, Text};
+use std::marker::Model;
+
+/// Settings, files and tables, read once for many envelopes. A plan takes the time and memory of what its envelope reaches, and not of
+/// the tables, unless these have nearly as many names as the limits allow.
+///
+/// Contracts see it as the job of these files and tables without an envelope.
+#[derive(Drop)]
+pub struct Planner {
+    /// Its envelope is the one that is planned.
+    job: Job,
+    read: TablesRead,
+}
+
+/// What files and tables say.
+#[derive(Drop)]
+struct TablesRead {
+    sources: Sources,
+    counts: TableCounts,
+    /// The lines that are at fault.
+    findings: Seq<Text>,
+}
+
+impl Model for Planner {
+    ghost use Rattle.relay_job.specs.declared.job.Job.{Job};
+    ghost use Rattle.relay_job.specs.Tables.{without_envelope};
+    ghost use Rattle.aliasplan.specs.Planners.{IsReady};
+
+    ghost Value = { Job };
+
+    ghost view = { λ a. without_envelope a.job };
+
+    ghost invariant = { λ a. IsReady (without_envelope a.job) a.read.sources a.read.counts a.read.findings };
+}
+
+ghost use Rattle.std.specs.Prelude.{◌≡◌, [], length, IsTrue, IfOk, IfErr, OnOk};
+ghost use Rattle.relay_text.specs.Addresses.{is_origin};
+ghost use Rattle.relay_tables.specs.Graphs.{nodes_of};
+ghost use Rattle.relay_job.specs.Envelopes.{with_envelope};
+ghost use Rattle.relay_job.specs.Tables.{without_envelope, AreTablesWithin};
+ghost use Rattle.aliasplan.specs.Checks.{AreLines};
+ghost use Rattle.aliasplan.specs.Delivery.{directory_of};
+ghost use Rattle.aliasplan.specs.Outcomes.{owned_count, AreLimits, AreTablesFew, HasRefusedTables, IsRefused, IsWithin};
+ghost use Rattle.aliasplan.specs.Planners.{AreRead};
+ghost use Rattle.aliasplan.specs.Plans.{IsFewest, IsOwnPlanOf, IsSoundFor};
+ghost use Rattle.aliasplan.specs.Report.{texts, IsLineOf};
+
+use crate::crew::Crew;
+use crate::enveloping::plan_envelope;
+use crate::options::Limits;
+use relay_aliasfile::file_counts;
+use relay_job::{Envelope, RunFault, Settings, parsed_tables};
+use relay_rounds::Gate;
+use relay_tables::{TableFault, Tables};
+use relay_wire::{FindingLines, Plan};
+use std::alloc::Global;
+use std::thread::Threads;
+
+/// How many names and owners the tables of a job have, whatever its envelope.
+fn counts_of(
+    alloc: Global,
+    job: &Job,
+    tables: &Tables,
+    limits: Limits,
+) -> Result<TableCounts, RunFault>
+    requires tables { tables.now ≡ directory_of job.now }
+    requires limits { AreLimits limits }
+    ensures names { IfOk result (λ counts. counts.names ≡ length (nodes_of (directory_of job.now) [])) }
+    ensures owners { IfOk result (λ counts. counts.owners ≡ owned_count job.now) }
+    ensures within { OnOk result (AreTablesFew limits job.now) }
+    ensures refused { IfErr result (HasRefusedTables limits job.now) }
+{
+    let _ = job;
+    match TableCounts::of(alloc, tables, limits.names, limits.owners) {
+        Ok(counts) => Ok(counts),
+        Err(TableFault::TooManyNames) => Err(RunFault::TooManyNames),
+        Err(TableFault::TooManyOwners) => Err(RunFault::TooManyOwners),
+        Err(TableFault::Memory) => Err(RunFault::Memory),
+    }
+}
+
+impl TablesRead {
+    fn of(alloc: Global, job: &Job, limits: Limits) -> Result<TablesRead, RunFault>
+        requires limits { AreLimits limits }
+        requires tables { AreTablesWithin limits.bytes job.now }
+        ensures read { IfOk result (λ read. AreRead (without_envelope job.now) read.sources read.counts) }
+        ensures findings { IfOk result (λ read. AreLines (IsLineOf (without_envelope job.now) texts) read.findings) }
+        ensures within { OnOk result (AreTablesFew limits job.now) }
+        ensures refused { IfErr result (HasRefusedTables limits job.now) }
+    {
+        parsed_tables();
+        file_counts();
+        let mut lines = FindingLines::new(alloc);
+        let Ok(sources) = Sources::read(alloc, job, &mut lines) else {
+            return Err(RunFault::Memory);
+        };
+        let Ok(findings) = lines.into_seq(alloc) else {
+            return Err(RunFault::Memory);
+        };
+        match counts_of(alloc, job, &sources.tables, limits) {
+            Ok(counts) => Ok(TablesRead {
+                sources,
+                counts,
+                findings,
+            }),
+            Err(fault) => Err(fault),
+        }
+    }
+}
+
+impl Planner {
+    /// Reads files and tables; an envelope that they come with isn't looked at.
+    ///
+    /// `TooManyNames` and `TooManyOwners` come in this order, exactly where the tables alone have more than `limits` takes; `Memory`
+    /// where a growth was refused.
+    pub fn new(alloc: Global, tables: Job, limits: Limits) -> Result<Planner, RunFault>
+        requires limits { AreLimits limits }
+        requires tables { AreTablesWithin limits.bytes tables }
+        ensures tables { IfOk result (λ planner. planner ≡ without_envelope tables) }
+        ensures within { OnOk result (AreTablesFew limits tables) }
+        ensures refused { IfErr result (HasRefusedTables limits tables) }
+    {
+        parsed_tables();
+        match TablesRead::of(alloc, &tables, limits) {
+            Ok(read) => Ok(Planner { job: tables, read }),
+            Err(fault) => Err(fault),
+        }
+    }
+
+    /// The lines of files and tables that are at fault, in the order of their bytes, each once.
+    pub fn findings(&self) -> &[Text]
+        ensures { AreLines (IsLineOf self.now texts) result.now }
+    {
+        self.read.findings.as_slice()
+    }
+
+    /// The settings that are read. Their origin is a domain, by which `parse_envelope` can be asked.
+    pub fn settings(&self) -> &Settings
+        ensures settings { result.now ≡ self.now.settings }
+        ensures origin { IsTrue (is_origin result.now.origin) }
+    {
+        &self.job.settings
+    }
+
+    /// The plan of one envelope, as `plan_job` makes it of these tables and the envelope, but for the lines of `findings`, which it
+    /// leaves out. The planner is then as before.
+    ///
+    /// The errors are those of `plan_job`, in the same order, and neither the number of threads nor how the work is cut changes the
+    /// answer. The form of the options is not regarded.
+    pub fn plan<G: Gate, R: Threads + Sync>(
+        &mut self,
+        crew: &Crew<G, R>,
+        envelope: Envelope,
+    ) -> Result<Plan, RunFault>
+        ensures plan { IfOk result (IsOwnPlanOf (with_envelope self.old envelope)) }
+        ensures sound { IfOk result (λ plan. IsSoundFor (with_envelope self.old envelope) plan.transactions) }
+        ensures fewest { IfOk result (λ plan. IsFewest (with_envelope self.old envelope) plan.transactions) }
+        ensures within { OnOk result (IsWithin crew.now.limits (with_envelope self.old envelope)) }
+        ensures refused { IfErr result (IsRefused crew.now.limits (with_envelope self.old envelope)) }
+        ensures stays { self.new ≡ self.old }
+    {
+        let Envelope { sender, recipients } = envelope;
+        self.job.sender = sender;
+        self.job.recipients = recipients;
+        let plan = plan_envelope(crew, &self.job, &self.read.sources, self.read.counts);
+        self.job.sender = None;
+        self.job.recipients = Seq::of(Vec::new(crew.alloc));
+        plan
+    }
+}

@@ -1,0 +1,175 @@
+//! What an envelope reaches, numbered as it's found.
+ghost use Rattle.std.specs.Prelude.{◌≡◌, ◌<◌, ◌≤◌, ◌+◌, ◌-◌, ◌^◌, List, length, map, option_map, IfOk, IfSome, OnOk, IsTrue, Err};
+ghost use Rattle.std.specs.List.{list_all};
+ghost use Rattle.relay_text.specs.AddressParts.{AddressParts};
+ghost use Rattle.relay_tables.specs.Parts.{is_good_item};
+ghost use Rattle.relay_tables.specs.Targets.{item_target, targets_of};
+ghost use Rattle.relay_tables.specs.Senders.{Sender};
+ghost use Rattle.relay_tables.specs.Graphs.{nodes_of};
+ghost use Rattle.relay_tables.specs.Sending.{IsOwnedBy};
+ghost use Rattle.relay_tables.specs.Reaches.{owner_at, MayAddSender, AreFound, IsReach};
+
+use crate::adjacency::Adjacency;
+use crate::fault::TableFault;
+use crate::node::Node;
+use crate::numbering::Numbering;
+use crate::rowing::{Scratch, number_items, number_recipients};
+use crate::sending::{SenderList, number_owner};
+use crate::tables::Tables;
+use relay_aliasfile::Item;
+use relay_text::Address;
+use std::alloc::{AllocError, Global};
+
+// For so many targets there is room at first.
+const FEW: usize = 8;
+
+/// The nodes that are found, the recipients' targets among them, and of the first nodes, as many as there are rows, the children and the
+/// senders that they set.
+#[derive(Drop)]
+pub(crate) struct Reach {
+    pub(crate) names: Numbering,
+    pub(crate) roots: Vec<u32>,
+    pub(crate) children: Adjacency,
+    pub(crate) senders: SenderList,
+    pub(crate) owners: Vec<Option<u32>>,
+    pub(crate) scratch: Scratch,
+}
+
+// The items that a node leads to, and the alias that they stand in.
+#[derive(Clone, Copy)]
+struct Items<'a> {
+    items: &'a [Item],
+    parent: Option<u32>,
+}
+
+/// All that recipients lead to, where that is at most `names` nodes: a row for each node, in the order of their numbers.
+pub(crate) fn reach_all(
+    alloc: Global,
+    tables: &Tables,
+    sender: Option<&Address>,
+    recipients: &[Address],
+    names: usize,
+) -> Result<Reach, TableFault>
+    requires names { names ≤ 2 ^ 24 }
+    ensures reach { IfOk result (IsReach tables.now (option_map (λ a. a.now) sender.entry) recipients.now) }
+    ensures all { IfOk result (λ found. length found.children ≡ length found.names.nodes) }
+    ensures nodes { IfOk result (λ found. length found.names.nodes ≤ names) }
+    ensures full { result ≡ Err TableFault.TooManyNames → names < length (nodes_of tables.now recipients.now) }
+    ensures owners { result ≡ Err TableFault.TooManyOwners → ⊥ }
+{
+    let mut found = reach_roots(alloc, tables, sender, recipients, names)?;
+    'nodes: while found.children.len() < found.names.len() {
+        reach_more(alloc, tables, &mut found)?;
+    }
+    Ok(found)
+}
+
+// The recipients' targets alone, with no rows yet.
+fn reach_roots(
+    alloc: Global,
+    tables: &Tables,
+    sender: Option<&Address>,
+    recipients: &[Address],
+    names: usize,
+) -> Result<Reach, TableFault>
+    requires names { names ≤ 2 ^ 24 }
+    ensures reach { IfOk result (IsReach tables.now (option_map (λ a. a.now) sender.entry) recipients.now) }
+    ensures limit { IfOk result (λ found. found.names.limit ≡ names) }
+    ensures full { result ≡ Err TableFault.TooManyNames → names < length (nodes_of tables.now recipients.now) }
+    ensures owners { result ≡ Err TableFault.TooManyOwners → ⊥ }
+{
+    let heads = recipients.len().max(FEW);
+    let mut numbering = Numbering::new(alloc, tables.key(), 0, 0, heads, names)?;
+    let mut scratch = Scratch {
+        name: Vec::new(alloc),
+        row: Vec::new(alloc),
+    };
+    let roots = number_recipients(alloc, tables, recipients, &mut numbering, &mut scratch)?;
+    Ok(Reach {
+        names: numbering,
+        roots,
+        children: Adjacency::with_capacity(alloc, FEW, FEW)?,
+        senders: SenderList::new(alloc, 1, sender)?,
+        owners: Vec::new(alloc),
+        scratch,
+    })
+}
+
+// What the first node without a row leads to, and the sender that it sets.
+fn reach_more(alloc: Global, tables: &Tables, found: &mut Reach) -> Result<(), TableFault>
+    requires some { length found.old.children < length found.old.names.nodes }
+    requires room { length found.old.senders < 2 ^ 32 - 2 }
+    ensures reach { OnOk result ((sender : Sender) (recipients : List AddressParts) → IsReach tables.now sender recipients found.old → IsReach tables.now sender recipients found.new) }
+    ensures more { OnOk result (length found.new.children ≡ length found.old.children + 1) }
+    ensures limit { OnOk result (found.new.names.limit ≡ found.old.names.limit) }
+    ensures full { result ≡ Err TableFault.TooManyNames → (recipients : List AddressParts) → AreFound tables.now recipients found.old.names.nodes → found.old.names.limit < length (nodes_of tables.now recipients) }
+    ensures owners { result ≡ Err TableFault.TooManyOwners → ⊥ }
+{
+    let number = found.children.len();
+    let node = found.names.node(number);
+    let owner = number_sender(alloc, tables, node, &mut found.senders)?;
+    found.owners.push(owner)?;
+    let Items { items, parent } = items_of(tables, node);
+    number_items(
+        alloc,
+        tables,
+        items,
+        parent,
+        &mut found.names,
+        &mut found.scratch,
+    )?;
+    found.children.push(&found.scratch.row)?;
+    Ok(())
+}
+
+// The number of the sender that a node sets: an alias with an owner sets its owner's.
+fn number_sender(
+    alloc: Global,
+    tables: &Tables,
+    node: &Node,
+    senders: &mut SenderList,
+) -> Result<Option<u32>, AllocError>
+    requires room { length senders.old < 2 ^ 32 - 2 }
+    ensures owned { IfOk result (λ number. IsOwnedBy tables.now senders.new number (owner_at tables.now node.now)) }
+    ensures added { OnOk result (MayAddSender tables.now senders.old senders.new) }
+{
+    match node {
+        Node::Alias(alias) => {
+            if (*alias as usize) < tables.aliases().len() {
+                number_owner(alloc, tables, *alias, senders)
+            } else {
+                Ok(None)
+            }
+        }
+        _ => Ok(None),
+    }
+}
+
+// The items of an alias or an include file of the tables; nothing else has any.
+fn items_of<'a>(tables: &'a Tables, node: &Node) -> Items<'a>
+    ensures targets { targets_of tables.now node.now ≡ map (item_target tables.now result.parent) result.items.now }
+    ensures good { IsTrue (list_all is_good_item result.items.now) }
+    ensures parent { IfSome result.parent (λ number. number < length tables.now.aliases) }
+{
+    let none = Items {
+        items: &[],
+        parent: None,
+    };
+    match node {
+        Node::Alias(number) => match tables.aliases().get(*number as usize) {
+            Some(entry) => Items {
+                items: entry.items.as_slice(),
+                parent: Some(*number),
+            },
+            None => none,
+        },
+        Node::Include(number) => match tables.includes().get(*number as usize) {
+            Some(include) => Items {
+                items: include.items.as_slice(),
+                parent: None,
+            },
+            None => none,
+        },
+        _ => none,
+    }
+}
