@@ -3,3 +3,4 @@ pub mod Requests
 pub mod Summaries
 pub mod JsonEscapes
 pub mod Checks
+pub mod Each

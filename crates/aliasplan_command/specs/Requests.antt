@@ -3,11 +3,12 @@ use Rattle.std.specs.Prelude.{◌≡◌, ◌⊎◌, ⊤}
 use Rattle.aliasplan.specs.Outcomes.{AreOptions}
 use Rattle.relay_job.specs.declared.fault.RunFault.TheVariants.{Write, Memory}
 use Rattle.aliasplan_command.specs.declared.command_line.Request.{Request}
-use Rattle.aliasplan_command.specs.declared.command_line.Request.TheVariants.{Plan, Domains, Check, Explain, Gather, Help, Unknown, Fault}
+use Rattle.aliasplan_command.specs.declared.command_line.Request.TheVariants.{Plan, Each, Domains, Check, Explain, Gather, Help, Unknown, Fault}
 
--- a plan, a check, an explanation and domains are asked for with options in range, and no more than memory and standard output fail a command line
+-- a plan, plans of envelopes, a check, an explanation and domains are asked for with options in range, and no more than memory and standard output fail a command line
 abbrev pub IsRequest : Request → Type 0
 IsRequest (Plan options output path detail) = AreOptions options
+IsRequest (Each options tables path detail) = AreOptions options
 IsRequest (Domains options path detail) = AreOptions options
 IsRequest (Check options scope path detail) = AreOptions options
 IsRequest (Explain options asked path detail) = AreOptions options

@@ -1,7 +1,7 @@
 -- What the process ends with.
 use Rattle.std.specs.Prelude.{◌≡◌, ◌≢◌, ℕ}
 use Rattle.aliasplan_command.specs.declared.command_line.Request.{Request}
-use Rattle.aliasplan_command.specs.declared.command_line.Request.TheVariants.{Plan, Domains, Check, Explain, Gather, Help, Unknown, Fault}
+use Rattle.aliasplan_command.specs.declared.command_line.Request.TheVariants.{Plan, Each, Domains, Check, Explain, Gather, Help, Unknown, Fault}
 use Rattle.aliasplan_command.specs.declared.status.Status.{Status}
 use Rattle.aliasplan_command.specs.declared.status.Status.TheVariants.{Done, Found, Refused, OutOfMemory, Broken, CommandLine}
 use Rattle.relay_job.specs.declared.fault.RunFault.{RunFault}
@@ -32,6 +32,7 @@ code_after CommandLine = 5
 -- the command line is at fault where it asks for nothing that there is, and only there; only a plan and a check have findings, and only an explanation is of an address that isn't in the plan
 abbrev pub IsStatusOf : Request → Status → Type 0
 IsStatusOf (Plan options output path detail) status = status ≢ CommandLine
+IsStatusOf (Each options tables path detail) status = status ≢ CommandLine
 IsStatusOf (Domains options path detail) status = (status ≢ Found) × (status ≢ CommandLine)
 IsStatusOf (Check options scope path detail) status = status ≢ CommandLine
 IsStatusOf (Explain options asked path detail) status = status ≢ CommandLine

@@ -6,6 +6,7 @@ ghost use Rattle.aliasplan_command.specs.Statuses.{code_of, code_after, IsStatus
 
 use crate::check_run::run_check;
 use crate::command_line::{Detail, Output, Request};
+use crate::each_run::answer_each;
 use crate::explaining::{explain_file, explain_job, shown};
 use crate::explaining_items::explain_items;
 use crate::file_source;
@@ -26,7 +27,7 @@ use std::rt::Files;
 use std::thread::Threads;
 
 /// What a run ends with that has this fault, which is said on standard error.
-fn refused<R: Eprint>(rt: &R, fault: RunFault) -> Status
+pub(crate) fn refused<R: Eprint>(rt: &R, fault: RunFault) -> Status
     ensures { code_after result ≡ code_of fault }
 {
     let _ = eprintln!(rt; "aliasplan: {fault}");
@@ -264,6 +265,47 @@ fn plan_named<R: Input + Files + Print + Eprint + AllocGlobal + Threads + Sync>(
     }
 }
 
+/// Answers the envelopes in the file of a path, by the tables of another where one is named.
+fn answer_each_in<R: Files + Print + Eprint + AllocGlobal + Threads + Sync>(
+    rt: &R,
+    path: &Text,
+    options: Options,
+    tables: Option<&Text>,
+    detail: Detail,
+) -> Status
+    requires { AreOptions options }
+    ensures { result ≢ Status.CommandLine }
+{
+    match file_source::open(rt, path.as_bytes()) {
+        Ok(file) => answer_each(rt, options, tables, file),
+        Err(SourceFault::Memory) => refused(rt, RunFault::Memory),
+        Err(_) => {
+            let status = refused(rt, RunFault::Read);
+            if detail == Detail::Culprit {
+                explain_file(rt, path.as_bytes());
+            }
+            status
+        }
+    }
+}
+
+/// The same, or of those on standard input where no file is named.
+fn answer_each_named<R: Input + Files + Print + Eprint + AllocGlobal + Threads + Sync>(
+    rt: &R,
+    path: Option<&Text>,
+    options: Options,
+    tables: Option<&Text>,
+    detail: Detail,
+) -> Status
+    requires { AreOptions options }
+    ensures { result ≢ Status.CommandLine }
+{
+    match path {
+        None => answer_each(rt, options, tables, StandardInput::new(rt.reader())),
+        Some(path) => answer_each_in(rt, path, options, tables, detail),
+    }
+}
+
 fn gather_job<R: Files + Print + Eprint + AllocGlobal>(
     rt: &R,
     paths: &Paths,
@@ -297,6 +339,9 @@ pub fn answer<R: Input + Files + Print + Eprint + AllocGlobal + Threads + Sync>(
     match request {
         Request::Plan(options, output, path, detail) => {
             plan_named(rt, path.as_ref(), options, output, detail)
+        }
+        Request::Each(options, tables, path, detail) => {
+            answer_each_named(rt, path.as_ref(), options, tables.as_ref(), detail)
         }
         Request::Domains(options, path, detail) => {
             plan_named(rt, path.as_ref(), options, Output::Domains, detail)

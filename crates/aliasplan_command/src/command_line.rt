@@ -21,6 +21,9 @@ use std::{env, io};
 pub enum Request {
     /// A plan of the job in the file of this path, or on standard input where there is none.
     Plan(Options, Output<'static>, Option<Text>, Detail),
+    /// The plans of envelopes, by the tables in the file of the first path, or where there is none, by those in front of the envelopes. These
+    /// are read likewise.
+    Each(Options, Option<Text>, Option<Text>, Detail),
     /// The domains that the job asks for, which is read likewise.
     Domains(Options, Option<Text>, Detail),
     /// What is wrong with the job's files and tables, which is read likewise.
@@ -149,6 +152,24 @@ fn job_file<'a>(alloc: Global) -> Arg<'a> {
     )
 }
 
+fn each<'a>(alloc: Global) -> Arg<'a> {
+    Arg::new(alloc, "each")
+        .long("each")
+        .action(ArgAction::SetTrue)
+        .help(
+            "Plans many envelopes by the same tables: in place of %envelope sections %envelope ID; not in JSON or with --returns",
+        )
+}
+
+fn tables<'a>(alloc: Global) -> Arg<'a> {
+    Arg::new(alloc, "tables")
+        .long("tables")
+        .value_name("FILE")
+        .help(
+            "With --each: the file with the settings, files and tables; then each envelope is answered when it has ended",
+        )
+}
+
 fn plan_command<'a>(alloc: Global) -> Result<Command<'a>, AllocError> {
     let form = Arg::new(alloc, "form")
         .long("form")
@@ -170,6 +191,8 @@ fn plan_command<'a>(alloc: Global) -> Result<Command<'a>, AllocError> {
         .arg(cut(alloc))?
         .arg(form)?
         .arg(returns)?
+        .arg(each(alloc))?
+        .arg(tables(alloc))?
         .arg(verbose(alloc))?
         .arg(job_file(alloc))
 }
@@ -298,9 +321,21 @@ fn output_of(plan: &ArgMatches<'_>) -> Output<'static> {
     }
 }
 
-/// Whether the words after a subcommand ask for returns in a form that has none.
-fn are_returns_in_json(name: &str, words: &ArgMatches<'_>) -> bool {
-    name == "plan" && words.get_flag("returns") && matches!(words.get_str("form"), Some("json"))
+/// Why words after `plan` can't stand side by side, if they can't.
+fn clash_of(plan: &ArgMatches<'_>) -> Option<&'static str> {
+    let is_json = matches!(plan.get_str("form"), Some("json"));
+    let each = plan.get_flag("each");
+    if plan.get_flag("returns") && is_json {
+        Some("--returns has no JSON form")
+    } else if each && is_json {
+        Some("--each has no JSON form")
+    } else if each && plan.get_flag("returns") {
+        Some("--each writes no returns")
+    } else if !each && plan.get_str("tables").is_some() {
+        Some("--tables stands with --each alone")
+    } else {
+        None
+    }
 }
 
 /// The path that an option names, if it stands there.
@@ -336,7 +371,22 @@ fn plan_of(alloc: Global, plan: &ArgMatches<'_>) -> Result<Request, AllocError>
 {
     let path = job_path_of(alloc, plan)?;
     let options = options_of(plan, form_of(plan));
+    if plan.get_flag("each") {
+        let tables = path_of(alloc, plan, "tables")?;
+        return Ok(Request::Each(options, tables, path, detail_of(plan)));
+    }
     Ok(Request::Plan(options, output_of(plan), path, detail_of(plan)))
+}
+
+/// What the words after `plan` ask for, where they can stand side by side.
+fn plan_request<R: Eprint + AllocGlobal>(rt: &R, words: &ArgMatches<'_>) -> Request
+    ensures { IsRequest result }
+{
+    if let Some(clash) = clash_of(words) {
+        let _ = eprintln!(rt; "aliasplan: {clash}");
+        return Request::Unknown;
+    }
+    plan_of(rt.alloc(), words).unwrap_or(Request::Fault(RunFault::Memory))
 }
 
 /// What the words after `domains` ask for. There is one form.
@@ -412,7 +462,6 @@ fn request_of(alloc: Global, name: &str, words: &ArgMatches<'_>) -> Request
     ensures { IsRequest result }
 {
     let request = match name {
-        "plan" => plan_of(alloc, words),
         "domains" => domains_of(alloc, words),
         "check" => check_of(alloc, words),
         _ => gather_of(alloc, words),
@@ -471,10 +520,7 @@ pub fn read_words<R: Env + Print + Eprint + AllocGlobal>(rt: &R) -> Request
     };
     match command.try_get_matches_from(words.as_slice()) {
         Ok(matches) => match matches.subcommand() {
-            Some((name, words)) if are_returns_in_json(name, words) => {
-                let _ = eprintln!(rt; "aliasplan: --returns has no JSON form");
-                Request::Unknown
-            }
+            Some(("plan", words)) => plan_request(rt, words),
             Some(("explain", words)) => explain_request(rt, words),
             Some((name, words)) => request_of(rt.alloc(), name, words),
             None => Request::Unknown,

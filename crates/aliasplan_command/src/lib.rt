@@ -9,6 +9,7 @@ pub mod answering;
 mod bad_lists;
 pub mod check_run;
 pub mod command_line;
+mod each_run;
 mod explaining;
 mod explaining_items;
 mod file_source;

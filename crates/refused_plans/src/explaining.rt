@@ -3,8 +3,8 @@ ghost use Rattle.std.specs.Prelude.{◌≡◌, false};
 
 use crate::devices::{Page, Paper};
 use crate::jobs::LISTS_JOB;
-use crate::running::{LIMITS, OPTIONS};
-use aliasplan::{Crew, NoGate, RunFault, Workings, parse_job, plan_with_workings};
+use crate::running::crew;
+use aliasplan::{RunFault, Workings, parse_job, plan_with_workings};
 use aliasplan_explain::{explain, run_explain};
 use growth_answers::inputs::address;
 use growth_answers::{Answer, Seen, Teller, Unready, case};
@@ -28,18 +28,6 @@ const EXPLANATION: &[u8] = b"explain <dan@example.net> answers 1\n\
     record mx line 2 20 mx2.example.net host\n\
     transaction 5\n\
     end\n";
-
-fn crew<R: Threads + Sync>(rt: &R, alloc: Global) -> Crew<'_, NoGate, R>
-    ensures { result.limits.bytes ≡ 10000 }
-{
-    Crew {
-        rt,
-        alloc,
-        options: OPTIONS,
-        limits: LIMITS,
-        gate: &NoGate,
-    }
-}
 
 fn are_workings(workings: Result<Workings, RunFault>) -> Answer {
     match workings {

@@ -1,9 +1,10 @@
-//! The public calls of relay_job, relay_gather, aliasplan and aliasplan_explain that take memory, each on a worked example, made and judged as
+//! The public calls of relay_job, relay_envelopes, relay_gather, aliasplan, aliasplan_explain and aliasplan_each that take memory, each on a worked example, made and judged as
 //! growth_answers says.
 #![tactic(auto)]
 
 mod checks;
 mod devices;
+mod each;
 mod explaining;
 mod gathering;
 mod jobs;
@@ -27,5 +28,6 @@ fn main(rt: HostRuntime) -> ExitCode {
     checks::tell(&mut teller);
     running::tell(&mut teller);
     explaining::tell(&mut teller);
+    each::tell(&mut teller);
     ExitCode::from(teller.status())
 }

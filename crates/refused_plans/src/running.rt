@@ -6,7 +6,7 @@ use crate::jobs::{
     FIRST_JOB, FIRST_PLAN, LISTS_DOMAINS, LISTS_JOB, LISTS_PLAN, LISTS_PLAN_WITH_RETURNS,
     OWNERS_JOB, OWNERS_PLAN,
 };
-use aliasplan::{Form, Limits, NoGate, Options, RunFault, run, run_domains, run_returns};
+use aliasplan::{Crew, Form, Limits, NoGate, Options, RunFault, run, run_domains, run_returns};
 use growth_answers::{Answer, Seen, Teller, Unready, case};
 use std::alloc::Global;
 use std::thread::Threads;
@@ -23,6 +23,19 @@ pub const LIMITS: Limits = Limits {
     owners: 100,
     pairs: 1000,
 };
+
+/// What the parts of a call are handed.
+pub(crate) fn crew<R: Threads + Sync>(rt: &R, alloc: Global) -> Crew<'_, NoGate, R>
+    ensures { result.limits.bytes ≡ 10000 }
+{
+    Crew {
+        rt,
+        alloc,
+        options: OPTIONS,
+        limits: LIMITS,
+        gate: &NoGate,
+    }
+}
 
 /// What a run answers; where it's refused, nothing is written.
 fn answered<R: Threads + Sync>(

@@ -8,7 +8,9 @@ ghost use Rattle.relay_tables.specs.Parts.{is_good_include};
 use growth_answers::inputs::{address, is_address};
 use growth_answers::{Answer, Seen, Teller, Unready, call, case, twice};
 use relay_aliasfile::{parse_aliases, parse_include, parse_mailboxes};
-use relay_tables::{Graph, IncludeEntry, Local, Node, TableFault, Tables, parsed_files};
+use relay_tables::{
+    Graph, IncludeEntry, Local, Node, TableCounts, TableFault, Tables, parsed_files,
+};
 use relay_text::{Address, Seq, Text};
 use std::alloc::{AllocError, Global};
 
@@ -195,6 +197,31 @@ fn builds_no_larger_graph(alloc: Global) -> Result<Seen, Unready> {
     ))
 }
 
+/// The outer list, which nobody writes to here, is not there.
+fn builds_what_is_reached(alloc: Global) -> Result<Seen, Unready> {
+    let tables = tables(alloc, false, OWNED)?;
+    let sender = address(alloc, b"a@example.com")?;
+    let recipients = Vec::from_array(alloc, [address(alloc, b"inner")?])?;
+    Ok(twice!(
+        match Graph::reached(alloc, &tables, Some(&sender), &recipients, 6) {
+            Ok(graph) => Answer::given(
+                graph.nodes() == 3 && graph.roots().len() == 1 && are_senders(&graph)
+            ),
+            Err(TableFault::Memory) => Answer::Refused,
+            Err(_) => Answer::Wrong,
+        }
+    ))
+}
+
+fn counts_names(alloc: Global) -> Result<Seen, Unready> {
+    let tables = tables(alloc, false, OWNED)?;
+    Ok(twice!(match TableCounts::of(alloc, &tables, 6, 1) {
+        Ok(counts) => Answer::given(counts.names == 6 && counts.owners == 1),
+        Err(TableFault::Memory) => Answer::Refused,
+        Err(_) => Answer::Wrong,
+    }))
+}
+
 pub(crate) fn tell<R: Print + AllocGlobal>(teller: &mut Teller<'_, R>) {
     let alloc = teller.rt.alloc();
     call!(teller, "Tables::build", builds_tables(alloc));
@@ -215,4 +242,6 @@ pub(crate) fn tell<R: Print + AllocGlobal>(teller: &mut Teller<'_, R>) {
         "Graph::build, too many names",
         builds_no_larger_graph(alloc)
     );
+    case!(teller, "Graph::reached", builds_what_is_reached(alloc));
+    case!(teller, "TableCounts::of", counts_names(alloc));
 }

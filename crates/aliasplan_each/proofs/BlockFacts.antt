@@ -1,0 +1,171 @@
+-- What becomes of an envelope, and how blocks make an answer.
+use Rattle.std.proofs.Common.{◌≡◌, ℕ, zero, suc, ◌+◌, ◌<◌, List, [], ◌∷◌, ◌++◌, map, take, get_or, slice_get, Option, Some, None, Result, Ok, Err, OnOk, sym, ap, ◌∙◌, subst, append_assoc, length, refl}
+use Rattle.std.specs.Option.{option_map}
+use Rattle.std.specs.List.{fold}
+use Rattle.std.proofs.lemmas.List.{append-nil, map_more}
+use Rattle.std.proofs.lemmas.List.Concat.{flat_map-append}
+use Rattle.std.proofs.lemmas.Option.{same_Some}
+use Rattle.relay_wire.specs.declared.plan.Plan.{Plan}
+use Rattle.relay_wire.specs.PlanText.{line}
+use Rattle.relay_job.specs.declared.job.Job.{Job}
+use Rattle.relay_job.specs.declared.envelope.Envelope.{Envelope}
+use Rattle.relay_job.specs.declared.fault.RunFault.{RunFault}
+use Rattle.relay_job.specs.declared.fault.RunFault.TheVariants.{Read, TooLong, BadJob, BadSetting, BadEnvelope, TooManyNames, TooManyOwners, TooManyPairs, Write, Memory}
+use Rattle.relay_job.specs.Envelopes.{envelope_of, envelope_by, envelope_commands, envelope_unless}
+use Rattle.relay_job.specs.JobParts.{first_bad_command}
+use Rattle.relay_job.specs.JobAnswers.{Fails}
+use Rattle.relay_envelopes.specs.declared.refusal.Refusal.{Refusal}
+use Rattle.relay_envelopes.specs.declared.refusal.Refusal.TheVariants as refusals
+use Rattle.relay_envelopes.specs.declared.counts.EnvelopeCounts.{EnvelopeCounts}
+use Rattle.relay_envelopes.specs.declared.section.EnvelopeSection.{EnvelopeSection}
+use Rattle.relay_envelopes.specs.Sections.{Section}
+use Rattle.relay_envelopes.specs.Envelopes.{section_in}
+use Rattle.relay_envelopes.specs.EachText.{envelope_line, refusal_line, with_planned, with_refused}
+use Rattle.aliasplan.specs.declared.options.Form.{Form}
+use Rattle.aliasplan.specs.declared.options.Limits.{Limits}
+use Rattle.aliasplan.specs.Outcomes.{text_in}
+use Rattle.aliasplan_each.specs.Blocks.{Block, refusal_of, IsOwnPlan, IsRefusedFor, IsSectionFault, IsBlock, Grows, GrowsByAll, with_outcome, texts_of}
+use Rattle.aliasplan_each.specs.Blocks.Outcome.{planned, refused}
+
+-- what follows from two facts of a value
+pub on_ok_both : {T E P Q R : Type 0} (r : Result T E) → OnOk r P → OnOk r Q → (P → Q → R) → OnOk r R
+on_ok_both (Ok a) p q f = f p q
+on_ok_both (Err e) p q f = tt
+
+-- A section that is no envelope has one fault alone.
+abbrev pub IsBadEnvelope : RunFault → Type 0
+IsBadEnvelope (BadEnvelope number) = Unit {0}
+IsBadEnvelope Read = ⊥
+IsBadEnvelope TooLong = ⊥
+IsBadEnvelope (BadJob number) = ⊥
+IsBadEnvelope (BadSetting number) = ⊥
+IsBadEnvelope TooManyNames = ⊥
+IsBadEnvelope TooManyOwners = ⊥
+IsBadEnvelope TooManyPairs = ⊥
+IsBadEnvelope Write = ⊥
+IsBadEnvelope Memory = ⊥
+
+bad-alone : (o : Option ℕ) (envelope : Envelope) (fault : RunFault) → envelope_unless (option_map BadEnvelope o) envelope ≡ Err fault → IsBadEnvelope fault
+bad-alone (Some n) envelope fault h = let e : BadEnvelope n ≡ fault = cc in subst IsBadEnvelope e tt
+bad-alone None envelope fault h = absurd (let no : ⊥ = cc in no)
+
+fault_of_envelope : (origin text : List ℕ) (fault : RunFault) → envelope_of origin text ≡ Err fault → IsBadEnvelope fault
+unfolding envelope_of
+fault_of_envelope origin text fault h = bad-alone (first_bad_command origin 0 (envelope_commands text)) (envelope_by origin (envelope_commands text)) fault h
+
+module _ (limits : Limits) (tables : Job) (section : Section) where
+  -- a section that is no envelope
+  pub fault_of_section : (fault : RunFault) → Fails fault (envelope_of tables.settings.origin section.bytes) → IsSectionFault limits tables section fault
+  fault_of_section (BadEnvelope number) h = h
+  fault_of_section Memory h = tt
+  fault_of_section Read h = absurd (fault_of_envelope tables.settings.origin section.bytes Read h)
+  fault_of_section TooLong h = absurd (fault_of_envelope tables.settings.origin section.bytes TooLong h)
+  fault_of_section (BadJob number) h = absurd (fault_of_envelope tables.settings.origin section.bytes (BadJob number) h)
+  fault_of_section (BadSetting number) h = absurd (fault_of_envelope tables.settings.origin section.bytes (BadSetting number) h)
+  fault_of_section TooManyNames h = absurd (fault_of_envelope tables.settings.origin section.bytes TooManyNames h)
+  fault_of_section TooManyOwners h = absurd (fault_of_envelope tables.settings.origin section.bytes TooManyOwners h)
+  fault_of_section TooManyPairs h = absurd (fault_of_envelope tables.settings.origin section.bytes TooManyPairs h)
+  fault_of_section Write h = absurd (fault_of_envelope tables.settings.origin section.bytes Write h)
+
+  refused_for : (fault : RunFault) (refusal : Refusal) → IsSectionFault limits tables section fault → refusal_of fault ≡ Some refusal → IsRefusedFor limits tables section refusal
+  refused_for (BadEnvelope number) refusal h e = let same : refusals.BadEnvelope number ≡ refusal = cc in subst (IsRefusedFor limits tables section) same h
+  refused_for TooManyNames refusal h e = let same : refusals.TooManyNames ≡ refusal = cc in subst (IsRefusedFor limits tables section) same h
+  refused_for TooManyOwners refusal h e = let same : refusals.TooManyOwners ≡ refusal = cc in subst (IsRefusedFor limits tables section) same h
+  refused_for TooManyPairs refusal h e = let same : refusals.TooManyPairs ≡ refusal = cc in subst (IsRefusedFor limits tables section) same h
+  refused_for Memory refusal h e = absurd (let no : ⊥ = cc in no)
+  refused_for Read refusal h e = absurd h
+  refused_for TooLong refusal h e = absurd h
+  refused_for (BadJob number) refusal h e = absurd h
+  refused_for (BadSetting number) refusal h e = absurd h
+  refused_for Write refusal h e = absurd h
+
+  module _ (form : Form) (old between new : List ℕ) (before after : EnvelopeCounts) (begun : between ≡ old ++ line (envelope_line section.id)) where
+    block_text : (text : List ℕ) → new ≡ between ++ text → new ≡ old ++ (line (envelope_line section.id) ++ text)
+    block_text text more = more ∙ ap (λ bytes. bytes ++ text) begun ∙ append_assoc old (line (envelope_line section.id)) text
+
+    -- the block of a plan, and that of a refusal
+    pub grows_by_plan : (plan : Plan) → IsOwnPlan limits tables section plan → new ≡ between ++ text_in form plan → after ≡ with_planned before (length plan.findings) → Grows limits form tables section old new before after
+    grows_by_plan plan own more counted = record {
+      block = record { text = line (envelope_line section.id) ++ text_in form plan; outcome = planned (length plan.findings) };
+      is = record { envelope = own.envelope; read = own.read; within = own.within; plan = plan; planned = own.planned; fewest = own.fewest; written = refl; counted = refl };
+      written = block_text (text_in form plan) more;
+      counted = counted;
+    }
+
+    pub grows_by_refusal : (fault : RunFault) (refusal : Refusal) → IsSectionFault limits tables section fault → refusal_of fault ≡ Some refusal → new ≡ between ++ line (refusal_line refusal) → after ≡ with_refused before → Grows limits form tables section old new before after
+    grows_by_refusal fault refusal h e more counted = record {
+      block = record { text = line (envelope_line section.id) ++ line (refusal_line refusal); outcome = refused refusal };
+      is = record { refused = refused_for fault refusal h e; written = refl };
+      written = block_text (line (refusal_line refusal)) more;
+      counted = counted;
+    }
+
+abbrev pub with_block : EnvelopeCounts → Block → EnvelopeCounts
+with_block counts block = with_outcome counts block.outcome
+
+fold-append : (before : EnvelopeCounts) (blocks : List Block) (block : Block) → fold with_block before (blocks ++ block ∷ []) ≡ with_outcome (fold with_block before blocks) block.outcome
+fold-append before [] block = refl
+fold-append before (b ∷ bs) block = fold-append (with_block before b) bs block
+
+module _ (limits : Limits) (form : Form) (tables : Job) where
+  -- `AreBlocks`, by recursion
+  abbrev pub Answer : List Section → List Block → Type 0
+  Answer [] [] = Unit {0}
+  Answer [] (block ∷ blocks) = ⊥
+  Answer (section ∷ sections) [] = ⊥
+  Answer (section ∷ sections) (block ∷ blocks) = IsBlock limits form tables section block × Answer sections blocks
+
+  answer_more : (sections : List Section) (blocks : List Block) (section : Section) (block : Block) → Answer sections blocks → IsBlock limits form tables section block → Answer (sections ++ section ∷ []) (blocks ++ block ∷ [])
+  answer_more [] [] section block h is = (is, tt)
+  answer_more [] (b ∷ bs) section block h is = absurd h
+  answer_more (s ∷ ss) [] section block h is = absurd h
+  answer_more (s ∷ ss) (b ∷ bs) section block h is = (h.0, answer_more ss bs section block h.1 is)
+
+  as_many : (sections : List Section) (blocks : List Block) → Answer sections blocks → length blocks ≡ length sections
+  as_many [] [] h = refl
+  as_many [] (b ∷ bs) h = absurd h
+  as_many (s ∷ ss) [] h = absurd h
+  as_many (s ∷ ss) (b ∷ bs) h = ap suc (as_many ss bs h.1)
+
+  block_at : (sections : List Section) (blocks : List Block) → Answer sections blocks → (k : ℕ) (section : Section) (block : Block) → slice_get sections k ≡ Some section → slice_get blocks k ≡ Some block → IsBlock limits form tables section block
+  block_at [] [] h k section block e f = absurd (let no : ⊥ = cc in no)
+  block_at [] (b ∷ bs) h k section block e f = absurd h
+  block_at (s ∷ ss) [] h k section block e f = absurd h
+  block_at (s ∷ ss) (b ∷ bs) h zero section block e f =
+      let one : s ≡ section = same_Some s section e in
+      let other : b ≡ block = same_Some b block f in
+      subst (λ (x : Section). IsBlock limits form tables x block) one (subst (λ (x : Block). IsBlock limits form tables s x) other h.0)
+  block_at (s ∷ ss) (b ∷ bs) h (suc k) section block e f = block_at ss bs h.1 k section block e f
+
+  -- what has been added for the sections so far
+  pub record Grown (sections : List Section) (old new : List ℕ) (before after : EnvelopeCounts) : Type 0 where
+    pub blocks : List Block
+    pub answer : Answer sections blocks
+    pub written : new ≡ old ++ texts_of blocks
+    pub counted : after ≡ fold with_block before blocks
+
+  pub none_grown : (old : List ℕ) (before : EnvelopeCounts) → Grown [] old old before before
+  none_grown old before = record { blocks = []; answer = tt; written = sym (append-nil old); counted = refl }
+
+  grown_more : (sections : List Section) (section : Section) (old between new : List ℕ) (before middle after : EnvelopeCounts) → Grown sections old between before middle → Grows limits form tables section between new middle after → Grown (sections ++ section ∷ []) old new before after
+  grown_more sections section old between new before middle after h g = record {
+    blocks = h.blocks ++ g.block ∷ [];
+    answer = answer_more sections h.blocks section g.block h.answer g.is;
+    written =
+        g.written ∙ ap (λ bytes. bytes ++ g.block.text) h.written ∙ append_assoc old (texts_of h.blocks) g.block.text
+        ∙ ap (λ bytes. old ++ bytes) (ap (λ bytes. texts_of h.blocks ++ bytes) (sym (append-nil g.block.text)) ∙ sym (flat_map-append (λ (block : Block). block.text) h.blocks (g.block ∷ [])));
+    counted = g.counted ∙ ap (λ counts. with_outcome counts g.block.outcome) h.counted ∙ sym (fold-append before h.blocks g.block);
+  }
+
+  pub grown_next : (all : List EnvelopeSection) (k : ℕ) (section : EnvelopeSection) → k < length all → (old between new : List ℕ) (before middle after : EnvelopeCounts) → Grown (map section_in (take k all)) old between before middle → (now : Job) → now ≡ tables → Grows limits form now (section_in (get_or all k section)) between new middle after → Grown (map section_in (take (k + 1) all)) old new before after
+  grown_next all k section short old between new before middle after h now stays g =
+      subst (λ (sections : List Section). Grown sections old new before after) (sym (map_more section_in all k section short))
+      (grown_more (map section_in (take k all)) (section_in (get_or all k section)) old between new before middle after h (subst (λ (job : Job). Grows limits form job (section_in (get_or all k section)) between new middle after) stays g))
+
+  pub all_grown : (sections : List Section) (old new : List ℕ) (before after : EnvelopeCounts) → Grown sections old new before after → GrowsByAll limits form tables sections old new before after
+  all_grown sections old new before after h = record {
+    blocks = h.blocks;
+    are_blocks = record { len = as_many sections h.blocks h.answer; each = block_at sections h.blocks h.answer };
+    written = h.written;
+    counted = h.counted;
+  }

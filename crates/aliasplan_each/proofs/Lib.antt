@@ -1,0 +1,7 @@
+pub mod BlockFacts
+pub mod PartFacts
+pub mod EachFacts
+pub mod PieceFacts
+pub mod FeedingFacts
+pub mod BesideFacts
+pub mod BesideRuns

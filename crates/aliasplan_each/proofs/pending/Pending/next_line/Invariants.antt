@@ -1,0 +1,15 @@
+use Rattle.std.proofs.Common.{◌≡◌, ◌≤◌, ◌-◌, true, false, vec_len}
+use Rattle.std.specs.Io.KnownBytes.{IsAtEnd, prepend_known}
+use Rattle.aliasplan_each.proofs.PieceFacts.{IsBegun}
+use Rattle.aliasplan_each.proofs.pending.Pending.next_line.Given as goal
+
+abbrev pub invariant-loop-self : goal.invariant-loop-self
+invariant-loop-self g l = record {
+  works : g.F.Feed.has_failed l.reader ≡ false;
+  told : g.F.Feed.has_ended l.reader ≡ true → IsAtEnd (g.F.Feed.remaining l.reader);
+  begun : IsBegun (prepend_known l.fn.self (g.F.Feed.remaining l.fn.reader)) l.line.items (prepend_known l.self (g.F.Feed.remaining l.reader));
+  within : vec_len l.line ≤ l.max;
+}
+
+abbrev pub decreases-loop-self : goal.decreases-loop-self
+decreases-loop-self g l = l.max - vec_len l.line

@@ -1,0 +1,71 @@
+-- What becomes of envelopes that come beside the tables.
+use Rattle.std.specs.Prelude.{◌≡◌, ℕ, false, true, List, [], ◌++◌, take, Option, None, Some, ⊤}
+use Rattle.std.specs.Io.KnownBytes.{Appends}
+use Rattle.relay_job.specs.declared.job.Job.{Job}
+use Rattle.relay_job.specs.declared.fault.RunFault.{RunFault}
+use Rattle.relay_job.specs.declared.fault.RunFault.TheVariants.{Read, TooLong, BadJob, BadSetting, BadEnvelope, TooManyNames, TooManyOwners, TooManyPairs, Write, Memory}
+use Rattle.relay_job.specs.JobText.{job_lines}
+use Rattle.relay_envelopes.specs.Sections.{Section, envelopes_of, bad_envelopes}
+use Rattle.relay_envelopes.specs.EachText.{tables_text_of}
+use Rattle.aliasplan.specs.declared.options.Form.{Form}
+use Rattle.aliasplan.specs.declared.options.Limits.{Limits}
+use Rattle.aliasplan.specs.Checks.{AreLines}
+use Rattle.aliasplan.specs.Outcomes.{AreTablesFew, HasRefusedTables}
+use Rattle.aliasplan.specs.Report.{texts, IsLineOf}
+use Rattle.aliasplan_each.specs.declared.summary.EachSummary.{EachSummary}
+use Rattle.aliasplan_each.specs.Blocks.{Block, texts_of, AreBlocks}
+use Rattle.aliasplan_each.specs.Runs.{IsEachAnswer}
+use Rattle.aliasplan_each.specs.Feeding.{is_long}
+
+abbrev pub sections_in : List ℕ → List Section
+sections_in input = envelopes_of (job_lines input)
+
+-- The envelopes' answer by these tables is written.
+pub record PlansBeside (limits : Limits) (form : Form) (tables : Job) (input : List ℕ) (old new : Option (List ℕ)) (summary : EachSummary) : Type 0 where
+  pub few : AreTablesFew limits tables
+  pub unbroken : bad_envelopes false (job_lines input) ≡ None
+  pub text : List ℕ
+  pub due : IsEachAnswer limits form tables (sections_in input) text summary
+  pub written : Appends old new text
+
+-- A run that refuses because of the tables or of the bytes that it read. Too long are bytes of which a line, or all lines of a section, are
+-- more than the limit.
+abbrev pub RefusesBeside : Limits → Job → List ℕ → RunFault → Type 0
+RefusesBeside limits tables input Read = ⊤
+RefusesBeside limits tables input TooLong = is_long limits.bytes (job_lines input) (sections_in input) ≡ true
+RefusesBeside limits tables input (BadJob number) = bad_envelopes false (job_lines input) ≡ Some number
+RefusesBeside limits tables input (BadSetting number) = ⊥
+RefusesBeside limits tables input (BadEnvelope number) = ⊥
+RefusesBeside limits tables input TooManyNames = HasRefusedTables limits tables TooManyNames
+RefusesBeside limits tables input TooManyOwners = HasRefusedTables limits tables TooManyOwners
+RefusesBeside limits tables input TooManyPairs = ⊥
+RefusesBeside limits tables input Write = ⊤
+RefusesBeside limits tables input Memory = ⊤
+
+-- Some first sections have come, and have these blocks.
+pub record HaveCome (limits : Limits) (form : Form) (tables : Job) (sections came : List Section) (blocks : List Block) : Type 0 where
+  pub rest : List Section
+  pub parts : sections ≡ came ++ rest
+  pub are_blocks : AreBlocks limits form tables came blocks
+
+-- The answer as far as it goes when some envelopes have come: without the last line.
+pub record IsAnswerSoFar (limits : Limits) (form : Form) (tables : Job) (sections : List Section) (text : List ℕ) : Type 0 where
+  pub findings : List (List ℕ)
+  pub are_findings : AreLines (IsLineOf tables texts) findings
+  pub came : List Section
+  pub blocks : List Block
+  pub have_come : HaveCome limits form tables sections came blocks
+  pub is : text ≡ tables_text_of findings ++ texts_of blocks
+
+-- What a run had to write until it stopped: nothing yet, the answer to some first envelopes, or all of it.
+pub data IsDue (limits : Limits) (form : Form) (tables : Job) (sections : List Section) (text : List ℕ) : Type 0 where
+  nothing : text ≡ [] → IsDue limits form tables sections text
+  some : IsAnswerSoFar limits form tables sections text → IsDue limits form tables sections text
+  whole : (summary : EachSummary) → IsEachAnswer limits form tables sections text summary → IsDue limits form tables sections text
+
+-- A front of this is written.
+pub record WritesBesideFront (limits : Limits) (form : Form) (tables : Job) (input : List ℕ) (old new : Option (List ℕ)) : Type 0 where
+  pub text : List ℕ
+  pub due : IsDue limits form tables (sections_in input) text
+  pub count : ℕ
+  pub written : Appends old new (take count text)

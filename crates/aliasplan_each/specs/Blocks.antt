@@ -1,0 +1,146 @@
+-- What becomes of each envelope of many.
+use Rattle.std.specs.Prelude.{◌≡◌, ℕ, List, ◌++◌, length, flat_map, slice_get, Option, Some, None, Ok, Err, ⊤}
+use Rattle.std.specs.List.{fold}
+use Rattle.relay_wire.specs.declared.plan.Plan.{Plan}
+use Rattle.relay_wire.specs.PlanText.{line}
+use Rattle.relay_job.specs.declared.job.Job.{Job}
+use Rattle.relay_job.specs.declared.envelope.Envelope.{Envelope}
+use Rattle.relay_job.specs.declared.fault.RunFault.{RunFault}
+use Rattle.relay_job.specs.declared.fault.RunFault.TheVariants as faults
+use Rattle.relay_job.specs.Envelopes.{envelope_of, with_envelope}
+use Rattle.relay_envelopes.specs.declared.refusal.Refusal.{Refusal}
+use Rattle.relay_envelopes.specs.declared.refusal.Refusal.TheVariants as refusals
+use Rattle.relay_envelopes.specs.declared.counts.EnvelopeCounts.{EnvelopeCounts}
+use Rattle.relay_envelopes.specs.Sections.{Section}
+use Rattle.relay_envelopes.specs.EachText.{envelope_line, refusal_line, with_planned, with_refused}
+use Rattle.aliasplan.specs.declared.options.Form.{Form}
+use Rattle.aliasplan.specs.declared.options.Limits.{Limits}
+use Rattle.aliasplan.specs.Outcomes.{text_in, IsWithin, IsRefused}
+use Rattle.aliasplan.specs.Plans.{IsFewest, IsOwnPlanOf}
+
+-- planned, with so many findings, or refused
+pub data Outcome : Type 0 where
+  planned : ℕ → Outcome
+  refused : Refusal → Outcome
+
+-- The lines that answer an envelope, and what became of it.
+pub record Block : Type 0 where
+  pub text : List ℕ
+  pub outcome : Outcome
+
+abbrev pub no_counts : EnvelopeCounts
+no_counts = record { envelopes = 0; planned = 0; refused = 0; findings = 0 }
+
+abbrev pub with_outcome : EnvelopeCounts → Outcome → EnvelopeCounts
+with_outcome counts (planned findings) = with_planned counts findings
+with_outcome counts (refused refusal) = with_refused counts
+
+abbrev pub counts_of : List Block → EnvelopeCounts
+counts_of blocks = fold (λ counts block. with_outcome counts block.outcome) no_counts blocks
+
+abbrev pub texts_of : List Block → List ℕ
+texts_of blocks = flat_map (λ block. block.text) blocks
+
+-- Why an envelope with a fault is refused; nothing where that is no fault of an envelope's.
+abbrev pub refusal_of : RunFault → Option Refusal
+refusal_of (faults.BadEnvelope number) = Some (refusals.BadEnvelope number)
+refusal_of faults.TooManyNames = Some refusals.TooManyNames
+refusal_of faults.TooManyOwners = Some refusals.TooManyOwners
+refusal_of faults.TooManyPairs = Some refusals.TooManyPairs
+refusal_of faults.Read = None
+refusal_of faults.TooLong = None
+refusal_of (faults.BadJob number) = None
+refusal_of (faults.BadSetting number) = None
+refusal_of faults.Write = None
+refusal_of faults.Memory = None
+
+-- the faults of an envelope, and the want of memory
+abbrev pub IsEnvelopeFault : RunFault → Type 0
+IsEnvelopeFault (faults.BadEnvelope number) = ⊤
+IsEnvelopeFault faults.TooManyNames = ⊤
+IsEnvelopeFault faults.TooManyOwners = ⊤
+IsEnvelopeFault faults.TooManyPairs = ⊤
+IsEnvelopeFault faults.Memory = ⊤
+IsEnvelopeFault faults.Read = ⊥
+IsEnvelopeFault faults.TooLong = ⊥
+IsEnvelopeFault (faults.BadJob number) = ⊥
+IsEnvelopeFault (faults.BadSetting number) = ⊥
+IsEnvelopeFault faults.Write = ⊥
+
+module _ (limits : Limits) (tables : Job) where
+  -- the plan of an envelope's job
+  pub record IsOwnPlan (section : Section) (plan : Plan) : Type 0 where
+    pub envelope : Envelope
+    pub read : envelope_of tables.settings.origin section.bytes ≡ Ok envelope
+    pub within : IsWithin limits (with_envelope tables envelope)
+    pub planned : IsOwnPlanOf (with_envelope tables envelope) plan
+    pub fewest : IsFewest (with_envelope tables envelope) plan.transactions
+
+  -- an envelope whose job is refused for this
+  pub record IsRefusedBy (section : Section) (fault : RunFault) : Type 0 where
+    pub envelope : Envelope
+    pub read : envelope_of tables.settings.origin section.bytes ≡ Ok envelope
+    pub refused : IsRefused limits (with_envelope tables envelope) fault
+
+  abbrev pub IsRefusedFor : Section → Refusal → Type 0
+  IsRefusedFor section (refusals.BadEnvelope number) = envelope_of tables.settings.origin section.bytes ≡ Err (faults.BadEnvelope number)
+  IsRefusedFor section refusals.TooManyNames = IsRefusedBy section faults.TooManyNames
+  IsRefusedFor section refusals.TooManyOwners = IsRefusedBy section faults.TooManyOwners
+  IsRefusedFor section refusals.TooManyPairs = IsRefusedBy section faults.TooManyPairs
+
+  -- why an envelope has no plan
+  abbrev pub IsSectionFault : Section → RunFault → Type 0
+  IsSectionFault section (faults.BadEnvelope number) = IsRefusedFor section (refusals.BadEnvelope number)
+  IsSectionFault section faults.TooManyNames = IsRefusedFor section refusals.TooManyNames
+  IsSectionFault section faults.TooManyOwners = IsRefusedFor section refusals.TooManyOwners
+  IsSectionFault section faults.TooManyPairs = IsRefusedFor section refusals.TooManyPairs
+  IsSectionFault section faults.Memory = ⊤
+  IsSectionFault section faults.Read = ⊥
+  IsSectionFault section faults.TooLong = ⊥
+  IsSectionFault section (faults.BadJob number) = ⊥
+  IsSectionFault section (faults.BadSetting number) = ⊥
+  IsSectionFault section faults.Write = ⊥
+
+module _ (limits : Limits) (form : Form) (tables : Job) where
+  -- An envelope that is a job's, with the tables, within the limits: the text of the plan of that job, without the findings of files and tables,
+  -- which stand once for all envelopes.
+  pub record IsPlanned (section : Section) (text : List ℕ) (findings : ℕ) : Type 0 where
+    pub envelope : Envelope
+    pub read : envelope_of tables.settings.origin section.bytes ≡ Ok envelope
+    pub within : IsWithin limits (with_envelope tables envelope)
+    pub plan : Plan
+    pub planned : IsOwnPlanOf (with_envelope tables envelope) plan
+    pub fewest : IsFewest (with_envelope tables envelope) plan.transactions
+    pub written : text ≡ line (envelope_line section.id) ++ text_in form plan
+    pub counted : findings ≡ length plan.findings
+
+  -- a refused envelope has a line in place of a plan
+  pub record IsRefusedBlock (section : Section) (text : List ℕ) (refusal : Refusal) : Type 0 where
+    pub refused : IsRefusedFor limits tables section refusal
+    pub written : text ≡ line (envelope_line section.id) ++ line (refusal_line refusal)
+
+  abbrev pub IsOutcome : Section → List ℕ → Outcome → Type 0
+  IsOutcome section text (planned findings) = IsPlanned section text findings
+  IsOutcome section text (refused refusal) = IsRefusedBlock section text refusal
+
+  abbrev pub IsBlock : Section → Block → Type 0
+  IsBlock section block = IsOutcome section block.text block.outcome
+
+  -- a block for each section, in order
+  pub record AreBlocks (sections : List Section) (blocks : List Block) : Type 0 where
+    pub len : length blocks ≡ length sections
+    pub each : (k : ℕ) (section : Section) (block : Block) → slice_get sections k ≡ Some section → slice_get blocks k ≡ Some block → IsBlock section block
+
+  -- the answer grows by the block of a section
+  pub record Grows (section : Section) (old new : List ℕ) (before after : EnvelopeCounts) : Type 0 where
+    pub block : Block
+    pub is : IsBlock section block
+    pub written : new ≡ old ++ block.text
+    pub counted : after ≡ with_outcome before block.outcome
+
+  -- the answer grows by a block for each of some sections
+  pub record GrowsByAll (sections : List Section) (old new : List ℕ) (before after : EnvelopeCounts) : Type 0 where
+    pub blocks : List Block
+    pub are_blocks : AreBlocks sections blocks
+    pub written : new ≡ old ++ texts_of blocks
+    pub counted : after ≡ fold (λ counts block. with_outcome counts block.outcome) before blocks

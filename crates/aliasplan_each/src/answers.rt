@@ -1,0 +1,123 @@
+//! The blocks of envelopes.
+ghost use Rattle.std.specs.Prelude.{◌≡◌, Some, IfOk, IfErr};
+ghost use Rattle.aliasplan.specs.Outcomes.{text_in};
+ghost use Rattle.relay_envelopes.specs.Envelopes.{section_in};
+ghost use Rattle.aliasplan_each.specs.Blocks.{IsOwnPlan, IsSectionFault, IsEnvelopeFault, refusal_of};
+
+use aliasplan::{Crew, Form, Gate, Planner, RunFault};
+use relay_envelopes::{EnvelopeCounts, EnvelopeSection, Refusal, put_envelope, put_refusal};
+use relay_job::parse_envelope;
+use relay_text::Text;
+use relay_wire::plan::plan_text;
+use relay_wire::{Plan, wire_text};
+use std::alloc::{AllocError, Global};
+use std::thread::Threads;
+
+/// A plan as it is written.
+fn text_in(alloc: Global, form: Form, plan: &Plan) -> Result<Text, AllocError>
+    ensures { IfOk result (λ text. text ≡ text_in form plan.now) }
+{
+    match form {
+        Form::Plan => plan_text(alloc, plan),
+        Form::Wire => wire_text(alloc, plan),
+    }
+}
+
+// The plan of an envelope by the tables, or what is wrong with the envelope.
+fn plan_of<G: Gate, R: Threads + Sync>(
+    crew: &Crew<G, R>,
+    planner: &mut Planner,
+    section: EnvelopeSection<'_>,
+) -> Result<Plan, RunFault>
+    ensures plan { IfOk result (IsOwnPlan crew.now.limits planner.old (section_in section.entry)) }
+    ensures refused { IfErr result (IsSectionFault crew.now.limits planner.old (section_in section.entry)) }
+    ensures planner { planner.new ≡ planner.old }
+{
+    let origin = planner.settings().origin.as_bytes();
+    let envelope = parse_envelope(crew.alloc, section.bytes, origin)?;
+    planner.plan(crew, envelope)
+}
+
+// Why an envelope with a fault is refused. `Err` where memory ran out.
+fn refusal_of(fault: RunFault) -> Result<Refusal, AllocError>
+    requires { IsEnvelopeFault fault }
+    ensures { IfOk result (λ refusal. refusal_of fault ≡ Some refusal) }
+{
+    match fault {
+        RunFault::BadEnvelope(line) => Ok(Refusal::BadEnvelope(line)),
+        RunFault::TooManyNames => Ok(Refusal::TooManyNames),
+        RunFault::TooManyOwners => Ok(Refusal::TooManyOwners),
+        RunFault::TooManyPairs => Ok(Refusal::TooManyPairs),
+        RunFault::Memory => Err(AllocError),
+        RunFault::Read
+        | RunFault::TooLong
+        | RunFault::BadJob(_)
+        | RunFault::BadSetting(_)
+        | RunFault::Write => unreachable!(),
+    }
+}
+
+/// The answer as far as it is made, and what became of the envelopes so far.
+#[derive(Drop)]
+pub(crate) struct Answers {
+    pub(crate) text: Vec<u8>,
+    pub(crate) counts: EnvelopeCounts,
+}
+
+impl Answers {
+    ghost use Rattle.std.specs.Prelude.{◌≡◌, ◌++◌, [], length, OnOk};
+    ghost use Rattle.relay_wire.specs.PlanText.{line};
+    ghost use Rattle.relay_envelopes.specs.EachText.{refusal_line, with_planned, with_refused};
+    ghost use Rattle.relay_envelopes.specs.Envelopes.{section_in};
+    ghost use Rattle.aliasplan.specs.Outcomes.{text_in};
+    ghost use Rattle.aliasplan_each.specs.Blocks.{Grows, no_counts};
+
+    /// Nothing yet, without taking memory.
+    pub(crate) fn none(alloc: Global) -> Answers
+        ensures text { result.text.items ≡ [] }
+        ensures counts { result.counts ≡ no_counts }
+    {
+        Answers {
+            text: Vec::new(alloc),
+            counts: EnvelopeCounts::none(),
+        }
+    }
+
+    // Adds a plan in this form, and counts it.
+    fn add_plan(&mut self, alloc: Global, form: Form, plan: &Plan) -> Result<(), AllocError>
+        ensures text { OnOk result (self.new.text.items ≡ self.old.text.items ++ text_in form plan.now) }
+        ensures counts { OnOk result (self.new.counts ≡ with_planned self.old.counts (length plan.now.findings)) }
+    {
+        let text = text_in(alloc, form, plan)?;
+        self.text.extend_from_slice(text.as_bytes())?;
+        self.counts = self.counts.with_planned(plan.findings.as_slice().len());
+        Ok(())
+    }
+
+    // Adds the line of a refusal, and counts it.
+    fn add_refusal(&mut self, refusal: Refusal) -> Result<(), AllocError>
+        ensures text { OnOk result (self.new.text.items ≡ self.old.text.items ++ line (refusal_line refusal)) }
+        ensures counts { OnOk result (self.new.counts ≡ with_refused self.old.counts) }
+    {
+        put_refusal(refusal, &mut self.text)?;
+        self.counts = self.counts.with_refused();
+        Ok(())
+    }
+
+    /// Adds the block of an envelope: its plan by the tables, or why it is refused. The planner is left as it was. `Err` where memory runs out.
+    pub(crate) fn add<G: Gate, R: Threads + Sync>(
+        &mut self,
+        crew: &Crew<G, R>,
+        planner: &mut Planner,
+        section: EnvelopeSection<'_>,
+    ) -> Result<(), AllocError>
+        ensures grown { OnOk result (Grows crew.now.limits crew.now.options.form planner.old (section_in section.entry) self.old.text.items self.new.text.items self.old.counts self.new.counts) }
+        ensures planner { planner.new ≡ planner.old }
+    {
+        put_envelope(section.id, &mut self.text)?;
+        match plan_of(crew, planner, section) {
+            Ok(plan) => self.add_plan(crew.alloc, crew.options.form, &plan),
+            Err(fault) => self.add_refusal(refusal_of(fault)?),
+        }
+    }
+}

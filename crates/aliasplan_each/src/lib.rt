@@ -1,0 +1,21 @@
+//! The plans of many envelopes by tables that are read once.
+//!
+//! [`run_each`] reads a text of settings, files, tables and envelopes whole, and writes a block for each envelope. [`run_beside`] is given the
+//! tables, and answers each envelope that a reader gives as soon as it has ended.
+//!
+//! The way through the modules: `answers` has the block of one envelope, by a planner that holds the tables. `running` goes over the
+//! sections of a text that is there. `feeding` gives the sections of a reader one after another, of lines that `pending` reads, each a
+//! `read_section`; `beside` answers them.
+#![tactic(auto)]
+
+mod answers;
+mod beside;
+mod feeding;
+mod pending;
+mod read_section;
+mod running;
+pub mod summary;
+
+pub use beside::run_beside;
+pub use running::run_each;
+pub use summary::EachSummary;

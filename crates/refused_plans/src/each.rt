@@ -1,0 +1,163 @@
+//! Many envelopes by tables that are read once.
+ghost use Rattle.std.specs.Prelude.{◌≡◌, false};
+
+use crate::devices::{Page, Paper};
+use crate::jobs::{FIRST_PLAN, LISTS_JOB};
+use crate::running::{LIMITS, crew};
+use aliasplan::{NoGate, Planner, RunFault, parse_tables};
+use aliasplan_each::{EachSummary, run_beside, run_each};
+use growth_answers::inputs::is_address;
+use growth_answers::{Answer, Seen, Teller, Unready, call, case};
+use relay_envelopes::{envelopes_place, find_envelopes};
+use relay_job::{Envelope, parse_envelope};
+use relay_wire::Plan;
+use std::alloc::Global;
+use std::thread::Threads;
+
+/// The settings and the mailbox of the first job.
+const FIRST_TABLES: &[u8] = b"%settings\n\
+    myhostname = relay.example.org\n\
+    myorigin = example.org\n\
+    mydestination = example.org, localhost\n\
+    mailbox_transport = lmtp:unix:mbox\n\
+    %mailboxes\n\
+    joe\n";
+
+/// The first job's envelope, and one that has no sender.
+const ENVELOPES: &[u8] = b"%envelope m1\n\
+    MAIL FROM:<a@example.net>\n\
+    RCPT TO:<joe@example.org>\n\
+    %envelope m2\n\
+    RCPT TO:<joe@example.org>\n";
+
+const ANSWER_FRONT: &[u8] = b"tables 0 findings\n\
+    envelope m1\n";
+
+const ANSWER_END: &[u8] = b"envelope m2\n\
+    refused line 1 bad envelope\n\
+    done 2 envelopes 1 planned 1 refused 0 findings\n";
+
+/// The envelope of the lists' job.
+const LISTS_ENVELOPE: &[u8] = b"MAIL FROM:<editor@example.com>\n\
+    RCPT TO:<club@example.org>\n\
+    RCPT TO:<east@example.org>\n";
+
+fn is_lists_envelope(envelope: &Envelope) -> bool {
+    envelope
+        .sender
+        .as_ref()
+        .is_some_and(|sender| is_address(sender, b"editor", b"example.com"))
+        && matches!(
+            envelope.recipients.as_slice(),
+            [club, east] if is_address(club, b"club", b"example.org") && is_address(east, b"east", b"example.org")
+        )
+}
+
+fn reads_an_envelope(alloc: Global) -> Result<Answer, Unready> {
+    match parse_envelope(alloc, LISTS_ENVELOPE, b"example.org") {
+        Ok(envelope) => Ok(Answer::given(is_lists_envelope(&envelope))),
+        Err(RunFault::Memory) => Ok(Answer::Refused),
+        Err(_) => Ok(Answer::Wrong),
+    }
+}
+
+fn finds_envelopes(alloc: Global) -> Result<Answer, Unready> {
+    match find_envelopes(alloc, envelopes_place(ENVELOPES)) {
+        Ok(sections) => Ok(Answer::given(matches!(
+            sections.as_slice(),
+            [first, second] if first.line == 1 && first.id == b"m1".as_slice() && second.line == 4 && second.bytes.len() == 26
+        ))),
+        Err(RunFault::Memory) => Ok(Answer::Refused),
+        Err(_) => Ok(Answer::Wrong),
+    }
+}
+
+fn is_lists_plan(plan: Result<Plan, RunFault>) -> Answer {
+    match plan {
+        Ok(plan) => Answer::given(plan.transactions.len() == 5 && plan.findings.len() == 3),
+        Err(RunFault::Memory) => Answer::Refused,
+        Err(_) => Answer::Wrong,
+    }
+}
+
+/// A planner of the lists' tables.
+fn makes_a_planner(alloc: Global) -> Result<Answer, Unready> {
+    let tables = parse_tables(alloc, LISTS_JOB)?;
+    match Planner::new(alloc, tables, LIMITS) {
+        Ok(planner) => Ok(Answer::given(planner.findings().is_empty())),
+        Err(RunFault::Memory) => Ok(Answer::Refused),
+        Err(_) => Ok(Answer::Wrong),
+    }
+}
+
+/// A plan that was refused memory leaves the planner as it was.
+fn plans_an_envelope<R: Threads + Sync>(rt: &R, alloc: Global) -> Result<Seen, Unready> {
+    let tables = parse_tables(alloc, LISTS_JOB)?;
+    let mut planner = Planner::new(alloc, tables, LIMITS)?;
+    let first = parse_envelope(alloc, LISTS_ENVELOPE, b"example.org")?;
+    let second = parse_envelope(alloc, LISTS_ENVELOPE, b"example.org")?;
+    let crew = crew(rt, alloc);
+    Ok(match is_lists_plan(planner.plan(&crew, first)) {
+        Answer::Refused => Seen::at_last(is_lists_plan(planner.plan(&crew, second))),
+        answer => Seen::at_once(answer),
+    })
+}
+
+/// Whether the whole answer is written.
+fn is_whole(text: &[u8]) -> bool {
+    match text.strip_prefix(ANSWER_FRONT) {
+        Some(rest) => rest.strip_prefix(FIRST_PLAN) == Some(ANSWER_END),
+        None => false,
+    }
+}
+
+fn is_answer(answer: Result<EachSummary, RunFault>, paper: &Paper) -> Answer {
+    match answer {
+        Ok(summary) => Answer::given(summary.counts.planned == 1 && is_whole(&paper.text)),
+        Err(RunFault::Memory) => Answer::Refused,
+        Err(_) => Answer::Wrong,
+    }
+}
+
+/// What a run answers; where it's refused, nothing is written.
+fn written<R: Threads + Sync>(rt: &R, alloc: Global, text: &[u8], paper: &mut Paper) -> Answer
+    requires { paper.old.failed ≡ false }
+{
+    let mut page = Page::new(text);
+    let answer = run_each(&crew(rt, alloc), &mut page, paper);
+    match is_answer(answer, paper) {
+        Answer::Refused => Answer::refused(paper.text.is_empty()),
+        answer => answer,
+    }
+}
+
+fn writes_plans<R: Threads + Sync>(rt: &R, alloc: Global) -> Result<Seen, Unready> {
+    let mut text = Vec::from_slice(alloc, FIRST_TABLES)?;
+    text.extend_from_slice(ENVELOPES)?;
+    let mut paper = Paper::new(alloc)?;
+    let mut second = Paper::new(alloc)?;
+    Ok(match written(rt, alloc, &text, &mut paper) {
+        Answer::Refused => Seen::at_last(written(rt, alloc, &text, &mut second)),
+        answer => Seen::at_once(answer),
+    })
+}
+
+/// Where a run beside tables is refused, a front of the answer is written.
+fn writes_plans_beside<R: Threads + Sync>(rt: &R, alloc: Global) -> Result<Answer, Unready> {
+    let tables = parse_tables(alloc, FIRST_TABLES)?;
+    let mut paper = Paper::new(alloc)?;
+    let mut page = Page::new(ENVELOPES);
+    let answer = run_beside(&crew(rt, alloc), tables, &mut page, &mut paper);
+    Ok(is_answer(answer, &paper))
+}
+
+pub(crate) fn tell<R: Print + AllocGlobal + Threads + Sync>(teller: &mut Teller<'_, R>) {
+    let rt = teller.rt;
+    let alloc = rt.alloc();
+    call!(teller, "parse_envelope", reads_an_envelope(alloc));
+    call!(teller, "find_envelopes", finds_envelopes(alloc));
+    call!(teller, "Planner::new", makes_a_planner(alloc));
+    case!(teller, "Planner::plan", plans_an_envelope(rt, alloc));
+    case!(teller, "run_each", writes_plans(rt, alloc));
+    call!(teller, "run_beside", writes_plans_beside(rt, alloc));
+}

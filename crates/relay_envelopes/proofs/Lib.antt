@@ -1,0 +1,3 @@
+pub mod HeadingFacts
+pub mod JoiningFacts
+pub mod SectionFacts

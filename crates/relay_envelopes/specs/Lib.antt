@@ -1,0 +1,4 @@
+pub mod Headings
+pub mod Sections
+pub mod EachText
+pub mod Envelopes

@@ -1,0 +1,25 @@
+//! A text of many envelopes, and the text that answers it.
+//!
+//! Settings, files and tables stand first, as in a job. Behind them each envelope has a section, whose heading has an ID in place of
+//! nothing behind `%envelope`. `heading` reads the ID of a heading, `parts` finds where the tables end and the section of each envelope
+//! stands; `writing` has the lines that stand round the plans of envelopes. `joining` has the law that makes a job of the tables and a
+//! section.
+#![tactic(auto)]
+
+pub mod counts;
+pub mod heading;
+pub mod joining;
+pub mod parts;
+pub mod refusal;
+pub mod section;
+#[cfg(test)]
+mod tests;
+pub mod writing;
+
+pub use counts::EnvelopeCounts;
+pub use heading::envelope_id;
+pub use joining::sections_are_joined;
+pub use parts::{envelopes_place, find_envelopes};
+pub use refusal::Refusal;
+pub use section::EnvelopeSection;
+pub use writing::{put_done, put_envelope, put_refusal, put_tables};
