@@ -53,6 +53,7 @@ fn is_lists_envelope(envelope: &Envelope) -> bool {
         )
 }
 
+#[tactic(auto, unfolding(relay_text::specs::Addresses::is_origin, relay_text::specs::Addresses::is_domain))]
 fn reads_an_envelope(alloc: Global) -> Result<Answer, Unready> {
     match parse_envelope(alloc, LISTS_ENVELOPE, b"example.org") {
         Ok(envelope) => Ok(Answer::given(is_lists_envelope(&envelope))),
@@ -91,6 +92,7 @@ fn makes_a_planner(alloc: Global) -> Result<Answer, Unready> {
 }
 
 /// A plan that was refused memory leaves the planner as it was.
+#[tactic(auto, unfolding(relay_text::specs::Addresses::is_origin, relay_text::specs::Addresses::is_domain))]
 fn plans_an_envelope<R: Threads + Sync>(rt: &R, alloc: Global) -> Result<Seen, Unready> {
     let tables = parse_tables(alloc, LISTS_JOB)?;
     let mut planner = Planner::new(alloc, tables, LIMITS)?;
