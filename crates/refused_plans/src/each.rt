@@ -2,15 +2,14 @@
 ghost use Rattle.std.specs.Prelude.{◌≡◌, false};
 
 use crate::devices::{Page, Paper};
-use crate::jobs::{FIRST_PLAN, LISTS_JOB};
-use crate::running::{LIMITS, crew};
-use aliasplan::{NoGate, Planner, RunFault, parse_tables};
+use crate::jobs::FIRST_PLAN;
+use crate::running::crew;
+use aliasplan::{RunFault, parse_tables};
 use aliasplan_each::{EachSummary, run_beside, run_each};
 use growth_answers::inputs::is_address;
 use growth_answers::{Answer, Seen, Teller, Unready, call, case};
 use relay_envelopes::{envelopes_place, find_envelopes};
 use relay_job::{Envelope, parse_envelope};
-use relay_wire::Plan;
 use std::alloc::Global;
 use std::thread::Threads;
 
@@ -73,38 +72,6 @@ fn finds_envelopes(alloc: Global) -> Result<Answer, Unready> {
     }
 }
 
-fn is_lists_plan(plan: Result<Plan, RunFault>) -> Answer {
-    match plan {
-        Ok(plan) => Answer::given(plan.transactions.len() == 5 && plan.findings.len() == 3),
-        Err(RunFault::Memory) => Answer::Refused,
-        Err(_) => Answer::Wrong,
-    }
-}
-
-/// A planner of the lists' tables.
-fn makes_a_planner(alloc: Global) -> Result<Answer, Unready> {
-    let tables = parse_tables(alloc, LISTS_JOB)?;
-    match Planner::new(alloc, tables, LIMITS) {
-        Ok(planner) => Ok(Answer::given(planner.findings().is_empty())),
-        Err(RunFault::Memory) => Ok(Answer::Refused),
-        Err(_) => Ok(Answer::Wrong),
-    }
-}
-
-/// A plan that was refused memory leaves the planner as it was.
-#[tactic(auto, unfolding(relay_text::specs::Addresses::is_origin, relay_text::specs::Addresses::is_domain))]
-fn plans_an_envelope<R: Threads + Sync>(rt: &R, alloc: Global) -> Result<Seen, Unready> {
-    let tables = parse_tables(alloc, LISTS_JOB)?;
-    let mut planner = Planner::new(alloc, tables, LIMITS)?;
-    let first = parse_envelope(alloc, LISTS_ENVELOPE, b"example.org")?;
-    let second = parse_envelope(alloc, LISTS_ENVELOPE, b"example.org")?;
-    let crew = crew(rt, alloc);
-    Ok(match is_lists_plan(planner.plan(&crew, first)) {
-        Answer::Refused => Seen::at_last(is_lists_plan(planner.plan(&crew, second))),
-        answer => Seen::at_once(answer),
-    })
-}
-
 /// Whether the whole answer is written.
 fn is_whole(text: &[u8]) -> bool {
     match text.strip_prefix(ANSWER_FRONT) {
@@ -158,8 +125,6 @@ pub(crate) fn tell<R: Print + AllocGlobal + Threads + Sync>(teller: &mut Teller<
     let alloc = rt.alloc();
     call!(teller, "parse_envelope", reads_an_envelope(alloc));
     call!(teller, "find_envelopes", finds_envelopes(alloc));
-    call!(teller, "Planner::new", makes_a_planner(alloc));
-    case!(teller, "Planner::plan", plans_an_envelope(rt, alloc));
     case!(teller, "run_each", writes_plans(rt, alloc));
     call!(teller, "run_beside", writes_plans_beside(rt, alloc));
 }
