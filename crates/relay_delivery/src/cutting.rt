@@ -34,7 +34,7 @@ fn limits_by_key(
 }
 
 /// The transactions: the recipients of each group in turn, in batches within the limit of its transport.
-pub fn cut(
+pub(crate) fn cut(
     alloc: Global,
     placing: &Placing<'_>,
     limits: BatchLimits,

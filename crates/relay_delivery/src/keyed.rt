@@ -17,7 +17,7 @@ pub struct Keyed {
 
 impl Keyed {
     /// The groups of the stops. Stops of a sender and a route stand side by side, so a group is new where one of the two changes.
-    pub fn of(alloc: Global, placing: &Placing<'_>) -> Result<Keyed, AllocError>
+    pub(crate) fn of(alloc: Global, placing: &Placing<'_>) -> Result<Keyed, AllocError>
         requires order { IsOrdered placing.now }
         requires count { length placing.now.stops.items ≤ 2 ^ 32 - 2 }
         ensures keyed { IfOk result (λ k. AreKeyed placing.now.recipients.items placing.now.stops.items k.groups.items k.placed.items) }

@@ -4,7 +4,11 @@ ghost use Rattle.std.specs.Prelude.{◌≡◌, ◌<◌, Some, map, length, All, 
 use std::alloc::{AllocError, Global};
 
 /// The elements of these numbers, in their order.
-pub fn picked<T: Copy>(alloc: Global, from: &[T], numbers: &[u32]) -> Result<Vec<T>, AllocError>
+pub(crate) fn picked<T: Copy>(
+    alloc: Global,
+    from: &[T],
+    numbers: &[u32],
+) -> Result<Vec<T>, AllocError>
     requires { All (λ n. n < length from.now) numbers.now }
     ensures { IfOk result (λ picks. map (λ x. Some x) picks.items ≡ map (slice_get from.now) numbers.now) }
 {

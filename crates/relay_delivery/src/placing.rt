@@ -30,7 +30,7 @@ pub struct Placing<'a> {
 
 impl<'a> Placing<'a> {
     /// `Err` where memory runs out, or where there are more senders, routes or recipients than numbers.
-    pub fn of(
+    pub(crate) fn of(
         alloc: Global,
         senders: &[Option<&'a Address>],
         routes: &'a [Route],

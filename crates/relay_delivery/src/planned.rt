@@ -28,7 +28,7 @@ fn addresses(
 }
 
 /// The transaction of a group and some of its recipients.
-pub fn planned(
+pub(crate) fn planned(
     alloc: Global,
     placing: &Placing<'_>,
     group: GroupNumbers,

@@ -14,7 +14,7 @@ pub struct Ranks {
 
 impl Ranks {
     /// `Err` where memory runs out.
-    pub fn of(alloc: Global, keys: Vec<SortKey<'_>>) -> Result<Ranks, AllocError>
+    pub(crate) fn of(alloc: Global, keys: Vec<SortKey<'_>>) -> Result<Ranks, AllocError>
         requires numbered { AreNumbered keys.items }
         requires few { length keys.items ≤ 2 ^ 32 }
         ensures { IfOk result (λ ranks. AreRanks (map key_parts keys.entry.items) ranks.order.items ranks.place_of.items) }

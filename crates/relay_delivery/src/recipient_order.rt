@@ -21,7 +21,7 @@ pub struct RecipientOrder<'a> {
 }
 
 /// The recipients with the new numbers of their routes.
-pub fn with_routes<'a>(
+pub(crate) fn with_routes<'a>(
     alloc: Global,
     recipients: &[Routed<'a>],
     route_places: &[u32],
@@ -76,7 +76,10 @@ fn recipient_keys<'t>(
 
 impl<'a> RecipientOrder<'a> {
     /// `Err` where memory runs out, or where there are more recipients than numbers.
-    pub fn of(alloc: Global, recipients: &[Routed<'a>]) -> Result<RecipientOrder<'a>, AllocError>
+    pub(crate) fn of(
+        alloc: Global,
+        recipients: &[Routed<'a>],
+    ) -> Result<RecipientOrder<'a>, AllocError>
         ensures { IfOk result (λ order. AreRecipientsInOrder recipients.now order.recipients.items order.place_of.items) }
     {
         one_spelling();

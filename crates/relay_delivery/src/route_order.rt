@@ -53,7 +53,7 @@ fn all_routes<'a>(alloc: Global, routes: &'a [Route]) -> Result<Vec<&'a Route>, 
 
 impl<'a> RouteOrder<'a> {
     /// `Err` where memory runs out, or where there are more routes than numbers.
-    pub fn of(alloc: Global, routes: &'a [Route]) -> Result<RouteOrder<'a>, AllocError>
+    pub(crate) fn of(alloc: Global, routes: &'a [Route]) -> Result<RouteOrder<'a>, AllocError>
         requires { AreRoutesApart routes.now }
         ensures { IfOk result (λ order. AreRoutesInOrder routes.now (routes_of order.routes.items) order.place_of.items) }
     {

@@ -56,7 +56,10 @@ fn sender_keys<'t>(
 
 impl<'a> SenderOrder<'a> {
     /// `Err` where memory runs out, or where there are more senders than numbers.
-    pub fn of(alloc: Global, senders: &[Option<&'a Address>]) -> Result<SenderOrder<'a>, AllocError>
+    pub(crate) fn of(
+        alloc: Global,
+        senders: &[Option<&'a Address>],
+    ) -> Result<SenderOrder<'a>, AllocError>
         ensures { IfOk result (λ order. AreSendersInOrder (senders_of senders.now) (senders_of order.senders.items) order.place_of.items) }
     {
         one_spelling();

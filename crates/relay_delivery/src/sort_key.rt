@@ -17,7 +17,7 @@ pub struct SortKey<'t> {
 }
 
 impl<'t> SortKey<'t> {
-    pub fn new(group: u32, text: &'t [u8], number: u32) -> SortKey<'t>
+    pub(crate) fn new(group: u32, text: &'t [u8], number: u32) -> SortKey<'t>
         ensures group { result.group ≡ group }
         ensures text { result.text.now ≡ text.now }
         ensures number { result.number ≡ number }

@@ -8,7 +8,7 @@ use relay_text::{Address, path_len};
 
 /// The one spelling of a sender as a path, past its `<`, with which all paths begin, from paths that begin with it; and what is behind
 /// it. That of the null sender is `<>` (RFC 5321 section 4.5.5).
-pub fn split_path<'t>(paths: &'t [u8], sender: Option<&Address>) -> (&'t [u8], &'t [u8])
+pub(crate) fn split_path<'t>(paths: &'t [u8], sender: Option<&Address>) -> (&'t [u8], &'t [u8])
     requires { Begins paths.now (path_text_of (option_copied sender)) }
     ensures path { path_text_of (option_copied sender.entry) ≡ 60 ∷ result.0.now }
     ensures behind { (behind : List ℕ) → paths.now ≡ path_text_of (option_copied sender.entry) ++ behind → result.1.now ≡ behind }
