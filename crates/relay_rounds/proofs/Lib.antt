@@ -7,5 +7,5 @@ pub mod Numbers
 pub mod Sharding
 pub mod Winners
 pub mod AllZero
-pub mod Pieces
 pub mod Search
+pub mod SideBySide

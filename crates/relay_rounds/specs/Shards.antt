@@ -1,7 +1,7 @@
 -- Keys in shards, each in that of its block.
 use Rattle.std.specs.Option.{is_some}
 use Rattle.relay_chains.specs.Keys.{number_of}
-use Rattle.std.specs.Prelude.{Bool, true, false, nat_eq, ◌≡◌, ◌≢◌, ℕ, ◌<◌, ◌/◌, ◌%◌, List, [], ◌∷◌, ◌++◌, length, flat_map, slice_index_or, All, AllPairs, Contains, ◌↔◌, ◌⊎◌}
+use Rattle.std.specs.Prelude.{Bool, true, false, nat_eq, ◌≡◌, ◌≢◌, ℕ, ◌+◌, ◌<◌, ◌≤◌, ◌/◌, ◌%◌, List, [], ◌∷◌, ◌++◌, length, flat_map, slice_index_or, All, AllPairs, Contains, ◌↔◌, ◌⊎◌}
 use Rattle.relay_rounds.specs.declared.block.Block.{Block}
 use Rattle.relay_rounds.specs.declared.part.Part.{Part}
 use Rattle.relay_rounds.specs.Blocks.{keys_of, AreBlocks}
@@ -59,3 +59,15 @@ pub record HasTaken (keys : List ℕ) (parts place : ℕ) (before after : Part) 
 pub record HaveTaken (keys : List ℕ) (before after : List Part) : Type 0 where
   pub count : length after ≡ length before
   pub each : (place : ℕ) (d : Part) → place < length before → HasTaken keys (length before) place (slice_index_or before place d) (slice_index_or after place d)
+
+-- parts that stand from a place on, among so many
+pub record ArePartsFrom (count first : ℕ) (parts : List Part) : Type 0 where
+  pub some_part : 0 < length parts
+  pub within : first + length parts ≤ count
+  pub lawful : All (λ part. AreBlocks part.shard) parts
+  pub homes : (k : ℕ) (d : Part) → k < length parts → AreAtHome count (first + k) (slice_index_or parts k d).shard
+
+-- each of them has taken its keys
+pub record HaveTakenFrom (keys : List ℕ) (count first : ℕ) (before after : List Part) : Type 0 where
+  pub size : length after ≡ length before
+  pub each : (k : ℕ) (d : Part) → k < length before → HasTaken keys count (first + k) (slice_index_or before k d) (slice_index_or after k d)

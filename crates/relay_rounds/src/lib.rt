@@ -16,6 +16,7 @@ mod reaching;
 mod settled;
 mod settling;
 mod shard;
+mod shares;
 mod spread;
 mod steps;
 mod winning;

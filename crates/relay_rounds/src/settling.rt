@@ -76,7 +76,7 @@ fn settle_many<S: Steps, R: Threads + Sync>(
     ensures offered { OnOk result (offered.new.items ≡ offered.old.items ++ flat_map (S.next_keys steps.now) new.now) }
 {
     let settled = settled.with(rt, new)?;
-    next_keys_in_threads(rt, alloc, steps, new, offered)?;
+    next_keys_in_threads(rt, alloc, steps, new, settled.part_count(), offered)?;
     Ok(settled)
 }
 

@@ -6,6 +6,7 @@ ghost use Rattle.relay_rounds.specs.Winners.{HasKept, HasClaimedNew, ClaimsTheNe
 
 use crate::gate::Gate;
 use crate::offers::Offers;
+use crate::shares::share_of;
 use crate::worker::Worker;
 use relay_claims::Round;
 use std::thread::{Threads, join_mut};
@@ -33,8 +34,8 @@ pub(crate) fn work_all<G: Gate, R: Threads + Sync>(
         worker.work(round, offers, gate);
         return worker;
     }
-    let half = workers / 2;
-    let rest = workers - half;
+    let share = share_of(workers);
+    let rest = workers - share;
     let (first, second) = worker.split(round);
     let mut one = Some(first);
     let mut two = Some(second);
@@ -45,7 +46,7 @@ pub(crate) fn work_all<G: Gate, R: Threads + Sync>(
             ensures { IfSome one.exit (λ w. IfSome one.entry (λ v. ClaimsTheNew offers.entry.now.settled.now offers.entry.now.keys.now v.seat w.seat) × HasKept offers.entry.now.keys.now w.seat w.refused w.won.items) × IsSome one.exit }
         {
             let worker = one.take().unwrap();
-            one = Some(work_all(rt, round, worker, offers, half, gate));
+            one = Some(work_all(rt, round, worker, offers, share, gate));
         },
         &mut ||
             requires { IsSync R.row × IsSync G.row × (1 ≤ offers.now.cut) × (round.now.keys ≡ offers.now.keys.now) × IfSome two (λ w. IsSeatOf round.now w.seat × HasClaimedNew offers.now.settled.now offers.now.keys.now w.seat × HasKept offers.now.keys.now w.seat w.refused w.won.items) × IsSome two }

@@ -5,7 +5,7 @@ abbrev pub decreases-work_all : goal.decreases-work_all
 decreases-work_all g l = 2 * l.workers
 
 abbrev pub decreases-join_mut+arg2 : goal.decreases-join_mut+arg2
-decreases-join_mut+arg2 g l = 2 * l.half + 1
+decreases-join_mut+arg2 g l = 2 * l.share + 1
 
 abbrev pub decreases-join_mut+arg3 : goal.decreases-join_mut+arg3
 decreases-join_mut+arg3 g l = 2 * l.rest + 1

@@ -1,0 +1,19 @@
+//! How threads share work.
+ghost use Rattle.std.specs.Prelude.{◌<◌, ◌≤◌};
+
+// Up to so many threads are started one after another from one thread. The kernel gives each of these a processor of its own at
+// once; a thread that is started by one that has just begun itself waits behind it for some milliseconds, which is as long as a
+// whole round. More are halved first, so that the stack grows as their logarithm.
+const FEW_THREADS: usize = 8;
+
+/// How many of the workers go to a new thread, while this one starts the rest.
+pub(crate) fn share_of(workers: usize) -> usize
+    requires { 2 ≤ workers }
+    ensures some { 1 ≤ result }
+    ensures rest { result < workers }
+{
+    if workers <= FEW_THREADS {
+        return 1;
+    }
+    workers / 2
+}
