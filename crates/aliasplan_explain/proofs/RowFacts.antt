@@ -1,11 +1,11 @@
 -- Items of entries and include files, one for each target.
-use Rattle.std.proofs.Common.{◌≡◌, ℕ, zero, suc, ◌<◌, subst, Option, Some, None, List, [], ◌∷◌, length, get_or, map, slice_get, refl, sym, ap, ◌∙◌, arith}
+use Rattle.std.proofs.Common.{◌≡◌, ℕ, zero, suc, ◌<◌, subst, Option, Some, None, List, [], ◌∷◌, length, get_or, map, slice_get, refl, sym, ap, ◌∙◌, inl, inr, arith}
 use Rattle.std.specs.Prelude.{IsSome, AllPairs, Contains, option_map, option_and_then, unwrap_or, ◌==◌}
 use Rattle.std.specs.Borrow.{Bor}
 use Rattle.std.specs.Slice.{IsItemAt}
 use Rattle.std.proofs.lemmas.Bool.{eq-eqb, ne_eqb, cond-true, cond-false}
 use Rattle.std.proofs.lemmas.List.{length-map}
-use Rattle.std.proofs.lemmas.Option.{slice_get_past, slice_get_read, slice_get_within, slice_get-map, get_or_from_slice_get}
+use Rattle.std.proofs.lemmas.Option.{same_Some, slice_get_past, slice_get_read, slice_get_within, slice_get-map, get_or_from_slice_get}
 use Rattle.relay_text.specs.Lines.{logical_lines_of}
 use Rattle.relay_text.specs.declared.lines.Line.{Line}
 use Rattle.relay_aliasfile.specs.Items.{good_items}
@@ -27,7 +27,7 @@ use Rattle.relay_explain.specs.declared.entry.Entry.TheVariants as entries
 use Rattle.relay_explain.specs.declared.listed.Listed.{Listed}
 use Rattle.aliasplan.specs.Delivery.{directory_of, entry_of_include}
 use Rattle.aliasplan_explain.specs.Targets.{entry_at}
-use Rattle.aliasplan_explain.specs.Rows.{line_at, list_on, entry_row, entry_row_if, include_row_if, listed_in, listed_by, row_of}
+use Rattle.aliasplan_explain.specs.Rows.{IsPartAt, line_at, list_on, entry_row, entry_row_if, include_row_if, listed_in, listed_by, row_of}
 
 -- Numbers that ascend are distinct, so the line of a number is the one that has it.
 line_from : (lines : List Line) → AllPairs (λ (a b : Line). a.number < b.number) lines → (l : Line) (k : ℕ) → k < length lines → get_or lines k l ≡ l → line_at lines l.number ≡ Some l
@@ -129,6 +129,9 @@ pub entry_got : (job : Job) (d : Directory) → d ≡ directory_of job → (alia
 entry_got job d is aliases are number r lookup =
     ap (λ (es : List AliasEntry). slice_get es number) (sym (are ∙ ap (λ (d : Directory). d.aliases) is)) ∙ sym (item_got aliases number r lookup)
 
+pub all_ascend : (job : Job) (lines : List Line) → lines ≡ (logical_lines_of job.aliases).lines → ((text : List ℕ) → AllPairs (λ (a b : Line). a.number < b.number) (logical_lines_of text).lines) → AllPairs (λ (a b : Line). a.number < b.number) lines
+all_ascend job lines here ascending = subst (λ (ls : List Line). AllPairs (λ (a b : Line). a.number < b.number) ls) (sym here) (ascending job.aliases)
+
 -- The entry of a number, among lines that are those of the alias file.
 module _ (job : Job) (lines : List Line) (here : lines ≡ (logical_lines_of job.aliases).lines) (number : ℕ) (e : AliasEntry) (at : slice_get (alias_file_of job.aliases).entries number ≡ Some e) where
   pub line_of_entry : ((text : List ℕ) (e : AliasEntry) → Contains (alias_file_of text).entries e → (l : Line) × IsEntryLine (logical_lines_of text).lines e l) → (l : Line) × IsEntryLine lines e l
@@ -141,6 +144,52 @@ module _ (job : Job) (lines : List Line) (here : lines ≡ (logical_lines_of job
       let all = (logical_lines_of job.aliases).lines in
       row_is_entry_row all (ascending job.aliases) e row (subst (λ (ls : List Line). IsRowOf ls e row) here is)
       ∙ ap (entry_row_if all) (sym at)
+
+-- ---- the line of a number alone
+one_by : (m x : Line) (k : ℕ) → k < length (m ∷ []) → get_or (m ∷ []) k x ≡ x → m ≡ x
+one_by m x zero short is = is
+one_by m x (suc k) short is = absurd (omega (arith, short))
+
+module _ (lines : List Line) (ascending : AllPairs (λ (a b : Line). a.number < b.number) lines) (number : ℕ) (part : List Line) where
+  pub part_ascends : IsPartAt lines number part → AllPairs (λ (a b : Line). a.number < b.number) part
+  part_ascends h =
+      let P : List Line → Type 0 = λ ls. AllPairs (λ (a b : Line). a.number < b.number) ls in
+      elim h [
+        | inl all ↦ subst P (sym all) ascending
+        | inr one ↦ subst P (sym one.3) (λ i j d before short. absurd (omega (arith, before, short)))
+      ]
+
+  -- numbers that ascend are distinct
+  line_is : (l m : Line) → Contains lines l → Contains lines m → l.number ≡ m.number → m ≡ l
+  line_is l m has also same = same_Some m l (sym (line_there lines ascending m also) ∙ ap (line_at lines) (sym same) ∙ line_there lines ascending l has)
+
+  pub part_there : IsPartAt lines number part → (e : AliasEntry) → e.line ≡ number → (l : Line) × IsEntryLine lines e l → (l : Line) × IsEntryLine part e l
+  part_there h e is found =
+      let on = found.1 in
+      elim h [
+        | inl all ↦ (found.0, subst (λ (ls : List Line). IsEntryLine ls e found.0) (sym all) on)
+        | inr one ↦
+            let same : one.0 ≡ found.0 = line_is found.0 one.0 on.there one.1 (on.number ∙ is ∙ sym one.2) in
+            let there : Contains (one.0 ∷ []) found.0 = (0, omega arith, same) in (
+              found.0,
+              record { there = subst (λ (ls : List Line). Contains ls found.0) (sym one.3) there; number = on.number; heading = on.heading; headed = on.headed; name = on.name; items = on.items },
+            )
+      ]
+
+  pub part_row : IsPartAt lines number part → (e : AliasEntry) (row : List PlacedItem) → IsRowOf part e row → IsRowOf lines e row
+  part_row h e row is =
+      let on = is.on in
+      elim h [
+        | inl all ↦ subst (λ (ls : List Line). IsRowOf ls e row) all is
+        | inr one ↦
+            let here = subst (λ (ls : List Line). Contains ls is.line) one.3 on.there in
+            let same : one.0 ≡ is.line = one_by one.0 is.line here.0 here.1 here.2 in
+            record {
+              line = is.line;
+              on = record { there = subst (Contains lines) same one.1; number = on.number; heading = on.heading; headed = on.headed; name = on.name; items = on.items };
+              row_is = is.row_is;
+            }
+      ]
 
 -- an item of a number, by a look-up among the places of an entry's items
 pub listed_got : (job : Job) (node : Node) (entry : Entry) (d : Directory) → d ≡ directory_of job → Some entry ≡ entry_at d node → (places : List ItemPlace) → map place_value places ≡ row_of job node → (read : List ItemPlace) → read ≡ places → (item : ℕ) (r : Option (Bor ItemPlace)) → IsItemAt read item r → slice_get (listed_by job node) item ≡ option_map (listed_in entry) (option_map place_value (option_map (λ (x : Bor ItemPlace). x.now) r))

@@ -20,7 +20,7 @@ use Rattle.relay_explain.specs.declared.explanation.Explanation.{Explanation}
 use Rattle.aliasplan.specs.Delivery.{directory_of, final_address, final_route, IsReachedPair}
 use Rattle.aliasplan.specs.Report.{reason_of}
 use Rattle.aliasplan_explain.specs.Targets.{target_at, stands_for, IsAskedFor}
-use Rattle.aliasplan_explain.specs.Ways.{AreStepsOf}
+use Rattle.aliasplan_explain.specs.ChainSteps.{AreStepsOf}
 use Rattle.aliasplan_explain.specs.Decisions.{decision_of}
 use Rattle.aliasplan_explain.specs.Unreached.{unreached_of}
 

@@ -1,6 +1,6 @@
 pub mod Targets
 pub mod Rows
-pub mod Ways
+pub mod ChainSteps
 pub mod Decisions
 pub mod Unreached
 pub mod Explanations

@@ -1,5 +1,5 @@
 -- The items of entries and include files where they stand in their sections.
-use Rattle.std.specs.Prelude.{ℕ, ◌==◌, List, [], map, Option, Some, None, option_map, option_and_then, unwrap_or, slice_get}
+use Rattle.std.specs.Prelude.{◌≡◌, ◌⊎◌, ℕ, ◌==◌, List, [], ◌∷◌, Contains, map, Option, Some, None, option_map, option_and_then, unwrap_or, slice_get}
 use Rattle.std.specs.List.{find}
 use Rattle.relay_text.specs.Lines.{logical_lines_of}
 use Rattle.relay_text.specs.declared.lines.Line.{Line}
@@ -21,6 +21,10 @@ line_at lines number = find (λ (l : Line). l.number == number) lines
 
 abbrev pub list_on : Line → Option (List ℕ)
 list_on l = option_map (λ (h : Heading). h.list) (heading_of l.text)
+
+-- lines among which the one of a number is looked for: that one alone, or all
+abbrev pub IsPartAt : List Line → ℕ → List Line → Type 0
+IsPartAt lines number part = (part ≡ lines) ⊎ ((l : Line) × Contains lines l × (l.number ≡ number) × (part ≡ l ∷ []))
 
 -- the places of an entry's items on its line
 unfoldable pub entry_row : List Line → AliasEntry → List PlacedItem

@@ -5,10 +5,12 @@
 //! so for a job's bytes, and writes the explanation's text.
 //!
 //! The way through the modules: `asking` says which node is asked for. `answering` has an answer for each sender under which that is
-//! reached: its steps from `walking`, its items as `rows` finds them in their sections, and what becomes of it from `ending`.
+//! reached: its steps from `walking`, which reads `ahead`, its items as `rows` finds them in their sections, and what becomes of it from
+//! `ending`.
 //! `deciding` says what decides the route, and `unreached` which items lead to a node. All of them rest on the same `grounds`.
 #![tactic(auto)]
 
+mod ahead;
 mod answering;
 mod asking;
 mod deciding;

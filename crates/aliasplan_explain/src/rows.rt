@@ -4,28 +4,44 @@ ghost use Rattle.relay_text.specs.Lines.{logical_lines_of};
 ghost use Rattle.relay_aliasfile.specs.ItemPlaces.{place_value};
 ghost use Rattle.aliasplan.specs.Delivery.{directory_of};
 ghost use Rattle.aliasplan_explain.specs.Grounds.{AreWorkingsOf};
-ghost use Rattle.aliasplan_explain.specs.Rows.{entry_row_if, include_row_if, listed_by, listed_in, row_of};
+ghost use Rattle.aliasplan_explain.specs.Rows.{IsPartAt, entry_row_if, include_row_if, listed_by, listed_in, row_of};
 
 use crate::grounds::Grounds;
 use crate::targets::entry_of;
 use relay_aliasfile::{ItemPlace, entries_on_lines, entry_places, include_places};
 use relay_explain::{Entry, Listed};
 use relay_tables::Node;
-use relay_text::Text;
+use relay_text::{Line, Text};
 use std::alloc::{AllocError, Global};
+use std::slice;
 
-// The places of the items of the entry of a number.
+// The line of a number alone, where it stands at the likely place; else all lines. A search among them takes a dozen reads of memory, one
+// after another.
+fn lines_near(lines: &[Line], number: usize, likely: usize) -> &[Line]
+    ensures { IsPartAt lines.now number result.now }
+{
+    match lines.get(likely) {
+        Some(line) if line.number == number => slice::from_ref(line),
+        _ => lines,
+    }
+}
+
+// The places of the items of the entry of a number, whose line is likely to stand at a place.
 fn alias_row<'a>(
     alloc: Global,
     grounds: &'a Grounds<'_>,
     number: u32,
+    likely: usize,
 ) -> Result<Vec<ItemPlace<'a>>, AllocError>
     requires made { AreWorkingsOf grounds.now.job.now grounds.now.workings.now }
     ensures { IfOk result (λ row. map place_value row.items ≡ entry_row_if (logical_lines_of grounds.now.job.now.aliases).lines (slice_get (directory_of grounds.now.job.now).aliases number)) }
 {
     entries_on_lines();
     match grounds.workings.tables.aliases().get(number as usize) {
-        Some(entry) => entry_places(alloc, &grounds.alias_lines, entry),
+        Some(entry) => {
+            let lines = lines_near(&grounds.alias_lines, entry.line, likely);
+            entry_places(alloc, lines, entry)
+        }
         None => Ok(Vec::new(alloc)),
     }
 }
@@ -44,17 +60,18 @@ fn include_row<'a>(
     }
 }
 
-/// The places of a node's items.
+/// The places of a node's items. Where the node is an entry, its line is looked for first at a likely place among the logical lines.
 pub(crate) fn row_of<'a>(
     alloc: Global,
     grounds: &'a Grounds<'_>,
     node: &Node,
+    likely: usize,
 ) -> Result<Vec<ItemPlace<'a>>, AllocError>
     requires made { AreWorkingsOf grounds.now.job.now grounds.now.workings.now }
     ensures { IfOk result (λ row. map place_value row.items ≡ row_of grounds.now.job.now node.now) }
 {
     match node {
-        Node::Alias(number) => alias_row(alloc, grounds, *number),
+        Node::Alias(number) => alias_row(alloc, grounds, *number, likely),
         Node::Include(number) => include_row(alloc, grounds, *number),
         _ => Ok(Vec::new(alloc)),
     }
@@ -76,12 +93,13 @@ pub(crate) fn listed_in(
     })
 }
 
-/// A node's item of a number, from 0.
+/// A node's item of a number, from 0. The line is looked for as in `row_of`.
 pub(crate) fn listed_at(
     alloc: Global,
     grounds: &Grounds<'_>,
     node: &Node,
     item: usize,
+    likely: usize,
 ) -> Result<Option<Listed>, AllocError>
     requires made { AreWorkingsOf grounds.now.job.now grounds.now.workings.now }
     ensures { IfOk result (λ listed. listed ≡ slice_get (listed_by grounds.now.job.now node.now) item) }
@@ -89,7 +107,7 @@ pub(crate) fn listed_at(
     let Some(entry) = entry_of(alloc, &grounds.workings.tables, node)? else {
         return Ok(None);
     };
-    let row = row_of(alloc, grounds, node)?;
+    let row = row_of(alloc, grounds, node, likely)?;
     match row.get(item) {
         Some(place) => Ok(Some(listed_in(alloc, entry, place)?)),
         None => Ok(None),

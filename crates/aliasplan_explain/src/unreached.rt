@@ -111,7 +111,8 @@ fn add_listed(
     if !graph.children(from).contains(&target) {
         return Ok(());
     }
-    let row = row_of(alloc, grounds, graph.node(from))?;
+    // Entries have the first numbers, and most of them a line each: the line is likely to stand at the place of that number.
+    let row = row_of(alloc, grounds, graph.node(from), from as usize)?;
     add_items(alloc, grounds, from, target, &row, listed)
 }
 

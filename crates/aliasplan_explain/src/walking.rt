@@ -3,25 +3,25 @@ use relay_explain::{GivenBy, Step};
 
 /// The steps of a trail, and who gave the sender after them.
 #[derive(Drop)]
-pub(crate) struct Way {
+pub(crate) struct Chain {
     pub(crate) steps: Vec<Step>,
     pub(crate) given_by: GivenBy,
 }
 
-ghost use Rattle.std.specs.Prelude.{◌≡◌, ◌<◌, ◌++◌, Some, ℕ, List, length, slice_get, IsSome, IfOk};
+ghost use Rattle.std.specs.Prelude.{◌≡◌, ◌<◌, ◌++◌, Some, ℕ, List, length, slice_get, All, IsSome, IfOk};
 ghost use Rattle.relay_tables.specs.declared.node.Node as nodes;
 ghost use Rattle.relay_tables.specs.Graphs.{child_numbers};
 ghost use Rattle.relay_tables.specs.Targets.{recipient_target};
 ghost use Rattle.relay_text.specs.AddressParts.{AddressParts};
-ghost use Rattle.relay_trails.specs.Trails.{pair_along, trail_of};
-ghost use Rattle.relay_trails.specs.Chains.{leads_to};
+ghost use Rattle.relay_trails.specs.Trails.{HasNodes, trail_of};
 ghost use Rattle.aliasplan.specs.Delivery.{directory_of};
 ghost use Rattle.relay_explain.specs.declared.step.Mention.TheVariants as mentions;
 ghost use Rattle.relay_explain.specs.declared.step.Step as walked;
 ghost use Rattle.aliasplan_explain.specs.Grounds.{AreWorkingsOf};
 ghost use Rattle.aliasplan_explain.specs.Targets.{target_at};
-ghost use Rattle.aliasplan_explain.specs.Ways.{AreStepsFrom, AreStepsOf, IsStepTo, given_at, given_past};
+ghost use Rattle.aliasplan_explain.specs.ChainSteps.{AreStepsFrom, AreStepsOf, IsGivenPast, IsStepTo, given_at, given_past};
 
+use crate::ahead::{BLOCK, places_ahead};
 use crate::grounds::Grounds;
 use crate::rows::listed_at;
 use crate::targets::target_of;
@@ -29,7 +29,7 @@ use relay_aliasfile::{entries_on_lines, places_of_items};
 use relay_explain::Mention;
 use relay_tables::Node;
 use relay_text::Text;
-use relay_trails::{Found, trails_by_numbers};
+use relay_trails::Found;
 use std::alloc::{AllocError, Global};
 
 // The owner alias that gives the sender of what a node leads to, by its number: none where the envelope does.
@@ -45,6 +45,19 @@ fn owner_past(grounds: &Grounds<'_>, node: &Node, owner: Option<u32>) -> Option<
         },
         _ => owner,
     }
+}
+
+// The same of some nodes, one after another.
+fn owner_along(grounds: &Grounds<'_>, nodes: &[u32]) -> Option<u32>
+    requires made { AreWorkingsOf grounds.now.job.now grounds.now.workings.now }
+    requires nodes { All (λ n. n < length grounds.now.workings.now.graph.nodes) nodes.now }
+    ensures { IsGivenPast grounds.now.job.now grounds.now.workings.now.graph GivenBy.Envelope nodes.now (given_at grounds.now.job.now result) }
+{
+    let mut owner = None;
+    for number in nodes {
+        owner = owner_past(grounds, grounds.workings.graph.node(*number), owner);
+    }
+    owner
 }
 
 // Who gives the sender.
@@ -86,13 +99,14 @@ fn first_step(
     })
 }
 
-// The step from a node to the target of an item, which has this number.
+// The step from a node to the target of an item, which has this number. The entry's line is likely to stand at a place.
 fn next_step(
     alloc: Global,
     grounds: &Grounds<'_>,
     from: u32,
     item: usize,
     to: u32,
+    likely: usize,
 ) -> Result<Step, AllocError>
     requires made { AreWorkingsOf grounds.now.job.now grounds.now.workings.now }
     requires from { from < length grounds.now.workings.now.graph.nodes }
@@ -102,7 +116,7 @@ fn next_step(
     entries_on_lines();
     places_of_items();
     let graph = &grounds.workings.graph;
-    let Some(listed) = listed_at(alloc, grounds, graph.node(from), item)? else {
+    let Some(listed) = listed_at(alloc, grounds, graph.node(from), item, likely)? else {
         unreachable!()
     };
     Ok(Step {
@@ -111,41 +125,44 @@ fn next_step(
     })
 }
 
-// Adds the steps from a root by items, and says who gave the sender after them.
+// Adds the steps of a trail that was found, but for the first, and says who gave the sender after them.
 fn add_steps(
     alloc: Global,
     grounds: &Grounds<'_>,
-    root: u32,
-    items: &[usize],
+    found: &Found,
     steps: &mut Vec<Step>,
 ) -> Result<GivenBy, AllocError>
     requires made { AreWorkingsOf grounds.now.job.now grounds.now.workings.now }
-    requires root { root < length grounds.now.workings.now.graph.nodes }
-    requires items { IsSome (pair_along grounds.now.workings.now.graph (Some (record { sender = 0; node = root })) items.now) }
-    ensures { IfOk result (λ after. (from : nodes.Node) → slice_get grounds.now.workings.now.graph.nodes root ≡ Some from → (more : List walked.Step) × (steps.new.items ≡ steps.old.items ++ more) × AreStepsFrom grounds.now.job.now from GivenBy.Envelope items.now more after) }
+    requires nodes { HasNodes grounds.now.workings.now.graph found.now }
+    ensures { IfOk result (λ after. (root : ℕ) (from : nodes.Node) → slice_get grounds.now.workings.now.graph.roots found.now.recipient ≡ Some root → slice_get grounds.now.workings.now.graph.nodes root ≡ Some from → (more : List walked.Step) × (steps.new.items ≡ steps.old.items ++ more) × AreStepsFrom grounds.now.job.now from GivenBy.Envelope found.now.items.items more after) }
 {
-    let graph = &grounds.workings.graph;
-    let mut at = root;
-    let mut owner = None;
-    for item in items {
-        let to = graph.children(at)[*item];
-        steps.push(next_step(alloc, grounds, at, *item, to)?)?;
-        owner = owner_past(grounds, graph.node(at), owner);
-        at = to;
+    let nodes = found.nodes.as_slice();
+    let items = found.items.as_slice();
+    let owner = owner_along(grounds, &nodes[..items.len()]);
+    let mut ahead = Vec::with_capacity(alloc, BLOCK)?;
+    for (place, item) in items.iter().enumerate() {
+        if place % BLOCK == 0 {
+            places_ahead(grounds, &nodes[place..], &mut ahead)?;
+        }
+        let likely = ahead.get(place % BLOCK).copied().unwrap_or(0);
+        let (from, to) = (nodes[place], nodes[place + 1]);
+        steps.push(next_step(alloc, grounds, from, *item, to, likely)?)?;
     }
     given_by(alloc, grounds, owner)
 }
 
 /// The steps of a trail that was found, and who gave the sender after them.
-pub(crate) fn way_of(alloc: Global, grounds: &Grounds<'_>, found: &Found) -> Result<Way, AllocError>
+pub(crate) fn chain_of(
+    alloc: Global,
+    grounds: &Grounds<'_>,
+    found: &Found,
+) -> Result<Chain, AllocError>
     requires made { AreWorkingsOf grounds.now.job.now grounds.now.workings.now }
-    requires leads { IsSome (leads_to (directory_of grounds.now.job.now) grounds.now.job.now.sender grounds.now.job.now.recipients (trail_of found.now)) }
-    ensures { IfOk result (λ way. AreStepsOf grounds.now.job.now grounds.now.recipient_lines.now (trail_of found.now) way.steps.items way.given_by) }
+    requires nodes { HasNodes grounds.now.workings.now.graph found.now }
+    ensures { IfOk result (λ chain. AreStepsOf grounds.now.job.now grounds.now.recipient_lines.now (trail_of found.now) chain.steps.items chain.given_by) }
 {
-    trails_by_numbers();
-    let root = grounds.workings.graph.roots()[found.recipient];
-    let mut steps = Vec::new(alloc);
-    steps.push(first_step(alloc, grounds, found.recipient, root)?)?;
-    let given_by = add_steps(alloc, grounds, root, &found.items, &mut steps)?;
-    Ok(Way { steps, given_by })
+    let mut steps = Vec::with_capacity(alloc, found.nodes.len())?;
+    steps.push(first_step(alloc, grounds, found.recipient, found.nodes[0])?)?;
+    let given_by = add_steps(alloc, grounds, found, &mut steps)?;
+    Ok(Chain { steps, given_by })
 }

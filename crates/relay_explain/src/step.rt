@@ -46,7 +46,7 @@ impl Step {
     fn put_target(&self, out: &mut Vec<u8>) -> Result<(), AllocError>
         ensures { OnOk result (out.new.items ≡ out.old.items ++ is_text self.now.target) }
     {
-        put_word(b"is", out)?;
+        out.extend_from_slice(b" is")?;
         self.target.put(out)
     }
 

@@ -21,6 +21,26 @@ pub(crate) fn put_number(number: usize, out: &mut Vec<u8>) -> Result<(), AllocEr
     put_word(Buffer::new().format(number).as_bytes(), out)
 }
 
+/// Puts a text and a number at the end.
+pub(crate) fn put_numbered(
+    before: &[u8],
+    number: usize,
+    out: &mut Vec<u8>,
+) -> Result<(), AllocError>
+    ensures { OnOk result (out.new.items ≡ out.old.items ++ (before.now ++ decimal number)) }
+{
+    out.extend_from_slice(before)?;
+    out.extend_from_slice(Buffer::new().format(number).as_bytes())
+}
+
+/// Puts a text and a name's one spelling at the end.
+pub(crate) fn put_named(before: &[u8], name: &[u8], out: &mut Vec<u8>) -> Result<(), AllocError>
+    ensures { OnOk result (out.new.items ≡ out.old.items ++ (before.now ++ local_text_of name.now)) }
+{
+    out.extend_from_slice(before)?;
+    write_local(name, out)
+}
+
 /// Puts a space and a name's one spelling at the end.
 pub(crate) fn put_name(name: &[u8], out: &mut Vec<u8>) -> Result<(), AllocError>
     ensures { OnOk result (out.new.items ≡ out.old.items ++ 32 ∷ local_text_of name.now) }

@@ -7,3 +7,4 @@ pub mod Covering
 pub mod Placing
 pub mod Named
 pub mod Reading
+pub mod Nodes

@@ -43,8 +43,14 @@ pub record IsAt (g : GraphParts) (pairs : List Reached) (found : List (Option �
   pub earlier : (k : ℕ) → k < length steps → IsEarlier (link_at steps k) next
   pub covered : (link : Link) (pair : Reached) → IsEarlier link next → ends_in g (next_trail steps link) ≡ Some pair → IsCovered pairs steps (next_trail steps link) pair
 
+-- Each step has a place, and a trail that ends in the pair of that place.
+pub record AreEnds (g : GraphParts) (pairs : List Reached) (steps : List Step) : Type 0 where
+  pub places : (k : ℕ) → k < length steps → place_at steps k < length pairs
+  pub ends : (k : ℕ) → k < length steps → ends_in g (trail_at steps k) ≡ Some (pair_in pairs (place_at steps k))
+
 -- Each place has a step, whose trail is the best.
 pub record IsDone (g : GraphParts) (pairs : List Reached) (found : List (Option ℕ)) (steps : List Step) : Type 0 where
   pub sized : length found ≡ length pairs
   pub linked : AreLinked steps
+  pub ended : AreEnds g pairs steps
   pub best : (place : ℕ) → place < length pairs → (k : ℕ) × (k < length steps) × (step_of found place ≡ Some k) × IsBest g (pair_in pairs place) (trail_at steps k)

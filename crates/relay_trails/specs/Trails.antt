@@ -44,6 +44,20 @@ module _ (g : GraphParts) where
     pub ends : ends_in t ≡ Some pair
     pub least : (u : Trail) → ends_in u ≡ Some pair → ¬ IsLess u t
 
+  -- the nodes that items lead to from a node, one after another
+  abbrev pub AreNodesFrom : ℕ → List ℕ → List ℕ → Type 0
+  AreNodesFrom at [] nodes = nodes ≡ []
+  AreNodesFrom at (item ∷ items) [] = ⊥
+  AreNodesFrom at (item ∷ items) (to ∷ nodes) = (slice_get (child_numbers g at) item ≡ Some to) × AreNodesFrom to items nodes
+
+  -- the nodes on the way of a trail that was found: the recipient's target, and then the target of each item
+  pub record HasNodes (found : Found) : Type 0 where
+    pub root : ℕ
+    pub root_is : slice_get g.roots found.recipient ≡ Some root
+    pub more : List ℕ
+    pub nodes_are : found.nodes.items ≡ root ∷ more
+    pub lead : AreNodesFrom root found.items.items more
+
 abbrev pub trail_of : Found → Trail
 trail_of found = record { recipient = found.recipient; items = found.items.items }
 

@@ -1,7 +1,8 @@
 //! The answers of a search.
 ghost use Rattle.std.specs.Prelude.{◌≡◌, ◌<◌, length, All, IfOk};
 ghost use Rattle.relay_pairs.specs.Pairs.{ArePairs};
-ghost use Rattle.relay_trails.specs.Trails.{AreBestTrails, trail_of};
+ghost use Rattle.relay_trails.specs.Trails.{AreBestTrails, HasNodes, trail_of};
+ghost use Rattle.relay_trails.specs.Searches.{AreEnds};
 ghost use Rattle.relay_trails.specs.Steps.{AreLinked, trail_at};
 ghost use Rattle.relay_trails.specs.Answers.{AreAnswers, HasSteps};
 
@@ -25,48 +26,68 @@ pub fn best_trails(
 ) -> Result<Vec<Found>, AllocError>
     requires pairs { ArePairs graph.now pairs.now }
     requires in_graph { All (λ p. (p.sender < length graph.now.senders) × (p.node < length graph.now.nodes)) pairs.now }
-    ensures { IfOk result (λ found. AreBestTrails graph.now node found.items) }
+    ensures best { IfOk result (λ found. AreBestTrails graph.now node found.items) }
+    ensures nodes { IfOk result (λ found. All (HasNodes graph.now) found.items) }
 {
     let search = Search::run(alloc, graph, pairs)?;
-    answers(alloc, &search, pairs, node)
+    answers(alloc, graph, &search, pairs, node)
 }
 
 // The answers for the pairs of a node, in the order of the pairs.
 fn answers(
     alloc: Global,
+    graph: &Graph,
     search: &Search,
     pairs: &[Reached],
     node: u32,
 ) -> Result<Vec<Found>, AllocError>
-    requires { HasSteps (length pairs.now) search.now.found.items search.now.steps.items }
-    ensures { IfOk result (λ found. AreAnswers pairs.now pairs.now search.now.found.items search.now.steps.items node found.items) }
+    requires steps { HasSteps (length pairs.now) search.now.found.items search.now.steps.items }
+    requires ends { AreEnds graph.now pairs.now search.now.steps.items }
+    ensures answers { IfOk result (λ found. AreAnswers pairs.now pairs.now search.now.found.items search.now.steps.items node found.items) }
+    ensures nodes { IfOk result (λ found. All (HasNodes graph.now) found.items) }
 {
     let mut found = Vec::new(alloc);
     for (place, pair) in pairs.iter().enumerate() {
         if pair.node == node {
             let at = search.found[place].unwrap();
-            found.push(read_back(alloc, &search.steps, at, pair.sender)?)?;
+            let steps = search.steps.as_slice();
+            found.push(read_back(alloc, graph, pairs, steps, at, pair.sender)?)?;
         }
     }
     Ok(found)
 }
 
 // The trail of a step, read from its end.
-fn read_back(alloc: Global, steps: &[Step], mut at: usize, sender: u32) -> Result<Found, AllocError>
+fn read_back(
+    alloc: Global,
+    graph: &Graph,
+    pairs: &[Reached],
+    steps: &[Step],
+    mut at: usize,
+    sender: u32,
+) -> Result<Found, AllocError>
     requires linked { AreLinked steps.now }
+    requires ends { AreEnds graph.now pairs.now steps.now }
     requires at { at < length steps.now }
     ensures sender { IfOk result (λ found. found.sender ≡ sender) }
     ensures trail { IfOk result (λ found. trail_of found ≡ trail_at steps.now at) }
+    ensures nodes { IfOk result (HasNodes graph.now) }
 {
+    let _ = graph;
     let mut items = Vec::new(alloc);
+    let mut nodes = Vec::new(alloc);
     loop {
-        match steps[at].link {
+        let Step { place, link } = steps[at];
+        nodes.push(pairs[place].node)?;
+        match link {
             Link::Recipient(recipient) => {
                 items.reverse();
+                nodes.reverse();
                 return Ok(Found {
                     sender,
                     recipient,
                     items,
+                    nodes,
                 });
             }
             Link::Item(from, item) => {

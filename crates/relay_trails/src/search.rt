@@ -8,7 +8,7 @@ ghost use Rattle.relay_trails.specs.declared.step.Link.TheVariants.{Recipient, I
 ghost use Rattle.relay_trails.specs.Steps.{IsTaken};
 ghost use Rattle.relay_trails.specs.Searches.{IsAt, IsDone};
 
-use crate::places::place_of;
+use crate::places::{likely_place, place_of};
 use crate::step::{Link, Step};
 use relay_pairs::Reached;
 use relay_tables::Graph;
@@ -53,6 +53,7 @@ impl Search {
                     sender: 0,
                     node: *node,
                 },
+                *node as usize,
             );
             self.take(place, Link::Recipient(recipient))?;
         }
@@ -90,7 +91,8 @@ impl Search {
     {
         // For what the call says alone: there are few nodes.
         let _ = graph.nodes();
-        let pair = pairs[self.steps[from].place];
+        let at = self.steps[from].place;
+        let pair = pairs[at];
         let sender = graph.sender_after(pair.sender, pair.node);
         for (item, node) in graph.children(pair.node).iter().enumerate() {
             let place = place_of(
@@ -99,6 +101,7 @@ impl Search {
                     sender,
                     node: *node,
                 },
+                likely_place(at, pair.node, *node),
             );
             self.take(place, Link::Item(from, item))?;
         }

@@ -8,7 +8,7 @@ pub in_order-requires : goal.in_order-requires
 in_order-requires c =
     let g = c.args.grounds.now.workings.now.graph in
     let senders = c.in_ok-answers.ensures.senders ∙ ap (λ (found : List Found). senders_of g found) c.deref.ensures.value in
-    apart_answers c.args.grounds.now.job.now g c.args.node.now c.in_ok-found.found.items c.in_ok-found.ensures c.in_ok-answers.answers.items senders
+    apart_answers c.args.grounds.now.job.now g c.args.node.now c.in_ok-found.found.items c.in_ok-found.ensures.best c.in_ok-answers.answers.items senders
 
 pub returns : goal.returns
 returns c =
@@ -17,4 +17,4 @@ returns c =
     let senders = c.in_ok-answers.ensures.senders ∙ ap (λ (found : List Found). senders_of g found) c.deref.ensures.value in
     if_ok_both c.in_order.result c.in_order.ensures.members c.in_order.ensures.ascending
     (λ sorted members up.
-    answers_are grounds.job.now g c.args.node.now c.in_ok-found.found.items c.in_ok-found.ensures c.in_ok-answers.answers.items senders grounds.workings.now.plan grounds.recipient_lines.now c.in_ok-answers.ensures.each sorted members up)
+    answers_are grounds.job.now g c.args.node.now c.in_ok-found.found.items c.in_ok-found.ensures.best c.in_ok-answers.answers.items senders grounds.workings.now.plan grounds.recipient_lines.now c.in_ok-answers.ensures.each sorted members up)

@@ -1,13 +1,19 @@
-use Rattle.std.proofs.Common.{List, map, ap, ◌++◌, [], ◌∷◌, ◌∙◌}
+use Rattle.std.proofs.Common.{List, map, ap, sym, subst, ◌++◌, [], ◌∷◌, ◌∙◌}
 use Rattle.std.proofs.lemmas.List.Elements.{All-push, All-same}
 use Rattle.relay_trails.specs.declared.found.Found.{Found}
 use Rattle.relay_explain.specs.declared.answer.Answer.{Answer}
+use Rattle.relay_trails.specs.Trails.{HasNodes}
 use Rattle.aliasplan_explain.specs.Explanations.{IsAnswerFor}
 use Rattle.aliasplan_explain.proofs.AnswerFacts.{given_sender, reached_at, senders_more}
 use Rattle.aliasplan_explain.proofs.answering.answers_of.Goals as goal
 
 pub answer_of-requires-clause-ending : goal.answer_of-requires-clause-ending
 answer_of-requires-clause-ending c = c.loop-one.invariant.ending
+
+pub answer_of-requires-clause-nodes : goal.answer_of-requires-clause-nodes
+answer_of-requires-clause-nodes c =
+    let with_nodes : Found → Type 0 = HasNodes c.args.grounds.now.workings.now.graph in
+    subst with_nodes (sym c.one-item.is) (c.requires.nodes c.loop-one.one-index c.one-item.result c.loop-one-test.true)
 
 pub answer_of-requires-clause-reached : goal.answer_of-requires-clause-reached
 answer_of-requires-clause-reached c =

@@ -4,6 +4,7 @@ use Rattle.relay_text.specs.AddressParts.{AddressParts}
 use Rattle.relay_aliasfile.specs.declared.entry.Entry.{Entry as AliasEntry}
 use Rattle.relay_tables.specs.declared.node.Node.{Node}
 use Rattle.relay_tables.specs.declared.node.Node.TheVariants as nodes
+use Rattle.relay_tables.specs.GraphParts.{GraphParts}
 use Rattle.relay_tables.specs.Targets.{targets_of, recipient_target}
 use Rattle.relay_tables.specs.Senders.{owner_entry}
 use Rattle.relay_trails.specs.Trails.{Trail}
@@ -37,6 +38,11 @@ module _ (job : Job) where
   abbrev pub given_at : Option ℕ → GivenBy
   given_at None = given.Envelope
   given_at (Some number) = given_or given.Envelope (slice_get (directory_of job).aliases number)
+
+  -- who gives the sender past some nodes, by their numbers
+  abbrev pub IsGivenPast : GraphParts → GivenBy → List ℕ → GivenBy → Type 0
+  IsGivenPast g before [] after = after ≡ before
+  IsGivenPast g before (n ∷ numbers) after = (node : Node) × (slice_get g.nodes n ≡ Some node) × IsGivenPast g (given_past before node) numbers after
 
   -- a step from a node by its item of a number
   pub record IsStepTo (from : Node) (item : ℕ) (to : Node) (step : Step) : Type 0 where
