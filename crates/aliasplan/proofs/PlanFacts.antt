@@ -79,9 +79,7 @@ module _ (job : Job) (plan : Plan) (given : List (List ℕ)) (is : IsPlanWith jo
 
   -- with no lines it is the plan with its own
   pub own_plan : given ≡ [] → IsOwnPlanOf job plan
-  own_plan none =
-      let own = plan_over job plan (λ q. IsTrue (has_text given q) ⊎ IsOwnFindingLine job q) (IsOwnFindingLine job) no_more is in
-      record { hostname = own.hostname; transactions = own.transactions; findings_ascending = own.findings_ascending; findings = own.findings }
+  own_plan none = plan_over job plan (λ q. IsTrue (has_text given q) ⊎ IsOwnFindingLine job q) (IsOwnFindingLine job) no_more is
     where
       no_more : (q : List ℕ) → (IsTrue (has_text given q) ⊎ IsOwnFindingLine job q) ↔ IsOwnFindingLine job q
       no_more q = (

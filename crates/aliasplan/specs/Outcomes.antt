@@ -55,7 +55,7 @@ IsRefused limits job (BadEnvelope line) = ⊥
 IsRefused limits job Write = ⊥
 
 -- tables that are within the limits, whatever the envelope
-pub record AreTablesFew (limits : Limits) (tables : Job) : Type 0 where
+pub record AreTableCountsWithin (limits : Limits) (tables : Job) : Type 0 where
   pub names : length (nodes_of (directory_of tables) []) ≤ limits.names
   pub owners : owned_count tables ≤ limits.owners
 

@@ -30,16 +30,13 @@ module _ (job : Job) where
     pub findings_ascending : IsAscendingBy text_cmp plan.findings
     pub findings : (line : List ℕ) → Contains plan.findings line ↔ IsFindingLine job line
 
-  -- The plan with the findings of what is reached alone, without the lines of files and tables that are at fault.
-  pub record IsOwnPlanOf (plan : Plan) : Type 0 where
-    pub hostname : plan.hostname ≡ job.settings.hostname
-    pub transactions : AreTransactionsOf plan.transactions
-    pub findings_ascending : IsAscendingBy text_cmp plan.findings
-    pub findings : (line : List ℕ) → Contains plan.findings line ↔ IsOwnFindingLine job line
-
   -- A plan whose findings are the lines of which `IsLine` holds.
   pub record IsPlanWith (IsLine : List ℕ → Type 0) (plan : Plan) : Type 0 where
     pub hostname : plan.hostname ≡ job.settings.hostname
     pub transactions : AreTransactionsOf plan.transactions
     pub findings_ascending : IsAscendingBy text_cmp plan.findings
     pub findings : (line : List ℕ) → Contains plan.findings line ↔ IsLine line
+
+  -- The plan with the findings of what is reached alone, without the lines of files and tables that are at fault.
+  abbrev pub IsOwnPlanOf : Plan → Type 0
+  IsOwnPlanOf = IsPlanWith (IsOwnFindingLine job)

@@ -11,10 +11,11 @@ ghost use Rattle.aliasplan.specs.Reaching.{AreReachedPairs};
 ghost use Rattle.aliasplan.specs.Report.{routes, IsLineOf};
 
 use crate::gathering::{Gathering, gather_pairs};
+use crate::job_view::JobView;
 use crate::sources::Sources;
 use relay_delivery::{BatchLimits, transactions};
 use relay_destinations::Destinations;
-use relay_job::{Job, Settings};
+use relay_job::Settings;
 use relay_pairs::Reached;
 use relay_tables::Graph;
 use relay_text::Address;
@@ -49,7 +50,7 @@ fn senders_of<'a>(alloc: Global, graph: &'a Graph) -> Result<Vec<Option<&'a Addr
 /// route.
 pub fn plan_addresses(
     alloc: Global,
-    job: &Job,
+    job: &JobView<'_>,
     sources: &Sources,
     graph: &Graph,
     pairs: &[Reached],
@@ -65,7 +66,8 @@ pub fn plan_addresses(
     ensures fewest { IfOk result (λ transactions. IsFewest job.now transactions.items) }
     ensures lines { OnOk result (Reports lines.old lines.new (IsLineOf job.now routes)) }
 {
-    let via = &job.settings.mailbox_transport;
+    let settings = job.settings();
+    let via = &settings.mailbox_transport;
     let destinations = Destinations::new(alloc, &sources.router, via, sources.key)?;
     let gathering = gather_pairs(alloc, job, graph, destinations, pairs, lines)?;
     let Gathering {
@@ -81,6 +83,6 @@ pub fn plan_addresses(
         destinations.routes(),
         recipients.as_slice(),
         stops,
-        limits_of(&job.settings),
+        limits_of(settings),
     )
 }

@@ -1,16 +1,14 @@
 //! What becomes of a job's bytes.
-ghost use Rattle.std.specs.Prelude.{◌≡◌, ◌≤◌, length, IfOk, IfErr};
-ghost use Rattle.aliasplan.specs.Outcomes.{text_in, AreOptions, AreLimits, IsAnswer, RefusesBytes};
+ghost use Rattle.std.specs.Prelude.{◌≤◌, length, IfOk, IfErr};
+ghost use Rattle.aliasplan.specs.Outcomes.{AreOptions, AreLimits, IsAnswer, RefusesBytes};
 
-use crate::options::{Form, Limits, Options};
+use crate::options::{Limits, Options};
 use crate::planning::plan_job;
 use crate::summary::Summary;
 use relay_job::{RunFault, parse_job};
 use relay_rounds::Gate;
 use relay_text::Text;
-use relay_wire::plan::plan_text;
-use relay_wire::{Plan, wire_text};
-use std::alloc::{AllocError, Global};
+use std::alloc::Global;
 use std::thread::Threads;
 
 /// The text of a plan, and its numbers.
@@ -18,16 +16,6 @@ use std::thread::Threads;
 pub struct Answer {
     pub text: Text,
     pub summary: Summary,
-}
-
-/// A plan as it is written.
-fn text_in(alloc: Global, form: Form, plan: &Plan) -> Result<Text, AllocError>
-    ensures { IfOk result (λ text. text ≡ text_in form plan.now) }
-{
-    match form {
-        Form::Plan => plan_text(alloc, plan),
-        Form::Wire => wire_text(alloc, plan),
-    }
 }
 
 /// What is written for a job's bytes.
@@ -47,7 +35,7 @@ pub fn answer_job<G: Gate, R: Threads + Sync>(
 {
     let job = parse_job(alloc, input)?;
     let plan = plan_job(rt, alloc, &job, options, limits, gate)?;
-    let text = text_in(alloc, options.form, &plan)?;
+    let text = options.form.text_of(alloc, &plan)?;
     let summary = Summary::of(&plan)?;
     Ok(Answer { text, summary })
 }

@@ -9,6 +9,7 @@ ghost use Rattle.aliasplan.specs.Findings.{Reports};
 ghost use Rattle.aliasplan.specs.Outcomes.{AreOptions, AreLimits, IsWithin, IsRefused};
 
 use crate::crew::Crew;
+use crate::job_view::JobView;
 use crate::options::{Limits, Options};
 use crate::planning::{graph_of, nodes_of, pairs_of};
 use crate::sources::Sources;
@@ -47,7 +48,7 @@ fn add_found(
 /// Adds the domain that a node asks for.
 fn add_node(
     alloc: Global,
-    job: &Job,
+    job: &JobView<'_>,
     router: &Router,
     graph: &Graph,
     node: u32,
@@ -59,7 +60,7 @@ fn add_node(
 {
     match graph.node(node) {
         Node::Mailbox(address) => {
-            let via = &job.settings.mailbox_transport;
+            let via = &job.settings().mailbox_transport;
             add_found(alloc, router.destination_via(alloc, via, address), domains)
         }
         Node::Remote(address) => add_found(alloc, router.destination(alloc, address), domains),
@@ -75,7 +76,7 @@ fn add_node(
 /// The domains that nodes ask for.
 fn domains_of_nodes(
     alloc: Global,
-    job: &Job,
+    job: &JobView<'_>,
     router: &Router,
     graph: &Graph,
     nodes: &[u32],
@@ -94,7 +95,7 @@ fn domains_of_nodes(
 /// The domains that the reached pairs ask for.
 fn domains_of_pairs(
     alloc: Global,
-    job: &Job,
+    job: &JobView<'_>,
     router: &Router,
     graph: &Graph,
     pairs: &[Reached],
@@ -112,7 +113,7 @@ fn domains_of_pairs(
 /// The domains that a job asks for whose files and tables are read.
 fn domains_of_sources<G: Gate, R: Threads + Sync>(
     crew: &Crew<G, R>,
-    job: &Job,
+    job: &JobView<'_>,
     sources: &Sources,
 ) -> Result<Seq<Text>, RunFault>
     requires tables { sources.now.tables ≡ directory_of job.now }
@@ -163,5 +164,5 @@ pub fn domains<G: Gate, R: Threads + Sync>(
         limits,
         gate,
     };
-    domains_of_sources(&crew, job, &sources)
+    domains_of_sources(&crew, &JobView::of(job), &sources)
 }

@@ -11,6 +11,7 @@ ghost use Rattle.aliasplan.specs.Outcomes.{AreOptions, AreLimits, IsWithin, IsRe
 ghost use Rattle.aliasplan.specs.Report.{texts, IsFindingLine, IsLineOf};
 
 use crate::crew::Crew;
+use crate::job_view::JobView;
 use crate::options::{Limits, Options};
 use crate::planning::plan_sources;
 use crate::sources::Sources;
@@ -93,7 +94,7 @@ pub fn check_aliases<G: Gate, R: Threads + Sync>(
         limits,
         gate,
     };
-    match plan_sources(&crew, &job, &sources, lines) {
+    match plan_sources(&crew, &JobView::of(&job), &sources, lines) {
         Ok(plan) => Ok(plan.findings),
         Err(fault) => Err(fault),
     }

@@ -11,9 +11,9 @@ ghost use Rattle.aliasplan.specs.Listing.{place_at, target_finding};
 ghost use Rattle.aliasplan.specs.Findings.{Reports};
 ghost use Rattle.aliasplan.specs.Entries.{LeadsWithin, IsLineIn, HaveLine, IsTargetLine, IsListLine, IsNodeLine, IsLoopLine};
 
+use crate::job_view::JobView;
 use crate::listing::Listing;
 use crate::reach::Reach;
-use relay_job::Job;
 use relay_tables::{Graph, Node, Tables};
 use relay_wire::{Finding, FindingLines};
 use std::alloc::{AllocError, Global};
@@ -173,7 +173,7 @@ fn report_loops(
 /// reached entry without items, and for each that is on a loop (aliases(5); RFC 5321 section 3.9).
 pub fn report_entries(
     alloc: Global,
-    job: &Job,
+    job: &JobView<'_>,
     tables: &Tables,
     graph: &Graph,
     reach: &Reach<'_>,

@@ -7,10 +7,11 @@ ghost use Rattle.aliasplan.specs.Planners.{AreRead};
 ghost use Rattle.aliasplan.specs.Plans.{IsFewest, IsOwnPlanOf, IsSoundFor};
 
 use crate::crew::Crew;
+use crate::job_view::JobView;
 use crate::options::Limits;
 use crate::planning::{graph_of, pairs_of, plan_reached};
 use crate::sources::Sources;
-use relay_job::{Job, RunFault};
+use relay_job::RunFault;
 use relay_rounds::Gate;
 use relay_tables::{Graph, TableCounts, TableFault, Tables, names_are_counted};
 use relay_wire::{FindingLines, Plan};
@@ -30,7 +31,7 @@ fn are_surely_within(counts: TableCounts, recipients: usize, limits: Limits) -> 
 /// The graph of what a job's envelope reaches.
 fn reached_graph(
     alloc: Global,
-    job: &Job,
+    job: &JobView<'_>,
     tables: &Tables,
     limits: Limits,
 ) -> Result<Graph, RunFault>
@@ -41,8 +42,7 @@ fn reached_graph(
     ensures graph { IfOk result (IsJobPart job.now) }
     ensures refused { IfErr result (IsRefused limits job.now) }
 {
-    let recipients = job.recipients.as_slice();
-    match Graph::reached(alloc, tables, job.sender.as_ref(), recipients, limits.names) {
+    match Graph::reached(alloc, tables, job.sender(), job.recipients(), limits.names) {
         Ok(graph) => Ok(graph),
         Err(TableFault::TooManyNames) => Err(RunFault::TooManyNames),
         Err(TableFault::TooManyOwners) => unreachable!(),
@@ -53,7 +53,7 @@ fn reached_graph(
 /// A graph of what a job's envelope reaches: of that alone, unless it has to be counted whether there are too many names or owners.
 fn part_of(
     alloc: Global,
-    job: &Job,
+    job: &JobView<'_>,
     sources: &Sources,
     counts: TableCounts,
     limits: Limits,
@@ -66,7 +66,7 @@ fn part_of(
     ensures refused { IfErr result (IsRefused limits job.now) }
 {
     names_are_counted();
-    if are_surely_within(counts, job.recipients.as_slice().len(), limits) {
+    if are_surely_within(counts, job.recipients().len(), limits) {
         reached_graph(alloc, job, &sources.tables, limits)
     } else {
         graph_of(alloc, job, &sources.tables, limits)
@@ -76,7 +76,7 @@ fn part_of(
 /// The plan of a job whose files and tables are read, with the findings of what is reached alone.
 pub fn plan_envelope<G: Gate, R: Threads + Sync>(
     crew: &Crew<G, R>,
-    job: &Job,
+    job: &JobView<'_>,
     sources: &Sources,
     counts: TableCounts,
 ) -> Result<Plan, RunFault>

@@ -40,8 +40,8 @@ ghost use Rattle.aliasplan.specs.Routes.{IsThere, IsLineAt, IsRoutedAt, IsLineOf
 ghost use Rattle.relay_pairs.specs.declared.reached.Reached as reached;
 
 use crate::findings::reason_for;
+use crate::job_view::JobView;
 use relay_destinations::Way;
-use relay_job::Job;
 use relay_pairs::Reached;
 use relay_routes::Unrouted;
 use relay_tables::Node;
@@ -88,7 +88,7 @@ fn recipient_at<'a>(
 /// The recipient that a node is. The line of an address without a route is added.
 pub(crate) fn recipient_of<'a>(
     alloc: Global,
-    job: &Job,
+    job: &JobView<'_>,
     node: &'a Node,
     destinations: &mut Destinations<'a>,
     lines: &mut FindingLines,
@@ -143,7 +143,7 @@ impl<'a> Gathering<'a> {
     fn settle(
         &mut self,
         alloc: Global,
-        job: &Job,
+        job: &JobView<'_>,
         node: u32,
         lines: &mut FindingLines,
     ) -> Result<Known, AllocError>
@@ -180,7 +180,7 @@ impl<'a> Gathering<'a> {
     fn know(
         &mut self,
         alloc: Global,
-        job: &Job,
+        job: &JobView<'_>,
         node: u32,
         lines: &mut FindingLines,
     ) -> Result<Known, AllocError>
@@ -208,7 +208,7 @@ impl<'a> Gathering<'a> {
     fn add(
         &mut self,
         alloc: Global,
-        job: &Job,
+        job: &JobView<'_>,
         pair: Reached,
         lines: &mut FindingLines,
     ) -> Result<(), AllocError>
@@ -236,7 +236,7 @@ impl<'a> Gathering<'a> {
 /// What the pairs lead to. The lines of the addresses that have no route are added to those that are reported already.
 pub fn gather_pairs<'a>(
     alloc: Global,
-    job: &Job,
+    job: &JobView<'_>,
     graph: &'a Graph,
     destinations: Destinations<'a>,
     pairs: &[Reached],

@@ -12,6 +12,7 @@ mod entries;
 mod enveloping;
 mod findings;
 mod gathering;
+mod job_view;
 mod listing;
 mod listing_domains;
 pub mod options;

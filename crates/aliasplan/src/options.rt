@@ -1,5 +1,11 @@
 //! What a run is asked for.
-ghost use Rattle.std.specs.Prelude.{◌≡◌};
+ghost use Rattle.std.specs.Prelude.{◌≡◌, IfOk};
+ghost use Rattle.aliasplan.specs.Outcomes.{text_in};
+
+use relay_text::Text;
+use relay_wire::plan::plan_text;
+use relay_wire::{Plan, wire_text};
+use std::alloc::{AllocError, Global};
 
 /// What a plan is written as.
 #[derive(Clone, Copy, Debug, PartialEq, Eq)]
@@ -8,6 +14,18 @@ pub enum Form {
     Plan,
     /// The commands of each transaction (RFC 5321 section 3.3; RFC 2033).
     Wire,
+}
+
+impl Form {
+    /// A plan as it is written. `Err` where memory runs out.
+    pub fn text_of(self, alloc: Global, plan: &Plan) -> Result<Text, AllocError>
+        ensures { IfOk result (λ text. text ≡ text_in self plan.now) }
+    {
+        match self {
+            Form::Plan => plan_text(alloc, plan),
+            Form::Wire => wire_text(alloc, plan),
+        }
+    }
 }
 
 /// How the answer is written, and how the work is divided, which changes no byte of the answer.

@@ -6,13 +6,13 @@ use relay_text::{Seq, Text};
 use std::marker::Model;
 
 /// Settings, files and tables, read once for many envelopes. A plan takes the time and memory of what its envelope reaches, and not of
-/// the tables, unless these have nearly as many names as the limits allow.
+/// the tables, unless these have nearly as many names as the limits allow; several threads can plan at once.
 ///
 /// Contracts see it as the job of these files and tables without an envelope.
 #[derive(Drop)]
 pub struct Planner {
-    /// Its envelope is the one that is planned.
-    job: Job,
+    /// Its envelope isn't looked at.
+    tables: Job,
     read: TablesRead,
 }
 
@@ -32,9 +32,9 @@ impl Model for Planner {
 
     ghost Value = { Job };
 
-    ghost view = { λ a. without_envelope a.job };
+    ghost view = { λ a. without_envelope a.tables };
 
-    ghost invariant = { λ a. IsReady (without_envelope a.job) a.read.sources a.read.counts a.read.findings };
+    ghost invariant = { λ a. IsReady (without_envelope a.tables) a.read.sources a.read.counts a.read.findings };
 }
 
 ghost use Rattle.std.specs.Prelude.{◌≡◌, [], length, IsTrue, IfOk, IfErr, OnOk};
@@ -44,13 +44,14 @@ ghost use Rattle.relay_job.specs.Envelopes.{with_envelope};
 ghost use Rattle.relay_job.specs.Tables.{without_envelope, AreTablesWithin};
 ghost use Rattle.aliasplan.specs.Checks.{AreLines};
 ghost use Rattle.aliasplan.specs.Delivery.{directory_of};
-ghost use Rattle.aliasplan.specs.Outcomes.{owned_count, AreLimits, AreTablesFew, HasRefusedTables, IsRefused, IsWithin};
+ghost use Rattle.aliasplan.specs.Outcomes.{owned_count, AreLimits, AreTableCountsWithin, HasRefusedTables, IsRefused, IsWithin};
 ghost use Rattle.aliasplan.specs.Planners.{AreRead};
 ghost use Rattle.aliasplan.specs.Plans.{IsFewest, IsOwnPlanOf, IsSoundFor};
 ghost use Rattle.aliasplan.specs.Report.{texts, IsLineOf};
 
 use crate::crew::Crew;
 use crate::enveloping::plan_envelope;
+use crate::job_view::JobView;
 use crate::options::Limits;
 use relay_aliasfile::file_counts;
 use relay_job::{Envelope, RunFault, Settings, parsed_tables};
@@ -71,7 +72,7 @@ fn counts_of(
     requires limits { AreLimits limits }
     ensures names { IfOk result (λ counts. counts.names ≡ length (nodes_of (directory_of job.now) [])) }
     ensures owners { IfOk result (λ counts. counts.owners ≡ owned_count job.now) }
-    ensures within { OnOk result (AreTablesFew limits job.now) }
+    ensures within { OnOk result (AreTableCountsWithin limits job.now) }
     ensures refused { IfErr result (HasRefusedTables limits job.now) }
 {
     let _ = job;
@@ -84,12 +85,13 @@ fn counts_of(
 }
 
 impl TablesRead {
+    /// What the files and tables of a job say, whatever its envelope.
     fn of(alloc: Global, job: &Job, limits: Limits) -> Result<TablesRead, RunFault>
         requires limits { AreLimits limits }
         requires tables { AreTablesWithin limits.bytes job.now }
         ensures read { IfOk result (λ read. AreRead (without_envelope job.now) read.sources read.counts) }
         ensures findings { IfOk result (λ read. AreLines (IsLineOf (without_envelope job.now) texts) read.findings) }
-        ensures within { OnOk result (AreTablesFew limits job.now) }
+        ensures within { OnOk result (AreTableCountsWithin limits job.now) }
         ensures refused { IfErr result (HasRefusedTables limits job.now) }
     {
         parsed_tables();
@@ -121,12 +123,12 @@ impl Planner {
         requires limits { AreLimits limits }
         requires tables { AreTablesWithin limits.bytes tables }
         ensures tables { IfOk result (λ planner. planner ≡ without_envelope tables) }
-        ensures within { OnOk result (AreTablesFew limits tables) }
+        ensures within { OnOk result (AreTableCountsWithin limits tables) }
         ensures refused { IfErr result (HasRefusedTables limits tables) }
     {
         parsed_tables();
         match TablesRead::of(alloc, &tables, limits) {
-            Ok(read) => Ok(Planner { job: tables, read }),
+            Ok(read) => Ok(Planner { tables, read }),
             Err(fault) => Err(fault),
         }
     }
@@ -143,32 +145,26 @@ impl Planner {
         ensures settings { result.now ≡ self.now.settings }
         ensures origin { IsTrue (is_origin result.now.origin) }
     {
-        &self.job.settings
+        &self.tables.settings
     }
 
     /// The plan of one envelope, as `plan_job` makes it of these tables and the envelope, but for the lines of `findings`, which it
-    /// leaves out. The planner is then as before.
+    /// leaves out.
     ///
     /// The errors are those of `plan_job`, in the same order, and neither the number of threads nor how the work is cut changes the
     /// answer. The form of the options is not regarded.
     pub fn plan<G: Gate, R: Threads + Sync>(
-        &mut self,
+        &self,
         crew: &Crew<G, R>,
-        envelope: Envelope,
+        envelope: &Envelope,
     ) -> Result<Plan, RunFault>
-        ensures plan { IfOk result (IsOwnPlanOf (with_envelope self.old envelope)) }
-        ensures sound { IfOk result (λ plan. IsSoundFor (with_envelope self.old envelope) plan.transactions) }
-        ensures fewest { IfOk result (λ plan. IsFewest (with_envelope self.old envelope) plan.transactions) }
-        ensures within { OnOk result (IsWithin crew.now.limits (with_envelope self.old envelope)) }
-        ensures refused { IfErr result (IsRefused crew.now.limits (with_envelope self.old envelope)) }
-        ensures stays { self.new ≡ self.old }
+        ensures plan { IfOk result (IsOwnPlanOf (with_envelope self.now envelope.now)) }
+        ensures sound { IfOk result (λ plan. IsSoundFor (with_envelope self.now envelope.now) plan.transactions) }
+        ensures fewest { IfOk result (λ plan. IsFewest (with_envelope self.now envelope.now) plan.transactions) }
+        ensures within { OnOk result (IsWithin crew.now.limits (with_envelope self.now envelope.now)) }
+        ensures refused { IfErr result (IsRefused crew.now.limits (with_envelope self.now envelope.now)) }
     {
-        let Envelope { sender, recipients } = envelope;
-        self.job.sender = sender;
-        self.job.recipients = recipients;
-        let plan = plan_envelope(crew, &self.job, &self.read.sources, self.read.counts);
-        self.job.sender = None;
-        self.job.recipients = Seq::of(Vec::new(crew.alloc));
-        plan
+        let job = JobView::joined(&self.tables, envelope);
+        plan_envelope(crew, &job, &self.read.sources, self.read.counts)
     }
 }

@@ -16,6 +16,7 @@ ghost use Rattle.aliasplan.specs.Reaching.{AreReachedPairs, AreReachedNodes};
 use crate::addresses::plan_addresses;
 use crate::crew::Crew;
 use crate::entries::report_entries;
+use crate::job_view::JobView;
 use crate::options::{Limits, Options};
 use crate::reach::Reach;
 use crate::sources::Sources;
@@ -33,7 +34,7 @@ use std::thread::Threads;
 /// The graph of a job's tables and envelope.
 pub(crate) fn graph_of(
     alloc: Global,
-    job: &Job,
+    job: &JobView<'_>,
     tables: &Tables,
     limits: Limits,
 ) -> Result<Graph, RunFault>
@@ -45,12 +46,11 @@ pub(crate) fn graph_of(
     ensures owners { OnOk result (owned_count job.now ≤ limits.owners) }
     ensures refused { IfErr result (IsRefused limits job.now) }
 {
-    let recipients = job.recipients.as_slice();
     match Graph::build(
         alloc,
         tables,
-        job.sender.as_ref(),
-        recipients,
+        job.sender(),
+        job.recipients(),
         limits.names,
         limits.owners,
     ) {
@@ -64,7 +64,7 @@ pub(crate) fn graph_of(
 /// The pairs of sender and node that a job reaches.
 pub(crate) fn pairs_of<G: Gate, R: Threads + Sync>(
     crew: &Crew<G, R>,
-    job: &Job,
+    job: &JobView<'_>,
     graph: &Graph,
 ) -> Result<Vec<Reached>, RunFault>
     requires graph { IsJobPart job.now graph.now }
@@ -97,7 +97,7 @@ pub(crate) fn pairs_of<G: Gate, R: Threads + Sync>(
 /// The nodes that a job reaches, from its pairs.
 pub(crate) fn nodes_of(
     alloc: Global,
-    job: &Job,
+    job: &JobView<'_>,
     graph: &Graph,
     pairs: &[Reached],
 ) -> Result<Vec<u32>, AllocError>
@@ -114,7 +114,7 @@ pub(crate) fn nodes_of(
 /// Adds the lines of what the entries that a job reaches lead to and shouldn't.
 fn report_reached<G: Gate, R: Threads + Sync>(
     crew: &Crew<G, R>,
-    job: &Job,
+    job: &JobView<'_>,
     tables: &Tables,
     graph: &Graph,
     pairs: &[Reached],
@@ -146,7 +146,7 @@ fn report_reached<G: Gate, R: Threads + Sync>(
 /// The plan of transactions and lines.
 fn plan_of(
     alloc: Global,
-    job: &Job,
+    job: &JobView<'_>,
     transactions: Vec<Planned>,
     lines: FindingLines,
 ) -> Result<Plan, AllocError>
@@ -157,7 +157,7 @@ fn plan_of(
     ensures sound { IfOk result (λ plan. IsSoundFor job.now plan.transactions) }
     ensures fewest { IfOk result (λ plan. IsFewest job.now plan.transactions) }
 {
-    let hostname = Vec::from_slice(alloc, job.settings.hostname.as_bytes())?;
+    let hostname = Vec::from_slice(alloc, job.settings().hostname.as_bytes())?;
     Ok(Plan {
         hostname: Text::of(hostname),
         transactions: Seq::of(transactions),
@@ -168,7 +168,7 @@ fn plan_of(
 /// The plan of a job that reaches these pairs, with the lines that are given and those of what is reached.
 pub(crate) fn plan_reached<G: Gate, R: Threads + Sync>(
     crew: &Crew<G, R>,
-    job: &Job,
+    job: &JobView<'_>,
     sources: &Sources,
     graph: &Graph,
     pairs: &[Reached],
@@ -194,7 +194,7 @@ pub(crate) fn plan_reached<G: Gate, R: Threads + Sync>(
 /// The plan of a job whose files and tables are read. Their lines that are at fault are given.
 pub(crate) fn plan_sources<G: Gate, R: Threads + Sync>(
     crew: &Crew<G, R>,
-    job: &Job,
+    job: &JobView<'_>,
     sources: &Sources,
     lines: FindingLines,
 ) -> Result<Plan, RunFault>
@@ -252,5 +252,5 @@ pub fn plan_job<G: Gate, R: Threads + Sync>(
         limits,
         gate,
     };
-    plan_sources(&crew, job, &sources, lines)
+    plan_sources(&crew, &JobView::of(job), &sources, lines)
 }

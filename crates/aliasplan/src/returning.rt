@@ -14,6 +14,7 @@ ghost use Rattle.aliasplan.specs.ReturnLines.{AreFindings, AreLinesOf, AreReturn
 ghost use Rattle.aliasplan.specs.Texts.{has_fault_line};
 
 use crate::crew::Crew;
+use crate::job_view::JobView;
 use crate::options::{Limits, Options};
 use crate::planning::{graph_of, nodes_of, pairs_of, plan_reached};
 use crate::return_blocks::blocks_of;
@@ -36,7 +37,7 @@ use std::thread::Threads;
 /// The lines of what is returned to each sender, by the senders' numbers. The lines of what can't be delivered at nodes are given.
 fn return_lines<G: Gate, R: Threads + Sync>(
     crew: &Crew<G, R>,
-    job: &Job,
+    job: &JobView<'_>,
     graph: &Graph,
     nodes: &[u32],
     undelivered: &[Seq<Text>],
@@ -60,7 +61,7 @@ fn return_lines<G: Gate, R: Threads + Sync>(
         cut: crew.options.cut,
         gate: crew.gate,
     };
-    let recipients = job.recipients.as_slice();
+    let recipients = job.recipients();
     match lines_by_sender(&search, undelivered, recipients, crew.limits.pairs) {
         Ok(lists) => Ok(lists),
         Err(ReachFault::TooManyPairs) => Err(RunFault::TooManyPairs),
@@ -71,7 +72,7 @@ fn return_lines<G: Gate, R: Threads + Sync>(
 /// The blocks of lines by senders' numbers.
 fn blocks_of_lines(
     alloc: Global,
-    job: &Job,
+    job: &JobView<'_>,
     graph: &Graph,
     lists: Vec<TextSet>,
 ) -> Result<Seq<Return>, AllocError>
@@ -88,7 +89,7 @@ fn blocks_of_lines(
 /// What is returned for a job that reaches these pairs.
 fn returns_of<G: Gate, R: Threads + Sync>(
     crew: &Crew<G, R>,
-    job: &Job,
+    job: &JobView<'_>,
     sources: &Sources,
     graph: &Graph,
     pairs: &[Reached],
@@ -112,7 +113,7 @@ fn returns_of<G: Gate, R: Threads + Sync>(
 /// The plan and what is returned, of a job whose files and tables are read. Their lines that are at fault are given.
 fn returned_sources<G: Gate, R: Threads + Sync>(
     crew: &Crew<G, R>,
-    job: &Job,
+    job: &JobView<'_>,
     sources: &Sources,
     lines: FindingLines,
 ) -> Result<Returned, RunFault>
@@ -175,5 +176,5 @@ pub fn returns<G: Gate, R: Threads + Sync>(
         limits,
         gate,
     };
-    returned_sources(&crew, job, &sources, lines)
+    returned_sources(&crew, &JobView::of(job), &sources, lines)
 }

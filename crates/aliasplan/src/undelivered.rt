@@ -8,9 +8,9 @@ ghost use Rattle.aliasplan.specs.ReturnLines.{AreFindings, AreUndelivered, AreLi
 
 use crate::entries::report_node;
 use crate::gathering::recipient_of;
+use crate::job_view::JobView;
 use crate::sources::Sources;
 use relay_destinations::Destinations;
-use relay_job::Job;
 use relay_tables::{Graph, Tables};
 use relay_text::{Seq, Text};
 use relay_wire::FindingLines;
@@ -19,7 +19,7 @@ use std::alloc::{AllocError, Global};
 /// The lines of what can't be delivered at a node: its targets, that it has none, or that it has no route.
 fn lines_of_node<'a>(
     alloc: Global,
-    job: &Job,
+    job: &JobView<'_>,
     tables: &Tables,
     graph: &'a Graph,
     node: u32,
@@ -56,7 +56,7 @@ fn no_lines(alloc: Global, graph: &Graph) -> Result<Vec<Seq<Text>>, AllocError>
 /// The lines of these nodes, by their numbers.
 pub fn undelivered_at<'a>(
     alloc: Global,
-    job: &'a Job,
+    job: &JobView<'a>,
     sources: &'a Sources,
     graph: &'a Graph,
     nodes: &[u32],
@@ -68,7 +68,7 @@ pub fn undelivered_at<'a>(
     ensures lines { IfOk result (λ lists. AreLinesOf graph.now job.now nodes.now lists.items) }
     ensures findings { IfOk result (λ lists. All AreFindings lists.items) }
 {
-    let via = &job.settings.mailbox_transport;
+    let via = &job.settings().mailbox_transport;
     let mut destinations = Destinations::new(alloc, &sources.router, via, sources.key)?;
     let mut lists = no_lines(alloc, graph)?;
     for node in nodes {

@@ -28,6 +28,7 @@ ghost use Rattle.aliasplan.specs.Reaching.{AreReachedPairs};
 ghost use Rattle.aliasplan.specs.Texts.{has_fault_line};
 
 use crate::crew::Crew;
+use crate::job_view::JobView;
 use crate::planning::{graph_of, pairs_of, plan_reached};
 use crate::sources::Sources;
 use relay_aliasfile::file_counts;
@@ -39,7 +40,7 @@ use std::thread::Threads;
 /// The plan and the workings of a job whose files and tables are read. Their lines that are at fault are given.
 fn workings_of<G: Gate, R: Threads + Sync>(
     crew: &Crew<G, R>,
-    job: &Job,
+    job: &JobView<'_>,
     sources: Sources,
     lines: FindingLines,
 ) -> Result<Workings, RunFault>
@@ -93,5 +94,5 @@ pub fn plan_with_workings<G: Gate, R: Threads + Sync>(
     let Ok(sources) = Sources::read(crew.alloc, job, &mut lines) else {
         return Err(RunFault::Memory);
     };
-    workings_of(crew, job, sources, lines)
+    workings_of(crew, &JobView::of(job), sources, lines)
 }

@@ -16,7 +16,7 @@ use Rattle.relay_envelopes.specs.declared.counts.EnvelopeCounts.{EnvelopeCounts}
 use Rattle.relay_envelopes.specs.EachText.{tables_text_of, done_line}
 use Rattle.aliasplan.specs.declared.options.Form.{Form}
 use Rattle.aliasplan.specs.declared.options.Limits.{Limits}
-use Rattle.aliasplan.specs.Outcomes.{AreTablesFew, HasRefusedTables}
+use Rattle.aliasplan.specs.Outcomes.{AreTableCountsWithin, HasRefusedTables}
 use Rattle.aliasplan.specs.Transfers.{Fronts}
 use Rattle.aliasplan_each.specs.Blocks.{texts_of}
 use Rattle.aliasplan_each.specs.Runs.{IsEachAnswer}
@@ -125,7 +125,7 @@ module _ (limits : Limits) (form : Form) (tables : Job) (input : List ℕ) where
       written = longer old late new body (line (done_line counts)) w.count begun w.written;
     }
 
-    pub plans : AreTablesFew limits tables → Appends late new (line (done_line counts)) → PlansBeside limits form tables input old new (record { findings = count; counts = counts })
+    pub plans : AreTableCountsWithin limits tables → Appends late new (line (done_line counts)) → PlansBeside limits form tables input old new (record { findings = count; counts = counts })
     plans few w = record {
       few = few;
       unbroken = k.unbroken;

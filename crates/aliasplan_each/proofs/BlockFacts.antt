@@ -157,10 +157,10 @@ module _ (limits : Limits) (form : Form) (tables : Job) where
     counted = g.counted ∙ ap (λ counts. with_outcome counts g.block.outcome) h.counted ∙ sym (fold-append before h.blocks g.block);
   }
 
-  pub grown_next : (all : List EnvelopeSection) (k : ℕ) (section : EnvelopeSection) → k < length all → (old between new : List ℕ) (before middle after : EnvelopeCounts) → Grown (map section_in (take k all)) old between before middle → (now : Job) → now ≡ tables → Grows limits form now (section_in (get_or all k section)) between new middle after → Grown (map section_in (take (k + 1) all)) old new before after
-  grown_next all k section short old between new before middle after h now stays g =
+  pub grown_next : (all : List EnvelopeSection) (k : ℕ) (section : EnvelopeSection) → k < length all → (old between new : List ℕ) (before middle after : EnvelopeCounts) → Grown (map section_in (take k all)) old between before middle → Grows limits form tables (section_in (get_or all k section)) between new middle after → Grown (map section_in (take (k + 1) all)) old new before after
+  grown_next all k section short old between new before middle after h g =
       subst (λ (sections : List Section). Grown sections old new before after) (sym (map_more section_in all k section short))
-      (grown_more (map section_in (take k all)) (section_in (get_or all k section)) old between new before middle after h (subst (λ (job : Job). Grows limits form job (section_in (get_or all k section)) between new middle after) stays g))
+      (grown_more (map section_in (take k all)) (section_in (get_or all k section)) old between new before middle after h g)
 
   pub all_grown : (sections : List Section) (old new : List ℕ) (before after : EnvelopeCounts) → Grown sections old new before after → GrowsByAll limits form tables sections old new before after
   all_grown sections old new before after h = record {

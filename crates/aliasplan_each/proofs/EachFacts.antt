@@ -13,7 +13,7 @@ use Rattle.relay_envelopes.specs.Sections.{Section, front_of, each_fault, each_t
 use Rattle.relay_envelopes.specs.EachText.{tables_text_of, done_line}
 use Rattle.aliasplan.specs.declared.options.Form.{Form}
 use Rattle.aliasplan.specs.declared.options.Limits.{Limits}
-use Rattle.aliasplan.specs.Outcomes.{AreTablesFew, HasRefusedTables}
+use Rattle.aliasplan.specs.Outcomes.{AreTableCountsWithin, HasRefusedTables}
 use Rattle.aliasplan_each.specs.declared.summary.EachSummary.{EachSummary}
 use Rattle.aliasplan_each.specs.Blocks.{no_counts, texts_of, counts_of, GrowsByAll}
 use Rattle.aliasplan_each.specs.Runs.{BeginsEach, IsEachAnswer, IsEachText, AreEachParts, RefusesEachBytes}
@@ -78,7 +78,7 @@ module _ (limits : Limits) (text : List ℕ) (size : length text ≤ limits.byte
 
   -- the answer of a planner of the text's tables
   pub text_is : (form : Form) (tables planner : Job) (sections : List Section) (answer : List ℕ) (summary : EachSummary)
-      → AreEachParts text tables sections → planner ≡ without_envelope tables → AreTablesFew limits tables → IsEachAnswer limits form planner sections answer summary → IsEachText limits form text answer summary
+      → AreEachParts text tables sections → planner ≡ without_envelope tables → AreTableCountsWithin limits tables → IsEachAnswer limits form planner sections answer summary → IsEachText limits form text answer summary
   text_is form tables planner sections answer summary parts is few answered = record {
     size = size;
     tables = tables;

@@ -10,7 +10,7 @@ use Rattle.relay_envelopes.specs.EachText.{tables_text_of}
 use Rattle.aliasplan.specs.declared.options.Form.{Form}
 use Rattle.aliasplan.specs.declared.options.Limits.{Limits}
 use Rattle.aliasplan.specs.Checks.{AreLines}
-use Rattle.aliasplan.specs.Outcomes.{AreTablesFew, HasRefusedTables}
+use Rattle.aliasplan.specs.Outcomes.{AreTableCountsWithin, HasRefusedTables}
 use Rattle.aliasplan.specs.Report.{texts, IsLineOf}
 use Rattle.aliasplan_each.specs.declared.summary.EachSummary.{EachSummary}
 use Rattle.aliasplan_each.specs.Blocks.{Block, texts_of, AreBlocks}
@@ -22,7 +22,7 @@ sections_in input = envelopes_of (job_lines input)
 
 -- The envelopes' answer by these tables is written.
 pub record PlansBeside (limits : Limits) (form : Form) (tables : Job) (input : List ℕ) (old new : Option (List ℕ)) (summary : EachSummary) : Type 0 where
-  pub few : AreTablesFew limits tables
+  pub few : AreTableCountsWithin limits tables
   pub unbroken : bad_envelopes false (job_lines input) ≡ None
   pub text : List ℕ
   pub due : IsEachAnswer limits form tables (sections_in input) text summary

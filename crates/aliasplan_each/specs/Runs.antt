@@ -11,7 +11,7 @@ use Rattle.relay_envelopes.specs.EachText.{tables_text_of, done_line}
 use Rattle.aliasplan.specs.declared.options.Form.{Form}
 use Rattle.aliasplan.specs.declared.options.Limits.{Limits}
 use Rattle.aliasplan.specs.Checks.{AreLines}
-use Rattle.aliasplan.specs.Outcomes.{AreTablesFew, HasRefusedTables}
+use Rattle.aliasplan.specs.Outcomes.{AreTableCountsWithin, HasRefusedTables}
 use Rattle.aliasplan.specs.Report.{texts, IsLineOf}
 use Rattle.aliasplan_each.specs.declared.summary.EachSummary.{EachSummary}
 use Rattle.aliasplan_each.specs.Blocks.{Block, texts_of, counts_of, AreBlocks}
@@ -48,7 +48,7 @@ pub record IsEachText (limits : Limits) (form : Form) (input text : List ℕ) (s
   pub size : length input ≤ limits.bytes
   pub tables : Job
   pub read : each_tables_of input ≡ Ok tables
-  pub few : AreTablesFew limits tables
+  pub few : AreTableCountsWithin limits tables
   pub answered : IsEachAnswer limits form tables (envelopes_of (lines_behind input)) text summary
 
 -- that answer is written

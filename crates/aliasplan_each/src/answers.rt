@@ -1,41 +1,27 @@
 //! The blocks of envelopes.
 ghost use Rattle.std.specs.Prelude.{◌≡◌, Some, IfOk, IfErr};
-ghost use Rattle.aliasplan.specs.Outcomes.{text_in};
 ghost use Rattle.relay_envelopes.specs.Envelopes.{section_in};
 ghost use Rattle.aliasplan_each.specs.Blocks.{IsOwnPlan, IsSectionFault, IsEnvelopeFault, refusal_of};
 
 use aliasplan::{Crew, Form, Gate, Planner, RunFault};
 use relay_envelopes::{EnvelopeCounts, EnvelopeSection, Refusal, put_envelope, put_refusal};
 use relay_job::parse_envelope;
-use relay_text::Text;
-use relay_wire::plan::plan_text;
-use relay_wire::{Plan, wire_text};
+use relay_wire::Plan;
 use std::alloc::{AllocError, Global};
 use std::thread::Threads;
-
-/// A plan as it is written.
-fn text_in(alloc: Global, form: Form, plan: &Plan) -> Result<Text, AllocError>
-    ensures { IfOk result (λ text. text ≡ text_in form plan.now) }
-{
-    match form {
-        Form::Plan => plan_text(alloc, plan),
-        Form::Wire => wire_text(alloc, plan),
-    }
-}
 
 // The plan of an envelope by the tables, or what is wrong with the envelope.
 fn plan_of<G: Gate, R: Threads + Sync>(
     crew: &Crew<G, R>,
-    planner: &mut Planner,
+    planner: &Planner,
     section: EnvelopeSection<'_>,
 ) -> Result<Plan, RunFault>
-    ensures plan { IfOk result (IsOwnPlan crew.now.limits planner.old (section_in section.entry)) }
-    ensures refused { IfErr result (IsSectionFault crew.now.limits planner.old (section_in section.entry)) }
-    ensures planner { planner.new ≡ planner.old }
+    ensures plan { IfOk result (IsOwnPlan crew.now.limits planner.now (section_in section.entry)) }
+    ensures refused { IfErr result (IsSectionFault crew.now.limits planner.now (section_in section.entry)) }
 {
     let origin = planner.settings().origin.as_bytes();
     let envelope = parse_envelope(crew.alloc, section.bytes, origin)?;
-    planner.plan(crew, envelope)
+    planner.plan(crew, &envelope)
 }
 
 // Why an envelope with a fault is refused. `Err` where memory ran out.
@@ -88,7 +74,7 @@ impl Answers {
         ensures text { OnOk result (self.new.text.items ≡ self.old.text.items ++ text_in form plan.now) }
         ensures counts { OnOk result (self.new.counts ≡ with_planned self.old.counts (length plan.now.findings)) }
     {
-        let text = text_in(alloc, form, plan)?;
+        let text = form.text_of(alloc, plan)?;
         self.text.extend_from_slice(text.as_bytes())?;
         self.counts = self.counts.with_planned(plan.findings.as_slice().len());
         Ok(())
@@ -104,15 +90,14 @@ impl Answers {
         Ok(())
     }
 
-    /// Adds the block of an envelope: its plan by the tables, or why it is refused. The planner is left as it was. `Err` where memory runs out.
+    /// Adds the block of an envelope: its plan by the tables, or why it is refused. `Err` where memory runs out.
     pub(crate) fn add<G: Gate, R: Threads + Sync>(
         &mut self,
         crew: &Crew<G, R>,
-        planner: &mut Planner,
+        planner: &Planner,
         section: EnvelopeSection<'_>,
     ) -> Result<(), AllocError>
-        ensures grown { OnOk result (Grows crew.now.limits crew.now.options.form planner.old (section_in section.entry) self.old.text.items self.new.text.items self.old.counts self.new.counts) }
-        ensures planner { planner.new ≡ planner.old }
+        ensures { OnOk result (Grows crew.now.limits crew.now.options.form planner.now (section_in section.entry) self.old.text.items self.new.text.items self.old.counts self.new.counts) }
     {
         put_envelope(section.id, &mut self.text)?;
         match plan_of(crew, planner, section) {

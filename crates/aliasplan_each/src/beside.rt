@@ -4,6 +4,7 @@ ghost use Rattle.std.specs.Io.KnownBytes.{Appends};
 ghost use Rattle.relay_wire.specs.PlanText.{line};
 ghost use Rattle.relay_job.specs.Tables.{AreTablesWithin};
 ghost use Rattle.relay_envelopes.specs.EachText.{done_line};
+ghost use Rattle.aliasplan.specs.Outcomes.{AreTableCountsWithin};
 ghost use Rattle.aliasplan.specs.Transfers.{Fronts};
 ghost use Rattle.aliasplan_each.specs.Beside.{sections_in, PlansBeside, RefusesBeside, WritesBesideFront};
 ghost use Rattle.aliasplan_each.specs.BesideSteps.{IsWriteFault, WritesFindings, FrontsFindings, WritesBlock, WritesBlocks, FrontsBlocks};
@@ -50,17 +51,16 @@ fn write_findings<S: Sink>(
 // Writes the block of an envelope, and counts it. The answer's text is that of this block alone.
 fn answer_section<S: Sink, G: Gate, R: Threads + Sync>(
     crew: &Crew<G, R>,
-    planner: &mut Planner,
+    planner: &Planner,
     section: &ReadSection,
     answers: &mut Answers,
     writer: &mut S,
 ) -> Result<(), RunFault>
     requires { S.has_failed writer.old ≡ false }
-    ensures written { OnOk result (WritesBlock crew.now.limits crew.now.options.form planner.old section.now (S.contents writer.old) (S.contents writer.new) answers.old.counts answers.new.counts) }
-    ensures front { IfErr result (λ fault. FrontsBlocks crew.now.limits crew.now.options.form planner.old (section.now ∷ []) (S.contents writer.old) (S.contents writer.new)) }
+    ensures written { OnOk result (WritesBlock crew.now.limits crew.now.options.form planner.now section.now (S.contents writer.old) (S.contents writer.new) answers.old.counts answers.new.counts) }
+    ensures front { IfErr result (λ fault. FrontsBlocks crew.now.limits crew.now.options.form planner.now (section.now ∷ []) (S.contents writer.old) (S.contents writer.new)) }
     ensures only { IfErr result IsWriteFault }
     ensures write { (result ≡ Err RunFault.Write → S.has_failed writer.new ≡ true) × (result ≢ Err RunFault.Write → S.has_failed writer.new ≡ false) }
-    ensures planner { planner.new ≡ planner.old }
 {
     answers.text.clear();
     answers.add(crew, planner, section.as_section())?;
@@ -70,18 +70,17 @@ fn answer_section<S: Sink, G: Gate, R: Threads + Sync>(
 // Writes the block of each envelope as soon as its section has ended, and counts them.
 fn answer_envelopes<F: Feed, S: Sink, G: Gate, R: Threads + Sync>(
     crew: &Crew<G, R>,
-    planner: &mut Planner,
+    planner: &Planner,
     reader: &mut F,
     writer: &mut S,
 ) -> Result<EnvelopeCounts, RunFault>
     requires reader { (F.has_failed reader.old ≡ false) × (F.has_ended reader.old ≡ false) }
     requires writer { S.has_failed writer.old ≡ false }
-    ensures written { IfOk result (λ counts. IfSome (F.remaining reader.old) (λ input. WritesBlocks crew.now.limits crew.now.options.form planner.old input (S.contents writer.old) (S.contents writer.new) counts)) }
-    ensures refused { IfErr result (λ fault. IfSome (F.remaining reader.old) (λ input. RefusesBeside crew.now.limits planner.old input fault)) }
-    ensures front { IfErr result (λ fault. IfSome (F.remaining reader.old) (λ input. FrontsBlocks crew.now.limits crew.now.options.form planner.old (sections_in input) (S.contents writer.old) (S.contents writer.new))) }
+    ensures written { IfOk result (λ counts. IfSome (F.remaining reader.old) (λ input. WritesBlocks crew.now.limits crew.now.options.form planner.now input (S.contents writer.old) (S.contents writer.new) counts)) }
+    ensures refused { IfErr result (λ fault. IfSome (F.remaining reader.old) (λ input. RefusesBeside crew.now.limits planner.now input fault)) }
+    ensures front { IfErr result (λ fault. IfSome (F.remaining reader.old) (λ input. FrontsBlocks crew.now.limits crew.now.options.form planner.now (sections_in input) (S.contents writer.old) (S.contents writer.new))) }
     ensures read { (result ≡ Err RunFault.Read → F.has_failed reader.new ≡ true) × (result ≢ Err RunFault.Read → F.has_failed reader.new ≡ false) }
     ensures write { (result ≡ Err RunFault.Write → S.has_failed writer.new ≡ true) × (result ≢ Err RunFault.Write → S.has_failed writer.new ≡ false) }
-    ensures planner { planner.new ≡ planner.old }
     ensures ended { OnOk result (F.has_ended reader.new ≡ true) }
 {
     let mut feeding = Feeding::start(crew.alloc)?;
@@ -107,6 +106,30 @@ fn write_done<S: Sink>(
     let mut text = Vec::new(alloc);
     put_done(counts, &mut text)?;
     write_whole(writer, &text)
+}
+
+// Writes the answer by tables that are read. They are dropped where this is called, since each place where a planner is dropped makes a proof
+// longer.
+fn answer_stream<F: Feed, S: Sink, G: Gate, R: Threads + Sync>(
+    crew: &Crew<G, R>,
+    planner: &Planner,
+    reader: &mut F,
+    writer: &mut S,
+) -> Result<EachSummary, RunFault>
+    requires few { AreTableCountsWithin crew.now.limits planner.now }
+    requires reader { (F.has_failed reader.old ≡ false) × (F.has_ended reader.old ≡ false) }
+    requires writer { S.has_failed writer.old ≡ false }
+    ensures plans { IfOk result (λ summary. IfSome (F.remaining reader.old) (λ input. PlansBeside crew.now.limits crew.now.options.form planner.now input (S.contents writer.old) (S.contents writer.new) summary)) }
+    ensures refuses { IfErr result (λ fault. IfSome (F.remaining reader.old) (λ input. RefusesBeside crew.now.limits planner.now input fault)) }
+    ensures read { (result ≡ Err RunFault.Read → F.has_failed reader.new ≡ true) × (result ≢ Err RunFault.Read → F.has_failed reader.new ≡ false) }
+    ensures write { (result ≡ Err RunFault.Write → S.has_failed writer.new ≡ true) × (result ≢ Err RunFault.Write → S.has_failed writer.new ≡ false) }
+    ensures front { IfErr result (λ fault. IfSome (F.remaining reader.old) (λ input. WritesBesideFront crew.now.limits crew.now.options.form planner.now input (S.contents writer.old) (S.contents writer.new))) }
+    ensures ended { OnOk result (F.has_ended reader.new ≡ true) }
+{
+    let findings = write_findings(crew.alloc, planner, writer)?;
+    let counts = answer_envelopes(crew, planner, reader, writer)?;
+    write_done(crew.alloc, &counts, writer)?;
+    Ok(EachSummary { findings, counts })
 }
 
 /// Plans each envelope that comes from a reader by the same tables, and writes its block as soon as its section has ended, with the
@@ -138,9 +161,6 @@ pub fn run_beside<F: Feed, S: Sink, G: Gate, R: Threads + Sync>(
     ensures front { IfErr result (λ fault. IfSome (F.remaining reader.old) (λ input. WritesBesideFront crew.now.limits crew.now.options.form tables input (S.contents writer.old) (S.contents writer.new))) }
     ensures ended { OnOk result (F.has_ended reader.new ≡ true) }
 {
-    let mut planner = Planner::new(crew.alloc, tables, crew.limits)?;
-    let findings = write_findings(crew.alloc, &planner, writer)?;
-    let counts = answer_envelopes(crew, &mut planner, reader, writer)?;
-    write_done(crew.alloc, &counts, writer)?;
-    Ok(EachSummary { findings, counts })
+    let planner = Planner::new(crew.alloc, tables, crew.limits)?;
+    answer_stream(crew, &planner, reader, writer)
 }

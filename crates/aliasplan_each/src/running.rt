@@ -81,12 +81,11 @@ fn put_findings(planner: &Planner, out: &mut Vec<u8>) -> Result<usize, AllocErro
 // Adds the blocks of envelopes, in order. `Err` where memory runs out.
 fn add_sections<G: Gate, R: Threads + Sync>(
     crew: &Crew<G, R>,
-    planner: &mut Planner,
+    planner: &Planner,
     sections: &[EnvelopeSection<'_>],
     answers: &mut Answers,
 ) -> Result<(), AllocError>
-    ensures grown { OnOk result (GrowsByAll crew.now.limits crew.now.options.form planner.old (map section_in sections.now) answers.old.text.items answers.new.text.items answers.old.counts answers.new.counts) }
-    ensures planner { planner.new ≡ planner.old }
+    ensures { OnOk result (GrowsByAll crew.now.limits crew.now.options.form planner.now (map section_in sections.now) answers.old.text.items answers.new.text.items answers.old.counts answers.new.counts) }
 {
     for section in sections {
         answers.add(crew, planner, *section)?;
@@ -97,10 +96,10 @@ fn add_sections<G: Gate, R: Threads + Sync>(
 // The answer by tables to the sections of envelopes. `Err` where memory runs out.
 fn answer_sections<G: Gate, R: Threads + Sync>(
     crew: &Crew<G, R>,
-    planner: &mut Planner,
+    planner: &Planner,
     sections: &[EnvelopeSection<'_>],
 ) -> Result<Answered, RunFault>
-    ensures answer { IfOk result (λ it. IsEachAnswer crew.now.limits crew.now.options.form planner.old (map section_in sections.now) it.text.items it.summary) }
+    ensures answer { IfOk result (λ it. IsEachAnswer crew.now.limits crew.now.options.form planner.now (map section_in sections.now) it.text.items it.summary) }
     ensures memory { IfErr result (λ fault. fault ≡ RunFault.Memory) }
 {
     let mut answers = Answers::none(crew.alloc);
@@ -122,8 +121,8 @@ fn answer_input<G: Gate, R: Threads + Sync>(
     ensures refused { IfErr result (RefusesEachBytes crew.now.limits input.now) }
 {
     let EachParts { tables, sections } = parts_of(crew.alloc, input)?;
-    let mut planner = Planner::new(crew.alloc, tables, crew.limits)?;
-    answer_sections(crew, &mut planner, &sections)
+    let planner = Planner::new(crew.alloc, tables, crew.limits)?;
+    answer_sections(crew, &planner, &sections)
 }
 
 /// Reads settings, files, tables and envelopes, plans each envelope by the same tables, and writes a block for each, and nothing else. All of

@@ -21,3 +21,6 @@ read-requires-clause-few_includes g c =
 pub read-requires-clause-few_mailboxes : goal.read-requires-clause-few_mailboxes
 read-requires-clause-few_mailboxes g c =
     omega (arith, c.file_counts.ensures.names c.args.job.now.mailboxes, c.parsed_jobs.ensures.sizes c.requires.job.0 c.args.job.now c.requires.job.2, c.requires.job.1, c.requires.limits.bytes)
+
+pub returns-clause-refused : goal.returns-clause-refused
+returns-clause-refused g c = rw c.of.ensures at c.domains_of_sources.ensures.refused

@@ -1,5 +1,6 @@
-use Rattle.std.proofs.Common.{◌∙◌, List, sym, subst}
+use Rattle.std.proofs.Common.{◌∙◌, List, ap, sym, subst}
 use Rattle.relay_wire.specs.declared.plan.Planned.{Planned}
+use Rattle.relay_job.specs.declared.settings.Settings.{Settings}
 use Rattle.aliasplan.specs.Plans.{AreTransactionsOf, IsSoundFor, IsFewest}
 use Rattle.aliasplan.proofs.PlanFacts.{plan_is}
 use Rattle.aliasplan.proofs.planning.plan_of.Goals as goal
@@ -10,7 +11,7 @@ returns c =
     let same = sym c.of-2.ensures in
     record {
       plan =
-          plan_is job _ c.args.lines (c.of.ensures ∙ c.in_ok-hostname.ensures.items ∙ c.as_bytes.ensures) (subst (λ (ts : List Planned). AreTransactionsOf job ts) same c.requires.transactions)
+          plan_is job _ c.args.lines (c.of.ensures ∙ c.in_ok-hostname.ensures.items ∙ c.as_bytes.ensures ∙ ap (λ (s : Settings). s.hostname) c.settings.ensures) (subst (λ (ts : List Planned). AreTransactionsOf job ts) same c.requires.transactions)
           c.in_ok-into_seq.ensures.all c.in_ok-into_seq.ensures.ascending;
       sound = subst (λ (ts : List Planned). IsSoundFor job ts) same c.requires.sound;
       fewest = subst (λ (ts : List Planned). IsFewest job ts) same c.requires.fewest;

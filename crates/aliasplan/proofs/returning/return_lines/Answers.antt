@@ -9,7 +9,7 @@ use Rattle.aliasplan.proofs.ReturnFacts.{few_pairs, lines_are, many_pairs, same_
 use Rattle.aliasplan.proofs.returning.return_lines.Goals as goal
 
 pub lines_by_sender-requires-clause-roots : goal.lines_by_sender-requires-clause-roots
-lines_by_sender-requires-clause-roots g c = λ l m. rw c.as_slice-recipients.ensures (same_length c.args.job.now c.args.graph.now c.requires.graph)
+lines_by_sender-requires-clause-roots g c = λ l m. rw c.recipients-recipients.ensures (same_length c.args.job.now c.args.graph.now c.requires.graph)
 
 pub returns-in-Ok-clause-lines : goal.returns-in-Ok-clause-lines
 returns-in-Ok-clause-lines g c =
@@ -22,7 +22,7 @@ returns-in-Ok-clause-lines g c =
       long = c.in-Ok.ensures.long;
       each = λ s sender q from.
           let h =
-          subst (λ (rs : List AddressParts). IsTrue (has_text (lines_at lists s) q) ↔ IsLineBefore graph undelivered rs (length rs) s q) c.as_slice-recipients.ensures
+          subst (λ (rs : List AddressParts). IsTrue (has_text (lines_at lists s) q) ↔ IsLineBefore graph undelivered rs (length rs) s q) c.recipients-recipients.ensures
           (c.in-Ok.ensures.lines s q (slice_get_within graph.senders s sender from)) in
           let are =
           lines_are job graph is c.pairs_by_root.ensures.some (λ k recipient root at. c.pairs_by_root.ensures.numbers (directory_of job) job.sender job.recipients graph is k recipient root at) c.args.nodes.now c.requires.nodes undelivered
@@ -38,7 +38,7 @@ returns-in-Ok-clause-pairs g c =
     let d = directory_of job in
     let law = c.pairs_by_root.ensures in
     let limit : ℕ = c.args.crew.now.limits.pairs in
-    let counted = subst (λ (rs : List AddressParts). (left : ℕ) × AreCounted graph limit left (length rs)) c.as_slice-recipients.ensures c.in-Ok.ensures.counted in
+    let counted = subst (λ (rs : List AddressParts). (left : ℕ) × AreCounted graph limit left (length rs)) c.recipients-recipients.ensures c.in-Ok.ensures.counted in
     few_pairs job graph is limit
     (λ k recipient root at. law.more d job.sender job.recipients graph is k recipient root at)
     (λ k recipient root at. law.at_least d job.sender job.recipients graph is k recipient root at)

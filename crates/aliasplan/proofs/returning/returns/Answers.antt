@@ -23,7 +23,22 @@ read-requires-clause-few_mailboxes g c =
     omega (arith, c.file_counts.ensures.names c.args.job.now.mailboxes, c.parsed_jobs.ensures.sizes c.requires.job.0 c.args.job.now c.requires.job.2, c.requires.job.1, c.requires.limits.bytes)
 
 pub returned_sources-requires-clause-batches : goal.returned_sources-requires-clause-batches
-returned_sources-requires-clause-batches g c = λ l m t. omega (arith, c.parsed_jobs.ensures.limits c.requires.job.0 c.args.job.now c.requires.job.2 t)
+returned_sources-requires-clause-batches g c = λ l m t. rw c.of.ensures (omega (arith, c.parsed_jobs.ensures.limits c.requires.job.0 c.args.job.now c.requires.job.2 t))
 
 pub returned_sources-requires-clause-lines : goal.returned_sources-requires-clause-lines
-returned_sources-requires-clause-lines g c = λ l m q. rw c.new-lines.ensures at c.in-Ok.ensures.lines q
+returned_sources-requires-clause-lines g c = λ l m q. rw c.of.ensures (rw c.new-lines.ensures at c.in-Ok.ensures.lines q)
+
+pub returns-clause-plan : goal.returns-clause-plan
+returns-clause-plan g c = rw c.of.ensures at c.returned_sources.ensures.plan
+
+pub returns-clause-sound : goal.returns-clause-sound
+returns-clause-sound g c = rw c.of.ensures at c.returned_sources.ensures.sound
+
+pub returns-clause-fewest : goal.returns-clause-fewest
+returns-clause-fewest g c = rw c.of.ensures at c.returned_sources.ensures.fewest
+
+pub returns-clause-returns : goal.returns-clause-returns
+returns-clause-returns g c = rw c.of.ensures at c.returned_sources.ensures.returns
+
+pub returns-clause-refused : goal.returns-clause-refused
+returns-clause-refused g c = rw c.of.ensures at c.returned_sources.ensures.refused

@@ -23,7 +23,10 @@ read-requires-clause-few_mailboxes g c =
     omega (arith, c.file_counts.ensures.names c.args.job.now.mailboxes, c.parsed_jobs.ensures.sizes c.requires.job.0 c.args.job.now c.requires.job.2, c.requires.job.1, c.args.crew.now.limited.bytes)
 
 pub workings_of-requires-clause-batches : goal.workings_of-requires-clause-batches
-workings_of-requires-clause-batches g c = λ l m t. omega (arith, c.parsed_jobs.ensures.limits c.requires.job.0 c.args.job.now c.requires.job.2 t)
+workings_of-requires-clause-batches g c = λ l m t. rw c.of.ensures (omega (arith, c.parsed_jobs.ensures.limits c.requires.job.0 c.args.job.now c.requires.job.2 t))
 
 pub workings_of-requires-clause-lines : goal.workings_of-requires-clause-lines
-workings_of-requires-clause-lines g c = λ l m q. rw c.new-lines.ensures at c.in-Ok.ensures.lines q
+workings_of-requires-clause-lines g c = λ l m q. rw c.of.ensures (rw c.new-lines.ensures at c.in-Ok.ensures.lines q)
+
+pub returns-clause-refused : goal.returns-clause-refused
+returns-clause-refused g c = rw c.of.ensures at c.workings_of.ensures.refused

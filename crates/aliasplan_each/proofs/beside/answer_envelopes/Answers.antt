@@ -1,4 +1,4 @@
-use Rattle.std.proofs.Common.{Ok, refl, ap, ◌∙◌, arith}
+use Rattle.std.proofs.Common.{Ok, ap, arith}
 use Rattle.std.proofs.lemmas.Grind.{common_steps}
 use Rattle.std.proofs.lemmas.Result.{err_from_is_err_and}
 use Rattle.aliasplan_each.proofs.BesideFacts.{on_err, if_some, FrontsBlocks-none, HasAnswered-start, HasAnswered-more, HasAnswered-end, HasAnswered-refused, HasAnswered-front, HasAnswered-stopped}
@@ -12,7 +12,6 @@ loop-answers-init g c = record {
   works = c.requires.reader.0;
   told = grind (arith, common_steps);
   writes = c.requires.writer;
-  stays = refl;
   answered = HasAnswered-start _ _ _ _ _ _ _ _ _ c.in_ok-feeding.ensures.number c.in_ok-feeding.ensures.pending c.in_ok-feeding.ensures.begun c.none-answers.ensures.counts;
 }
 
@@ -25,15 +24,14 @@ pub returns-in_err-section-clause-front : goal.returns-in_err-section-clause-fro
 returns-in_err-section-clause-front g c = on_err _ (HasAnswered-front _ _ _ _ _ _ _ _ _ c.loop-answers.invariant.answered)
 
 pub returns-in_err-answer_section-clause-front : goal.returns-in_err-answer_section-clause-front
-returns-in_err-answer_section-clause-front g c = on_err _ (HasAnswered-stopped _ _ _ _ _ _ _ _ _ _ _ _ c.in-Some.section c.loop-answers.invariant.answered (rw c.in-Some.is at c.in_ok-section.ensures.given) (rw c.loop-answers.invariant.stays at c.in_err-answer_section.ensures.front))
+returns-in_err-answer_section-clause-front g c = on_err _ (HasAnswered-stopped _ _ _ _ _ _ _ _ _ _ _ _ c.in-Some.section c.loop-answers.invariant.answered (rw c.in-Some.is at c.in_ok-section.ensures.given) c.in_err-answer_section.ensures.front)
 
 pub loop-answers-preserved : goal.loop-answers-preserved
 loop-answers-preserved g c = record {
   works = grind (arith, common_steps);
   told = c.in_ok-section.ensures.told;
   writes = grind (arith, common_steps);
-  stays = c.in_ok-answer_section.ensures.planner ∙ c.loop-answers.invariant.stays;
-  answered = HasAnswered-more _ _ _ _ _ _ _ _ _ _ _ _ _ c.in-Some.section c.loop-answers.invariant.answered (rw c.in-Some.is at c.in_ok-section.ensures.given) (rw c.loop-answers.invariant.stays at c.in_ok-answer_section.ensures.written);
+  answered = HasAnswered-more _ _ _ _ _ _ _ _ _ _ _ _ _ c.in-Some.section c.loop-answers.invariant.answered (rw c.in-Some.is at c.in_ok-section.ensures.given) c.in_ok-answer_section.ensures.written;
 }
 
 pub returns-clause-written : goal.returns-clause-written

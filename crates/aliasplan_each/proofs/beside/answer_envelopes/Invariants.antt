@@ -9,8 +9,7 @@ invariant-loop-answers g l = record {
   works : g.F.Feed.has_failed l.reader ≡ false;
   told : g.F.Feed.has_ended l.reader ≡ true → IsAtEnd (g.F.Feed.remaining l.reader);
   writes : g.S.Sink.has_failed l.writer ≡ false;
-  stays : l.planner ≡ l.fn.planner;
-  answered : HasAnswered l.crew.limits l.crew.options.form l.fn.planner (g.F.Feed.remaining l.fn.reader) l.feeding.begun (known_lines l.feeding.number l.feeding.pending (g.F.Feed.remaining l.reader)) (g.S.Sink.contents l.fn.writer) (g.S.Sink.contents l.writer) l.answers.counts;
+  answered : HasAnswered l.crew.limits l.crew.options.form l.planner (g.F.Feed.remaining l.fn.reader) l.feeding.begun (known_lines l.feeding.number l.feeding.pending (g.F.Feed.remaining l.reader)) (g.S.Sink.contents l.fn.writer) (g.S.Sink.contents l.writer) l.answers.counts;
 }
 
 abbrev pub decreases-loop-answers : goal.decreases-loop-answers

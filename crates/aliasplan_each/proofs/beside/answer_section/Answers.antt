@@ -5,4 +5,4 @@ pub returns-in_err-add-clause-front : goal.returns-in_err-add-clause-front
 returns-in_err-add-clause-front g c = on_err _ (FrontsBlocks-none _ _ _ _ _)
 
 pub returns-clause-front : goal.returns-clause-front
-returns-clause-front g c = on_err_both _ c.write_whole.ensures.front (λ w. FrontsBlocks-one _ _ _ _ _ _ _ _ _ _ _ c.in_ok-add.ensures.grown c.as_section.ensures c.clear.ensures.items (rw c.deref.ensures.value at w))
+returns-clause-front g c = on_err_both _ c.write_whole.ensures.front (λ w. FrontsBlocks-one _ _ _ _ _ _ _ _ _ _ _ c.in_ok-add.ensures c.as_section.ensures c.clear.ensures.items (rw c.deref.ensures.value at w))

@@ -1,4 +1,4 @@
-use Rattle.std.proofs.Common.{List, map, ◌∙◌, subst}
+use Rattle.std.proofs.Common.{List, map, subst}
 use Rattle.std.proofs.lemmas.List.{take_all}
 use Rattle.relay_envelopes.specs.declared.section.EnvelopeSection.{EnvelopeSection}
 use Rattle.relay_envelopes.specs.Envelopes.{section_in}
@@ -11,18 +11,15 @@ loop-section-preserved g c =
     let form = c.args.crew.now.options.form in
     let before = c.loop-section.answers in
     let after = c.add.new.self in
-    record {
-      grown = grown_next limits form c.args.planner.now c.args.sections.now c.loop-section.section-index _ c.loop-section-test.true c.args.answers.now.text.items before.text.items after.text.items c.args.answers.now.counts before.counts after.counts c.loop-section.invariant.grown c.loop-section.planner c.loop-section.invariant.planner c.in_ok-add.ensures.grown;
-      planner = c.in_ok-add.ensures.planner ∙ c.loop-section.invariant.planner;
-    }
+    grown_next limits form c.args.planner.now c.args.sections.now c.loop-section.section-index _ c.loop-section-test.true c.args.answers.now.text.items before.text.items after.text.items c.args.answers.now.counts before.counts after.counts c.loop-section.invariant c.in_ok-add.ensures
 
-pub returns-clause-grown : goal.returns-clause-grown
-returns-clause-grown g c =
+pub returns : goal.returns
+returns g c =
     let limits = c.args.crew.now.limits in
     let form = c.args.crew.now.options.form in
     let tables = c.args.planner.now in
     let old = c.args.answers.now in
     let new = c.loop-section.answers in
     let all = take_all c.loop-section.section-index c.args.sections.now c.loop-section-test.false in
-    let grown = subst (λ (sections : List EnvelopeSection). Grown limits form tables (map section_in sections) old.text.items new.text.items old.counts new.counts) all c.loop-section.invariant.grown in
+    let grown = subst (λ (sections : List EnvelopeSection). Grown limits form tables (map section_in sections) old.text.items new.text.items old.counts new.counts) all c.loop-section.invariant in
     all_grown limits form tables (map section_in c.args.sections.now) old.text.items new.text.items old.counts new.counts grown

@@ -1,11 +1,8 @@
-use Rattle.std.proofs.Common.{◌≡◌, map, take}
+use Rattle.std.proofs.Common.{map, take}
 use Rattle.relay_envelopes.specs.Envelopes.{section_in}
 use Rattle.aliasplan_each.proofs.BlockFacts.{Grown}
 use Rattle.aliasplan_each.proofs.running.add_sections.Given as goal
 
--- the blocks of the sections so far, by tables that stay
+-- the blocks of the sections so far
 abbrev pub invariant-loop-section : goal.invariant-loop-section
-invariant-loop-section g l = record {
-  grown : Grown l.crew.limits l.crew.options.form l.initial.planner (map section_in (take l.section-index l.sections)) l.initial.answers.text.items l.answers.text.items l.initial.answers.counts l.answers.counts;
-  planner : l.planner ≡ l.initial.planner;
-}
+invariant-loop-section g l = Grown l.crew.limits l.crew.options.form l.planner (map section_in (take l.section-index l.sections)) l.initial.answers.text.items l.answers.text.items l.initial.answers.counts l.answers.counts

@@ -2,7 +2,7 @@ use Rattle.std.proofs.Common.{List, map, sym, subst}
 use Rattle.std.proofs.lemmas.Result.{err_from_is_err_and, IfOk-weaker, IfErr-weaker}
 use Rattle.relay_envelopes.specs.declared.section.EnvelopeSection.{EnvelopeSection}
 use Rattle.relay_envelopes.specs.Envelopes.{section_in}
-use Rattle.aliasplan.specs.Outcomes.{AreTablesFew}
+use Rattle.aliasplan.specs.Outcomes.{AreTableCountsWithin}
 use Rattle.aliasplan_each.specs.Runs.{RefusesEachBytes, IsEachAnswer}
 use Rattle.aliasplan_each.proofs.EachFacts.{refuses_each, text_is}
 use Rattle.aliasplan_each.proofs.running.answer_input.Goals as goal
@@ -19,7 +19,7 @@ returns-clause-answered g c =
     let planner = c.in_ok-planner.planner in
     let tables = c.in_ok-planner.ensures.tables in
     let within = c.in_ok-planner.ensures.within in
-    let few : AreTablesFew limits c.in_ok-tables.field-0.tables = record { names = within.names; owners = within.owners } in
+    let few : AreTableCountsWithin limits c.in_ok-tables.field-0.tables = record { names = within.names; owners = within.owners } in
     IfOk-weaker c.answer_sections.result _ _
     (λ it answered.
     text_is limits c.args.input.now c.requires form c.in_ok-tables.field-0.tables planner (map section_in c.in_ok-tables.field-0.sections.items) it.text.items it.summary c.in_ok-tables.ensures.parts tables few
