@@ -87,47 +87,24 @@ fn planned<R: Print + Eprint + AllocGlobal + Threads + Sync, J: Read + Drop>(
     ensures asked { IfOk result (λ status. status ≢ Status.CommandLine) }
     ensures domains { output.entry ≡ Output.Domains → IfOk result (λ status. status ≢ Status.Found) }
 {
-    let mut reader = Device::new(job);
-    let mut writer = Device::new(io::writer(rt));
+    let reader = &mut Device::new(job);
+    let writer = &mut Device::new(io::writer(rt));
     let alloc = rt.alloc();
     let limits = Limits::default();
+    let gate = &NoGate;
     let summary = match output {
-        Output::Text => run(
-            rt,
-            alloc,
-            &mut reader,
-            &mut writer,
-            options,
-            limits,
-            &NoGate,
-        )?,
-        Output::Returns => run_returns(
-            rt,
-            alloc,
-            &mut reader,
-            &mut writer,
-            options,
-            limits,
-            &NoGate,
-        )?,
-        Output::Json => run_as_json(rt, &mut reader, &mut writer, options, limits)?,
+        Output::Text => run(rt, alloc, reader, writer, options, limits, gate)?,
+        Output::Returns => run_returns(rt, alloc, reader, writer, options, limits, gate)?,
+        Output::Json => run_as_json(rt, reader, writer, options, limits)?,
         Output::Domains => {
-            run_domains(
-                rt,
-                alloc,
-                &mut reader,
-                &mut writer,
-                options,
-                limits,
-                &NoGate,
-            )?;
+            run_domains(rt, alloc, reader, writer, options, limits, gate)?;
             return Ok(Status::Done);
         }
         Output::Check(scope) => {
-            let findings = run_check(rt, &mut reader, &mut writer, scope, options, limits)?;
+            let findings = run_check(rt, reader, writer, scope, options, limits)?;
             return Ok(status_of(findings));
         }
-        Output::Explain(asked) => return explained(rt, &mut reader, &mut writer, asked, options),
+        Output::Explain(asked) => return explained(rt, reader, writer, asked, options),
     };
     Ok(status_of(summary.findings))
 }
