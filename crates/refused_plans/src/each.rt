@@ -113,8 +113,8 @@ fn writes_plans<R: Threads + Sync>(rt: &R, alloc: Global) -> Result<Seen, Unread
 
 /// Where a run beside tables is refused, a front of the answer is written.
 fn writes_plans_beside<R: Threads + Sync>(rt: &R, alloc: Global) -> Result<Answer, Unready> {
-    let tables = parse_tables(alloc, FIRST_TABLES)?;
     let mut paper = Paper::new(alloc)?;
+    let tables = parse_tables(alloc, FIRST_TABLES)?;
     let mut page = Page::new(ENVELOPES);
     let answer = run_beside(&crew(rt, alloc), tables, &mut page, &mut paper);
     Ok(is_answer(answer, &paper))

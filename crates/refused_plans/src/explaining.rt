@@ -62,9 +62,9 @@ fn is_explained(explanation: Result<Explanation, RunFault>) -> Answer {
 
 fn explains<R: Threads + Sync>(rt: &R, alloc: Global) -> Result<Seen, Unready> {
     each_recipient_has_line();
-    let job = parse_job(alloc, LISTS_JOB)?;
-    let lines = recipient_lines(alloc, LISTS_JOB)?;
     let dan = Asked::Address(address(alloc, DAN)?);
+    let lines = recipient_lines(alloc, LISTS_JOB)?;
+    let job = parse_job(alloc, LISTS_JOB)?;
     let crew = crew(rt, alloc);
     Ok(match is_explained(explain(&crew, &job, &lines, &dan)) {
         Answer::Refused => Seen::at_last(is_explained(explain(&crew, &job, &lines, &dan))),

@@ -70,8 +70,8 @@ fn makes_destinations(alloc: Global) -> Result<Answer, Unready> {
     Ok(begins(alloc, &router, &via))
 }
 
-fn finds_a_route(alloc: Global) -> Result<Seen, Unready> {
-    let sought = seek(alloc, b"u@a.b.example.net")?;
+/// What is sought is borrowed in each case: a function that drops it at several places takes long to be proved.
+fn finds_its_route(alloc: Global, sought: &Sought) -> Result<Seen, Unready> {
     let mut found = Destinations::new(alloc, &sought.router, &sought.via, 0)?;
     Ok(twice!({
         let way = found.find(alloc, &sought.address);
@@ -84,8 +84,12 @@ fn finds_a_route(alloc: Global) -> Result<Seen, Unready> {
     }))
 }
 
-fn finds_a_reason(alloc: Global) -> Result<Seen, Unready> {
-    let sought = seek(alloc, b"u@a-domain-that-nobody-knows.example")?;
+fn finds_a_route(alloc: Global) -> Result<Seen, Unready> {
+    let sought = seek(alloc, b"u@a.b.example.net")?;
+    finds_its_route(alloc, &sought)
+}
+
+fn finds_its_reason(alloc: Global, sought: &Sought) -> Result<Seen, Unready> {
     let mut found = Destinations::new(alloc, &sought.router, &sought.via, 0)?;
     Ok(twice!({
         let way = found.find(alloc, &sought.address);
@@ -93,13 +97,22 @@ fn finds_a_reason(alloc: Global) -> Result<Seen, Unready> {
     }))
 }
 
-fn finds_a_mailboxs_route(alloc: Global) -> Result<Seen, Unready> {
-    let sought = seek(alloc, b"joe")?;
+fn finds_a_reason(alloc: Global) -> Result<Seen, Unready> {
+    let sought = seek(alloc, b"u@a-domain-that-nobody-knows.example")?;
+    finds_its_reason(alloc, &sought)
+}
+
+fn finds_its_mailbox(alloc: Global, sought: &Sought) -> Result<Seen, Unready> {
     let mut found = Destinations::new(alloc, &sought.router, &sought.via, 0)?;
     Ok(twice!({
         let way = found.find_mailbox(alloc, &sought.address);
         leads_to(&way, found.routes(), Transport::Lmtp, b"unix:mbox")
     }))
+}
+
+fn finds_a_mailboxs_route(alloc: Global) -> Result<Seen, Unready> {
+    let sought = seek(alloc, b"joe")?;
+    finds_its_mailbox(alloc, &sought)
 }
 
 pub(crate) fn tell<R: Print + AllocGlobal>(teller: &mut Teller<'_, R>) {

@@ -156,6 +156,7 @@ fn routed(alloc: Global) -> Result<Result<Router, AllocError>, Unready> {
     Ok(Router::new(alloc, settings, transports, exchanges))
 }
 
+/// To be made last: each place where a router is dropped makes the proof of a case longer.
 pub(crate) fn router(alloc: Global) -> Result<Router, Unready> {
     let router = routed(alloc)??;
     Ok(router)
@@ -210,14 +211,14 @@ fn makes_a_router(alloc: Global) -> Result<Answer, Unready> {
 }
 
 fn routes_to_a_host(alloc: Global) -> Result<Seen, Unready> {
-    let router = router(alloc)?;
     let address = address(alloc, b"u@example.net")?;
+    let router = router(alloc)?;
     Ok(twice!(leads_to_gateway(&router.route(alloc, &address))))
 }
 
 fn routes_to_exchangers(alloc: Global) -> Result<Seen, Unready> {
-    let router = router(alloc)?;
     let address = address(alloc, b"u@a.b.example.net")?;
+    let router = router(alloc)?;
     Ok(twice!(leads_to_hub(&router.route(alloc, &address))))
 }
 
@@ -238,9 +239,9 @@ pub(crate) fn mailbox_transport(alloc: Global) -> Result<Via, Unready> {
 }
 
 fn routes_a_mailbox(alloc: Global) -> Result<Seen, Unready> {
-    let router = router(alloc)?;
     let address = address(alloc, b"joe")?;
     let via = mailbox_transport(alloc)?;
+    let router = router(alloc)?;
     Ok(twice!({ leads_to_socket(&router.route_via(alloc, &via, &address)) }))
 }
 
@@ -260,8 +261,8 @@ fn is_destination(
 }
 
 fn finds_a_destination(alloc: Global) -> Result<Seen, Unready> {
-    let router = router(alloc)?;
     let address = address(alloc, b"u@a.b.example.net")?;
+    let router = router(alloc)?;
     Ok(twice!({
         let found = router.destination(alloc, &address);
         is_destination(
@@ -273,9 +274,9 @@ fn finds_a_destination(alloc: Global) -> Result<Seen, Unready> {
 }
 
 fn finds_a_mailboxs_destination(alloc: Global) -> Result<Seen, Unready> {
-    let router = router(alloc)?;
     let address = address(alloc, b"joe")?;
     let via = mailbox_transport(alloc)?;
+    let router = router(alloc)?;
     Ok(twice!({
         let found = router.destination_via(alloc, &via, &address);
         is_destination(&found, Transport::Lmtp, b"unix:mbox")
