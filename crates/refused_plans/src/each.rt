@@ -3,8 +3,9 @@ ghost use Rattle.std.specs.Prelude.{◌≡◌, false};
 
 use crate::devices::{Page, Paper};
 use crate::jobs::FIRST_PLAN;
-use crate::running::crew;
-use aliasplan::{RunFault, parse_tables};
+use crate::planning::is_planned;
+use crate::running::{LIMITS, crew};
+use aliasplan::{Planner, RunFault, parse_tables};
 use aliasplan_each::{EachSummary, run_beside, run_each};
 use growth_answers::inputs::is_address;
 use growth_answers::{Answer, Seen, Teller, Unready, call, case};
@@ -27,6 +28,10 @@ const ENVELOPES: &[u8] = b"%envelope m1\n\
     MAIL FROM:<a@example.net>\n\
     RCPT TO:<joe@example.org>\n\
     %envelope m2\n\
+    RCPT TO:<joe@example.org>\n";
+
+/// The first job's envelope.
+const FIRST_ENVELOPE: &[u8] = b"MAIL FROM:<a@example.net>\n\
     RCPT TO:<joe@example.org>\n";
 
 const ANSWER_FRONT: &[u8] = b"tables 0 findings\n\
@@ -70,6 +75,38 @@ fn finds_envelopes(alloc: Global) -> Result<Answer, Unready> {
         Err(RunFault::Memory) => Ok(Answer::Refused),
         Err(_) => Ok(Answer::Wrong),
     }
+}
+
+fn makes_a_planner(alloc: Global) -> Result<Answer, Unready> {
+    let tables = parse_tables(alloc, FIRST_TABLES)?;
+    match Planner::new(alloc, tables, LIMITS) {
+        Ok(planner) => Ok(Answer::given(planner.findings().is_empty())),
+        Err(RunFault::Memory) => Ok(Answer::Refused),
+        Err(_) => Ok(Answer::Wrong),
+    }
+}
+
+/// What a planner answers to the first envelope, and again where it's refused.
+fn planned<R: Threads + Sync>(
+    rt: &R,
+    alloc: Global,
+    planner: &Planner,
+    envelope: &Envelope,
+) -> Seen {
+    let crew = crew(rt, alloc);
+    match is_planned(planner.plan(&crew, envelope)) {
+        Answer::Refused => Seen::at_last(is_planned(planner.plan(&crew, envelope))),
+        answer => Seen::at_once(answer),
+    }
+}
+
+/// The planner is made last and lent: a function that drops it at several places takes long to be proved.
+#[tactic(auto, unfolding(relay_text::specs::Addresses::is_origin, relay_text::specs::Addresses::is_domain))]
+fn plans_an_envelope<R: Threads + Sync>(rt: &R, alloc: Global) -> Result<Seen, Unready> {
+    let envelope = parse_envelope(alloc, FIRST_ENVELOPE, b"example.org")?;
+    let tables = parse_tables(alloc, FIRST_TABLES)?;
+    let planner = Planner::new(alloc, tables, LIMITS)?;
+    Ok(planned(rt, alloc, &planner, &envelope))
 }
 
 /// Whether the whole answer is written.
@@ -125,6 +162,8 @@ pub(crate) fn tell<R: Print + AllocGlobal + Threads + Sync>(teller: &mut Teller<
     let alloc = rt.alloc();
     call!(teller, "parse_envelope", reads_an_envelope(alloc));
     call!(teller, "find_envelopes", finds_envelopes(alloc));
+    call!(teller, "Planner::new", makes_a_planner(alloc));
+    case!(teller, "Planner::plan", plans_an_envelope(rt, alloc));
     case!(teller, "run_each", writes_plans(rt, alloc));
     call!(teller, "run_beside", writes_plans_beside(rt, alloc));
 }

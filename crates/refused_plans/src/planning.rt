@@ -36,7 +36,8 @@ fn is_plan(plan: &Plan) -> bool {
         && plan.findings.is_empty()
 }
 
-fn is_planned(plan: Result<Plan, RunFault>) -> Answer {
+/// Whether the first job's message is planned, without a finding.
+pub(crate) fn is_planned(plan: Result<Plan, RunFault>) -> Answer {
     match plan {
         Ok(plan) => Answer::given(is_plan(&plan)),
         Err(RunFault::Memory) => Answer::Refused,
