@@ -10,7 +10,7 @@ use Rattle.std.proofs.lemmas.List.Elements.{All-head, All-tail, All-contains, Co
 use Rattle.relay_rounds.specs.declared.block.Block.{Block}
 use Rattle.relay_rounds.specs.declared.part.Part.{Part}
 use Rattle.relay_rounds.specs.Blocks.{keys_in, keys_of, AreBlocks}
-use Rattle.relay_rounds.specs.Shards.{AreAtHome, AreBothOf, AreParts, Taken, Grows, HasTaken, HaveTaken, home_of, keys_of_parts}
+use Rattle.relay_rounds.specs.Shards.{AreAtHome, AreBothOf, ArePartsFrom, AreParts, Taken, Grows, HasTaken, HaveTakenFrom, home_of, keys_of_parts}
 use Rattle.relay_rounds.proofs.Keys.{nowhere, in_head, cons_cases, in_flat_map, from_flat_map, pairs_flat, all_of, no_longer, as_many, distinct_both}
 use Rattle.relay_rounds.proofs.Rising.{sorted_rises}
 use Rattle.relay_rounds.proofs.BlockKeys.{from_block, blocks_distinct, blocks_rise}
@@ -21,8 +21,7 @@ home_of_key parts place blocks k home on =
     let w = from_flat_map keys_in blocks k on in
     ap (λ (n : ℕ). n % parts) (from_block w.0 k w.2).0 ∙ All-contains (λ b. b.number % parts ≡ place) blocks w.0 home w.1
 
-module _ (parts : List Part) (some : 0 < length parts) (lawful : All (λ part. AreBlocks part.shard) parts)
-    (homes : (place : ℕ) (d : Part) → place < length parts → AreAtHome (length parts) place (get_or parts place d).shard) where
+module _ (parts : List Part) (p : ArePartsFrom (length parts) 0 parts) where
   -- a key is settled where it stands in its part
   pub part_has : (k : ℕ) (d : Part) → Contains (keys_of_parts parts) k ↔ Contains (keys_of (get_or parts (home_of (length parts) k) d).shard) k
   part_has k d = (
@@ -32,34 +31,35 @@ module _ (parts : List Part) (some : 0 < length parts) (lawful : All (λ part. A
         let below : j < length parts = w.1.1 in
         let here : get_or parts j d ≡ w.0 = get_or_default parts j d w.0 below ∙ w.1.2 in
         let there : Contains (keys_of (get_or parts j d).shard) k = subst (λ part. Contains (keys_of part.shard) k) (sym here) w.2 in
-        let at : home_of (length parts) k ≡ j = home_of_key (length parts) j (get_or parts j d).shard k (homes j d below) there in
+        let own = home_of_key (length parts) (0 + j) (get_or parts j d).shard k (p.homes j d below) there in
+        let at : home_of (length parts) k ≡ j = omega arith in
         subst (λ (p : ℕ). Contains (keys_of (get_or parts p d).shard) k) (sym at) there),
-    (λ on. in_flat_map (λ part. keys_of part.shard) parts (get_or parts (home_of (length parts) k) d) k (Contains-get_or parts (home_of (length parts) k) d (omega arith)) on),
+    (λ on. let some = p.some_part in in_flat_map (λ part. keys_of part.shard) parts (get_or parts (home_of (length parts) k) d) k (Contains-get_or parts (home_of (length parts) k) d (omega arith)) on),
   )
 
   pub parts_distinct : AllPairs (λ a b. a ≢ b) (keys_of_parts parts)
   parts_distinct = pairs_flat (λ a b. a ≢ b) (λ part. keys_of part.shard) parts
-      (λ part on. blocks_distinct part.shard (All-contains (λ p. AreBlocks p.shard) parts part lawful on).apart)
+      (λ part on. blocks_distinct part.shard (All-contains (λ q. AreBlocks q.shard) parts part p.lawful on).apart)
       (λ i j d before below k l ink inl e.
-      let a = home_of_key (length parts) i (get_or parts i d).shard k (homes i d (omega arith)) ink in
-      let b = home_of_key (length parts) j (get_or parts j d).shard l (homes j d below) inl in
-      let same : i ≡ j = sym a ∙ ap (λ (z : ℕ). home_of (length parts) z) e ∙ b in
+      let a = home_of_key (length parts) (0 + i) (get_or parts i d).shard k (p.homes i d (omega arith)) ink in
+      let b = home_of_key (length parts) (0 + j) (get_or parts j d).shard l (p.homes j d below) inl in
+      let same : 0 + i ≡ 0 + j = sym a ∙ ap (λ (z : ℕ). home_of (length parts) z) e ∙ b in
       omega arith)
 
   -- the blocks of all parts
   whole_apart : AllPairs (λ a b. a.number ≢ b.number) (flat_map (λ part. part.shard) parts)
   whole_apart = pairs_flat (λ a b. a.number ≢ b.number) (λ part. part.shard) parts
-      (λ part on. (All-contains (λ p. AreBlocks p.shard) parts part lawful on).apart)
+      (λ part on. (All-contains (λ q. AreBlocks q.shard) parts part p.lawful on).apart)
       (λ i j d before below a b ina inb e.
-      let x = All-contains (λ z. z.number % length parts ≡ i) (get_or parts i d).shard a (homes i d (omega arith)) ina in
-      let y = All-contains (λ z. z.number % length parts ≡ j) (get_or parts j d).shard b (homes j d below) inb in
-      let same : i ≡ j = sym x ∙ ap (λ (z : ℕ). z % length parts) e ∙ y in
+      let x = All-contains (λ z. z.number % length parts ≡ 0 + i) (get_or parts i d).shard a (p.homes i d (omega arith)) ina in
+      let y = All-contains (λ z. z.number % length parts ≡ 0 + j) (get_or parts j d).shard b (p.homes j d below) inb in
+      let same : 0 + i ≡ 0 + j = sym x ∙ ap (λ (z : ℕ). z % length parts) e ∙ y in
       omega arith)
 
   pub whole_small : All (λ b. b.number < 2 ^ 58) (flat_map (λ part. part.shard) parts)
   whole_small = all_of (λ b. b.number < 2 ^ 58) (flat_map (λ part. part.shard) parts) (λ b on.
       let w = from_flat_map (λ part. part.shard) parts b on in
-      All-contains (λ z. z.number < 2 ^ 58) w.0.shard b (All-contains (λ p. AreBlocks p.shard) parts w.0 lawful w.1).small w.2)
+      All-contains (λ z. z.number < 2 ^ 58) w.0.shard b (All-contains (λ q. AreBlocks q.shard) parts w.0 p.lawful w.1).small w.2)
 
   module _ (sorted : List Block) (moved : IsPermutation (flat_map (λ part. part.shard) parts) sorted) (order : IsNonDecreasingBy (λ b. b.number) sorted) where
     sorted_numbers : IsStrictlyIncreasing (map (λ b. b.number) sorted)
@@ -184,7 +184,7 @@ flat_set f (p ∷ ps) (suc i) part d below e = ap (λ (xs : List ℕ). f p ++ xs
 
 module _ (len : ℕ) (parts : List Part) (p : AreParts len parts) (home key : ℕ) (part after : Part) (at : home ≡ home_of (length parts) key) (is : part ≡ get_or parts home part) where
   home_low : home < length parts
-  home_low = let s = p.some_part in omega arith
+  home_low = let s = p.all.some_part in omega arith
 
   size_set : length (set parts home after) ≡ length parts
   size_set = length-set parts home after
@@ -195,28 +195,30 @@ module _ (len : ℕ) (parts : List Part) (p : AreParts len parts) (home key : �
         let size = size_set in
         ⊎_elim
         (λ e. subst (λ q. AreBlocks q.shard) (sym (ap (λ (j : ℕ). get_or (set parts home after) j d) e ∙ get_or-set_same parts home after d home_low)) g.lawful)
-        (λ ne. subst (λ q. AreBlocks q.shard) (sym (get_or-set_other parts home i after d ne)) (p.lawful i d (omega arith)))
+        (λ ne. subst (λ q. AreBlocks q.shard) (sym (get_or-set_other parts home i after d ne)) (p.all.lawful i d (omega arith)))
         (cases_eq i home)
 
-    home_part : AreAtHome (length parts) home part.shard
-    home_part = subst (λ q. AreAtHome (length parts) home q.shard) (sym is) (p.homes home part home_low)
+    home_part : AreAtHome (length parts) (0 + home) part.shard
+    home_part = subst (λ q. AreAtHome (length parts) (0 + home) q.shard) (sym is) (p.all.homes home part home_low)
 
-    homes_set : (place : ℕ) (d : Part) → place < length (set parts home after) → AreAtHome (length (set parts home after)) place (get_or (set parts home after) place d).shard
+    homes_set : (place : ℕ) (d : Part) → place < length (set parts home after) → AreAtHome (length (set parts home after)) (0 + place) (get_or (set parts home after) place d).shard
     homes_set place d low =
         let size = size_set in
-        subst (λ (n : ℕ). AreAtHome n place (get_or (set parts home after) place d).shard) (sym size)
+        subst (λ (n : ℕ). AreAtHome n (0 + place) (get_or (set parts home after) place d).shard) (sym size)
         (⊎_elim
-        (λ e. subst (λ (j : ℕ). AreAtHome (length parts) j (get_or (set parts home after) j d).shard) (sym e)
-        (subst (λ q. AreAtHome (length parts) home q.shard) (sym (get_or-set_same parts home after d home_low)) (g.home (length parts) home (sym at) home_part)))
-        (λ ne. subst (λ q. AreAtHome (length parts) place q.shard) (sym (get_or-set_other parts home place after d ne)) (p.homes place d (omega arith)))
+        (λ e. subst (λ (j : ℕ). AreAtHome (length parts) (0 + j) (get_or (set parts home after) j d).shard) (sym e)
+        (subst (λ q. AreAtHome (length parts) (0 + home) q.shard) (sym (get_or-set_same parts home after d home_low)) (g.home (length parts) (0 + home) (omega arith) home_part)))
+        (λ ne. subst (λ q. AreAtHome (length parts) (0 + place) q.shard) (sym (get_or-set_other parts home place after d ne)) (p.all.homes place d (omega arith)))
         (cases_eq place home))
+
+    all_set : ArePartsFrom (length (set parts home after)) 0 (set parts home after)
+    all_set = let size = size_set in let some = p.all.some_part in record { some_part = omega arith; within = omega arith; lawful = lawful_set; homes = homes_set }
 
     has_set : (k : ℕ) → Contains (keys_of_parts (set parts home after)) k ↔ (Contains (keys_of_parts parts) k ⊎ (key ≡ k))
     has_set k =
         let size = size_set in
-        let some = p.some_part in
-        let now = part_has (set parts home after) (omega arith) lawful_set homes_set k after in
-        let was = part_has parts some p.lawful p.homes k after in
+        let now = part_has (set parts home after) all_set k after in
+        let was = part_has parts p.all k after in
         let place : ℕ = home_of (length parts) k in
         let moved : get_or (set parts home after) (home_of (length (set parts home after)) k) after ≡ get_or (set parts home after) place after = ap (λ (n : ℕ). get_or (set parts home after) (home_of n k) after) size in
         let grown = taken_keys (keys_of part.shard) key new (keys_of after.shard) g.taken k in
@@ -235,13 +237,13 @@ module _ (len : ℕ) (parts : List Part) (p : AreParts len parts) (home key : �
         (cases_eq place home)
 
     set_distinct : AllPairs (λ a b. a ≢ b) (keys_of_parts (set parts home after))
-    set_distinct = let size = size_set in let some = p.some_part in parts_distinct (set parts home after) (omega arith) lawful_set homes_set
+    set_distinct = parts_distinct (set parts home after) all_set
 
   -- the key is new
   module _ (g : Grows part.shard key true after.shard) where
     pub set_taken : Taken (keys_of_parts parts) key true (keys_of_parts (set parts home after))
     set_taken =
-        let was = part_has parts p.some_part p.lawful p.homes key part in
+        let was = part_has parts p.all key part in
         let there : get_or parts (home_of (length parts) key) part ≡ part = ap (λ (j : ℕ). get_or parts j part) (sym at) ∙ sym is in (
           (λ on. g.taken.0 (subst (λ q. Contains (keys_of q.shard) key) there (was.0 on))),
           record {
@@ -254,13 +256,11 @@ module _ (len : ℕ) (parts : List Part) (p : AreParts len parts) (home key : �
         )
 
     pub set_parts : AreParts (len + 1) (set parts home after)
-    set_parts = let size = size_set in let some = p.some_part in record {
-      some_part = omega arith;
-      lawful = lawful_set true g;
-      homes = homes_set true g;
+    set_parts = record {
+      all = all_set true g;
       count =
           let t = set_taken in
-          let e = both_len (keys_of_parts parts) (key ∷ []) (keys_of_parts (set parts home after)) t.1 (parts_distinct parts some p.lawful p.homes) (λ i j d before below. absurd (omega arith))
+          let e = both_len (keys_of_parts parts) (key ∷ []) (keys_of_parts (set parts home after)) t.1 (parts_distinct parts p.all) (λ i j d before below. absurd (omega arith))
           (λ k one old. t.0 (subst (λ (z : ℕ). Contains (keys_of_parts parts) z) (sym (⊎_elim (λ e. e) (λ none. absurd (nowhere k none)) (cons_cases key [] k one))) old)) in
           let c = p.count in omega arith;
     }
@@ -272,39 +272,40 @@ module _ (len : ℕ) (parts : List Part) (p : AreParts len parts) (home key : �
 
     pub same_taken : Taken (keys_of_parts parts) key false (keys_of_parts (set parts home after))
     same_taken =
-        let was = part_has parts p.some_part p.lawful p.homes key part in
+        let was = part_has parts p.all key part in
         let there : get_or parts (home_of (length parts) key) part ≡ part = ap (λ (j : ℕ). get_or parts j part) (sym at) ∙ sym is in
         (was.1 (subst (λ q. Contains (keys_of q.shard) key) (sym there) g.taken.0), same_keys)
 
     pub same_parts : AreParts len (set parts home after)
-    same_parts = let size = size_set in let some = p.some_part in record {
-      some_part = omega arith;
-      lawful = lawful_set false g;
-      homes = homes_set false g;
+    same_parts = record {
+      all = all_set false g;
       count = p.count ∙ ap length (sym same_keys);
     }
 
 -- all parts took their keys
-module _ (len : ℕ) (parts now : List Part) (keys : List ℕ) (p : AreParts len parts) (h : HaveTaken keys parts now) (fine : All (λ q. q.refused ≡ false) now) where
+module _ (len : ℕ) (parts now : List Part) (keys : List ℕ) (p : AreParts len parts) (h : HaveTakenFrom keys (length parts) 0 parts now) (fine : All (λ q. q.refused ≡ false) now) where
   lawful_now : All (λ q. AreBlocks q.shard) now
-  lawful_now i d low = let size = h.count in (h.each i d (omega arith)).lawful (fine i d low)
+  lawful_now i d low = let size = h.size in (h.each i d (omega arith)).lawful (fine i d low)
 
-  homes_now : (place : ℕ) (d : Part) → place < length now → AreAtHome (length now) place (get_or now place d).shard
-  homes_now place d low = let size = h.count in subst (λ (n : ℕ). AreAtHome n place (get_or now place d).shard) (sym size) ((h.each place d (omega arith)).home (fine place d low))
+  homes_now : (place : ℕ) (d : Part) → place < length now → AreAtHome (length now) (0 + place) (get_or now place d).shard
+  homes_now place d low = let size = h.size in subst (λ (n : ℕ). AreAtHome n (0 + place) (get_or now place d).shard) (sym size) ((h.each place d (omega arith)).home (fine place d low))
+
+  all_now : ArePartsFrom (length now) 0 now
+  all_now = let size = h.size in let some = p.all.some_part in record { some_part = omega arith; within = omega arith; lawful = lawful_now; homes = homes_now }
 
   pub all_taken : AreBothOf (keys_of_parts parts) keys (keys_of_parts now)
-  all_taken = let size = h.count in let some = p.some_part in record {
-    distinct = parts_distinct now (omega arith) lawful_now homes_now;
+  all_taken = let size = h.size in let some = p.all.some_part in record {
+    distinct = parts_distinct now all_now;
     members = λ k.
         let d : Part = get_or_some now (omega arith) in
         let place : ℕ = home_of (length parts) k in
         let low : place < length parts = omega arith in
         let moved : get_or now (home_of (length now) k) d ≡ get_or now place d = ap (λ (n : ℕ). get_or now (home_of n k) d) size in
-        let here = part_has now (omega arith) lawful_now homes_now k d in
-        let was = part_has parts some p.lawful p.homes k d in
+        let here = part_has now all_now k d in
+        let was = part_has parts p.all k d in
         let t = (h.each place d low).keys_now (fine place d (omega arith)) k in (
           (λ on. ⊎_elim (λ old. inl (was.1 old)) (λ own. inr own.0) (t.0 (subst (λ q. Contains (keys_of q.shard) k) moved (here.0 on)))),
-          (λ on. here.1 (subst (λ q. Contains (keys_of q.shard) k) (sym moved) (t.1 (⊎_elim (λ old. inl (was.0 old)) (λ m. inr (m, refl)) on)))),
+          (λ on. here.1 (subst (λ q. Contains (keys_of q.shard) k) (sym moved) (t.1 (⊎_elim (λ old. inl (was.0 old)) (λ m. inr (m, omega arith)) on)))),
         );
   }
     where
@@ -313,11 +314,9 @@ module _ (len : ℕ) (parts now : List Part) (keys : List ℕ) (p : AreParts len
       get_or_some (q ∷ qs) one = q
 
   pub parts_now : AllPairs (λ a b. a ≢ b) keys → ((k : ℕ) → Contains keys k → Contains (keys_of_parts parts) k → ⊥) → AreParts (len + length keys) now
-  parts_now distinct fresh = let size = h.count in let some = p.some_part in record {
-    some_part = omega arith;
-    lawful = lawful_now;
-    homes = homes_now;
-    count = let e = both_len (keys_of_parts parts) keys (keys_of_parts now) all_taken (parts_distinct parts some p.lawful p.homes) distinct fresh in let c = p.count in omega arith;
+  parts_now distinct fresh = record {
+    all = all_now;
+    count = let e = both_len (keys_of_parts parts) keys (keys_of_parts now) all_taken (parts_distinct parts p.all) distinct fresh in let c = p.count in omega arith;
   }
 
 -- keys that came one after another
@@ -372,8 +371,11 @@ empty_blocks = record {
 
 pub no_parts : (parts : List Part) → 0 < length parts → All (λ part. part.shard ≡ []) parts → AreParts 0 parts
 no_parts parts some empty = record {
-  some_part = some;
-  lawful = λ i d below. subst (λ (bs : List Block). AreBlocks bs) (sym (empty i d below)) empty_blocks;
-  homes = λ place d below. subst (λ (bs : List Block). AreAtHome (length parts) place bs) (sym (empty place d below)) (λ i e low. absurd (omega arith));
+  all = record {
+    some_part = some;
+    within = omega arith;
+    lawful = λ i d below. subst (λ (bs : List Block). AreBlocks bs) (sym (empty i d below)) empty_blocks;
+    homes = λ place d below. subst (λ (bs : List Block). AreAtHome (length parts) (0 + place) bs) (sym (empty place d below)) (λ i e low. absurd (omega arith));
+  };
   count = ap length (sym (no_keys parts empty));
 }
