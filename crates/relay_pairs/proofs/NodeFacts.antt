@@ -1,30 +1,25 @@
 -- The nodes of reached pairs.
-use Rattle.std.proofs.Common.{ℕ, ◌<◌, List, length, map, get_or, Contains, eqb, IsPermutation, refl, sym, subst}
-use Rattle.std.specs.List.{dedup}
-use Rattle.std.specs.List.Sorted.{IsSorted}
-use Rattle.std.specs.Ordering.{nat_cmp}
+use Rattle.std.proofs.Common.{◌≡◌, ℕ, ◌<◌, Bool, true, List, length, get_or, All, Contains, refl, sym, subst}
 use Rattle.std.proofs.lemmas.List.Elements.{Contains-get_or}
-use Rattle.std.proofs.lemmas.List.Kept.{Contains-dedup_nat, Contains-from_dedup}
-use Rattle.std.proofs.lemmas.List.Sorted.{Contains-permutation, IsPermutation-sym}
-use Rattle.std.proofs.lemmas.Map.Keys.{IsStrictlyIncreasing-dedup}
 use Rattle.relay_tables.specs.GraphParts.{GraphParts}
 use Rattle.relay_tables.specs.Graphs.{child_numbers, sender_number_after, IsClosedGraph}
 use Rattle.relay_pairs.specs.declared.reached.Reached.{Reached}
 use Rattle.relay_pairs.specs.Pairs.{IsRoot, IsStep, ArePairs, AreNodesOf, IsClosedUnder}
-use Rattle.relay_pairs.proofs.Members.{Contains-map, Contains-from_map}
+use Rattle.relay_pairs.specs.Marks.{mark_at, AreMarks, AreMarked}
 use Rattle.relay_pairs.proofs.Walking.{reached_step}
 use Rattle.relay_pairs.proofs.Keyed.{node_reached}
 
-pub nodes_are : (pairs : List Reached) (sorted : List ℕ) → IsPermutation (map (λ p. p.node) pairs) sorted → IsSorted nat_cmp sorted → AreNodesOf pairs (dedup eqb sorted)
-nodes_are pairs sorted same rising =
-    let nodes : List ℕ = map (λ p. p.node) pairs in
-    record {
-      ascending = IsStrictlyIncreasing-dedup sorted rising;
-      members = λ n. (
-        λ c. Contains-from_map (λ p. p.node) pairs n (Contains-permutation sorted nodes n (IsPermutation-sym nodes sorted same) (Contains-from_dedup eqb sorted n c)),
-        λ h. Contains-dedup_nat sorted n (Contains-permutation nodes sorted n same (subst (Contains nodes) h.2 (Contains-map (λ p. p.node) pairs h.0 h.1))),
-      );
-    }
+pub nodes_below : (g : GraphParts) (pairs : List Reached) → IsClosedGraph g → ArePairs g pairs → All (λ p. p.node < length g.nodes) pairs
+nodes_below g pairs closed all = λ k d short. node_reached g closed (get_or pairs k d) ((all.members (get_or pairs k d)).0 (Contains-get_or pairs k d short))
+
+pub nodes_are : (pairs : List Reached) (marks : List Bool) (nodes : List ℕ) → AreMarks pairs marks → AreMarked marks nodes → AreNodesOf pairs nodes
+nodes_are pairs marks nodes marked are = record {
+  ascending = are.ascending;
+  members = λ n. (
+    λ has. marked.only n ((are.members n).0 has),
+    λ h. (are.members n).1 (subst (λ k. mark_at marks k ≡ true) h.2 (marked.of_pairs h.0 h.1)),
+  );
+}
 
 pub nodes_closed : (g : GraphParts) (pairs : List Reached) (nodes : List ℕ) → IsClosedGraph g → ArePairs g pairs → AreNodesOf pairs nodes → IsClosedUnder g nodes
 nodes_closed g pairs nodes closed all are =
