@@ -27,7 +27,7 @@ fn report_any(
     ensures { OnOk result (Reports lines.old lines.new (IsLineIn finding)) }
 {
     match finding {
-        Some(finding) => lines.add(alloc, &finding),
+        Some(finding) => lines.add(&finding),
         None => Ok(()),
     }
 }

@@ -60,7 +60,7 @@ fn add_unrouted(
 {
     let address = address.copy(alloc)?;
     let reason = reason_for(unrouted.copy(alloc)?).ok_or(AllocError)?;
-    lines.add(alloc, &Finding::Unrouted(address, reason))
+    lines.add(&Finding::Unrouted(address, reason))
 }
 
 /// The recipient that an address is, by what was found for it. The line of an address without a route is added.

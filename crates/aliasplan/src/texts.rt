@@ -26,7 +26,7 @@ fn report_file_fault(
     ensures { OnOk result (ReportsWhere lines.old lines.new (λ q. bytes_eq q (source_line source.entry fault))) }
 {
     let finding = source.finding(alloc, fault)?;
-    lines.add(alloc, &finding)
+    lines.add(&finding)
 }
 
 /// Adds the lines of a file that are at fault.
@@ -54,7 +54,7 @@ fn report_table_fault(
     ensures { OnOk result (ReportsWhere lines.old lines.new (λ q. bytes_eq q (table_line table fault))) }
 {
     let finding = table.finding(fault);
-    lines.add(alloc, &finding)
+    lines.add(&finding)
 }
 
 /// Adds the lines of a table that are at fault.

@@ -1,4 +1,3 @@
-pub mod Fronts
 pub mod KeyFacts
 pub mod PickFacts
 pub mod PlaceFacts
@@ -7,6 +6,7 @@ pub mod RankFacts
 pub mod RecipientFacts
 pub mod RouteFacts
 pub mod SenderFacts
+pub mod CountFacts
 pub mod StopFacts
 pub mod Steps
 pub mod Lists

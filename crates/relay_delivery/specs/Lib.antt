@@ -1,9 +1,9 @@
 pub mod Groups
 pub mod Placings
-pub mod Fronts
 pub mod WrittenPaths
 pub mod Ranks
 pub mod Orders
 pub mod Keyed
 pub mod Marks
+pub mod Counted
 pub mod Cuts

@@ -6,6 +6,7 @@
 //! many follows from what relay_rings says of its batches.
 #![tactic(auto)]
 
+mod counting;
 mod cutting;
 mod delivery;
 mod group_numbers;

@@ -1,35 +1,13 @@
 //! The lines that stand round the plans of envelopes.
-ghost use Rattle.std.specs.Prelude.{◌≡◌, [], ◌∷◌, ◌++◌, decimal, OnOk};
-ghost use Rattle.relay_wire.specs.Findings.{after_spaces};
-ghost use Rattle.relay_wire.specs.PlanText.{line, lines_of};
+ghost use Rattle.std.specs.Prelude.{◌≡◌, ◌++◌, OnOk};
+ghost use Rattle.relay_wire.specs.PlanText.{line};
 ghost use Rattle.relay_envelopes.specs.EachText.{tables_text_of, tables_line, envelope_line, refusal_line, done_line};
 
 use crate::counts::EnvelopeCounts;
 use crate::refusal::Refusal;
-use itoa::Buffer;
 use relay_text::Text;
+use relay_wire::{put_count, put_lines};
 use std::alloc::AllocError;
-
-// Puts a number at the end, and what it counts, each with a space before it.
-fn put_count(number: usize, counted: &[u8], out: &mut Vec<u8>) -> Result<(), AllocError>
-    ensures { OnOk result (out.new.items ≡ out.old.items ++ after_spaces (decimal number ∷ counted.now ∷ [])) }
-{
-    out.push(b' ')?;
-    out.extend_from_slice(Buffer::new().format(number).as_bytes())?;
-    out.push(b' ')?;
-    out.extend_from_slice(counted)
-}
-
-// Puts lines that are there already at the end.
-fn put_lines(lines: &[Text], out: &mut Vec<u8>) -> Result<(), AllocError>
-    ensures { OnOk result (out.new.items ≡ out.old.items ++ lines_of lines.now) }
-{
-    for text in lines {
-        out.extend_from_slice(text.as_bytes())?;
-        out.push(b'\n')?;
-    }
-    Ok(())
-}
 
 // Puts the line that counts the findings of files and tables at the end.
 fn put_tables_line(findings: usize, out: &mut Vec<u8>) -> Result<(), AllocError>

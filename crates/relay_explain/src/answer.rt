@@ -34,12 +34,12 @@ pub struct Answer {
 
 ghost use Rattle.std.specs.Prelude.{◌≡◌, ◌++◌, ◌∷◌, map, OnOk};
 ghost use Rattle.relay_text.specs.Addresses.{path_text_of};
-ghost use Rattle.relay_wire.specs.Findings.{after_spaces, reason_words, refusal_words};
+ghost use Rattle.relay_wire.specs.Findings.{after_spaces, reason_words};
 ghost use Rattle.relay_wire.specs.PlanText.{line, lines_of};
 ghost use Rattle.relay_explain.specs.ExplanationText.{given_words, from_line, step_line, outcome_line, outcome_lines, chain_text};
 
-use crate::words::{put_name, put_number, put_path, put_word};
 use relay_ordering::HasSender;
+use relay_wire::{put_name, put_number, put_path, put_reason, put_word};
 use std::alloc::AllocError;
 
 impl HasSender for Answer {
@@ -63,30 +63,6 @@ impl GivenBy {
                 put_number(*line, out)
             }
         }
-    }
-}
-
-// Writes `refused`, and the text where there is one.
-fn put_refusal(text: &[u8], out: &mut Vec<u8>) -> Result<(), AllocError>
-    ensures { OnOk result (out.new.items ≡ out.old.items ++ after_spaces (refusal_words text.now)) }
-{
-    put_word(b"refused", out)?;
-    if text.is_empty() {
-        return Ok(());
-    }
-    put_word(text, out)
-}
-
-// Writes why an address has no route.
-fn put_reason(reason: &Reason, out: &mut Vec<u8>) -> Result<(), AllocError>
-    ensures { OnOk result (out.new.items ≡ out.old.items ++ after_spaces (reason_words reason.now)) }
-{
-    match reason {
-        Reason::Domain => put_word(b"domain", out),
-        Reason::MxSelf => put_word(b"mxself", out),
-        Reason::Transport => put_word(b"transport", out),
-        Reason::Refused(text) => put_refusal(text.as_bytes(), out),
-        Reason::NullMx => put_word(b"nullmx", out),
     }
 }
 

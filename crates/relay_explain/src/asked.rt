@@ -15,8 +15,8 @@ ghost use Rattle.relay_wire.specs.Findings.{after_spaces};
 ghost use Rattle.relay_explain.specs.AskedTexts.{asked_as, asked_of, inner_text, no_domain};
 ghost use Rattle.relay_explain.specs.ExplanationText.{asked_words};
 
-use crate::words::{put_name, put_path};
 use relay_text::{TextFault, parse_address, parse_name};
+use relay_wire::{put_name, put_path};
 use std::alloc::{AllocError, Global};
 
 /// What stands between `<` and `>`, where these are the first and the last byte; else the text.

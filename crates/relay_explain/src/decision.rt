@@ -20,7 +20,7 @@ ghost use Rattle.std.specs.Prelude.{◌≡◌, ◌++◌, map, OnOk};
 ghost use Rattle.relay_wire.specs.PlanText.{lines_of};
 ghost use Rattle.relay_explain.specs.ExplanationText.{decision_text, via_lines, lookup_lines, record_line};
 
-use crate::words::put_word;
+use relay_wire::put_word;
 use std::alloc::AllocError;
 
 // Writes the line of each record.

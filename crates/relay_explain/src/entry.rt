@@ -12,7 +12,7 @@ ghost use Rattle.std.specs.Prelude.{◌≡◌, ◌++◌, OnOk};
 ghost use Rattle.relay_wire.specs.Findings.{after_spaces};
 ghost use Rattle.relay_explain.specs.ExplanationText.{entry_words};
 
-use crate::words::{put_named, put_word};
+use relay_wire::{put_name, put_word};
 use std::alloc::AllocError;
 
 impl Entry {
@@ -20,7 +20,10 @@ impl Entry {
         ensures { OnOk result (out.new.items ≡ out.old.items ++ after_spaces (entry_words self.now)) }
     {
         match self {
-            Entry::Alias(name) => put_named(b" alias ", name.as_bytes(), out),
+            Entry::Alias(name) => {
+                put_word(b"alias", out)?;
+                put_name(name.as_bytes(), out)
+            }
             Entry::Include(path) => {
                 put_word(b"include", out)?;
                 put_word(path.as_bytes(), out)

@@ -16,7 +16,6 @@ pub mod rule;
 pub mod step;
 pub mod target;
 mod text;
-mod words;
 
 pub use answer::{Answer, GivenBy, Outcome};
 pub use asked::Asked;

@@ -18,7 +18,7 @@ ghost use Rattle.std.specs.Prelude.{◌≡◌, ◌++◌, ◌∷◌, [], codes, d
 ghost use Rattle.relay_wire.specs.Findings.{after_spaces};
 ghost use Rattle.relay_explain.specs.ExplanationText.{listed_text, place_words};
 
-use crate::words::{put_numbered, put_word};
+use relay_wire::{put_number, put_word};
 use std::alloc::AllocError;
 
 impl Listed {
@@ -26,8 +26,10 @@ impl Listed {
     fn put_place(&self, out: &mut Vec<u8>) -> Result<(), AllocError>
         ensures { OnOk result (out.new.items ≡ out.old.items ++ after_spaces (place_words self.now.line self.now.item self.now.text)) }
     {
-        put_numbered(b" line ", self.line, out)?;
-        put_numbered(b" item ", self.item, out)?;
+        put_word(b"line", out)?;
+        put_number(self.line, out)?;
+        put_word(b"item", out)?;
+        put_number(self.item, out)?;
         put_word(self.text.as_bytes(), out)
     }
 

@@ -30,7 +30,7 @@ ghost use Rattle.std.specs.Prelude.{◌≡◌, ◌++◌, OnOk};
 ghost use Rattle.relay_wire.specs.PlanText.{line};
 ghost use Rattle.relay_explain.specs.ExplanationText.{fate_word, record_text, record_line};
 
-use crate::words::{put_number, put_word};
+use relay_wire::{put_number, put_word};
 use std::alloc::AllocError;
 
 impl Fate {

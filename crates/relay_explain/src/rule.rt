@@ -17,7 +17,7 @@ ghost use Rattle.std.specs.Prelude.{◌≡◌, ◌++◌, OnOk};
 ghost use Rattle.relay_wire.specs.PlanText.{line};
 ghost use Rattle.relay_explain.specs.ExplanationText.{rule_text, route_line, table_text, via_text};
 
-use crate::words::{put_number, put_word};
+use relay_wire::{put_number, put_word};
 use std::alloc::AllocError;
 
 // Writes a transport, and a nexthop where there is one, as a setting has them.

@@ -23,7 +23,7 @@ ghost use Rattle.relay_wire.specs.Findings.{after_spaces};
 ghost use Rattle.relay_wire.specs.PlanText.{line};
 ghost use Rattle.relay_explain.specs.ExplanationText.{mention_text, is_text, step_line};
 
-use crate::words::{put_number, put_path, put_word};
+use relay_wire::{put_number, put_path, put_word};
 use std::alloc::AllocError;
 
 impl Mention {

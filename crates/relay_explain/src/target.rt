@@ -24,7 +24,7 @@ ghost use Rattle.std.specs.Prelude.{◌≡◌, ◌++◌, OnOk};
 ghost use Rattle.relay_wire.specs.Findings.{after_spaces};
 ghost use Rattle.relay_explain.specs.ExplanationText.{target_words};
 
-use crate::words::{put_name, put_named, put_path, put_word};
+use relay_wire::{put_name, put_path, put_word};
 use std::alloc::AllocError;
 
 impl Target {
@@ -32,7 +32,10 @@ impl Target {
         ensures { OnOk result (out.new.items ≡ out.old.items ++ after_spaces (target_words self.now)) }
     {
         match self {
-            Target::Alias(name) => put_named(b" alias ", name.as_bytes(), out),
+            Target::Alias(name) => {
+                put_word(b"alias", out)?;
+                put_name(name.as_bytes(), out)
+            }
             Target::Include(path) => {
                 put_word(b"include", out)?;
                 put_word(path.as_bytes(), out)

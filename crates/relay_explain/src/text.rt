@@ -9,8 +9,8 @@ use crate::asked::Asked;
 use crate::explanation::Explanation;
 use crate::listed::Listed;
 use crate::target::Target;
-use crate::words::{put_number, put_word};
 use relay_text::Text;
+use relay_wire::{put_number, put_word};
 use std::alloc::{AllocError, Global};
 
 // Writes the first line.

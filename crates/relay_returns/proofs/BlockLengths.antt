@@ -2,12 +2,12 @@
 use Rattle.std.proofs.Common.{◌≡◌, ◌<◌, ℕ, ◌+◌, min, List, [], ◌∷◌, ◌++◌, codes, decimal, length, take, get_or, sum_by, refl, sym, ap, ◌∙◌, arith}
 use Rattle.std.specs.List.{enumerate_from}
 use Rattle.std.proofs.lemmas.List.{length-append}
-use Rattle.std.proofs.lemmas.List.Sums.{sum_by_more, sum_by-cons}
+use Rattle.std.proofs.lemmas.List.Sums.{sum_by-cons}
 use Rattle.relay_text.specs.Addresses.{path_text_of}
 use Rattle.relay_wire.specs.Findings.{spaced}
-use Rattle.relay_wire.specs.PlanText.{line, lines_of, from_line}
+use Rattle.relay_wire.specs.PlanText.{line, lines_of}
 use Rattle.relay_returns.specs.declared.block.Return.{Return}
-use Rattle.relay_returns.specs.Returns.{number_line, block_text, numbered_blocks, tail_text}
+use Rattle.relay_returns.specs.Returns.{block_text, numbered_blocks, tail_text}
 use Rattle.relay_returns.proofs.Blocks.{numbered_more}
 
 -- Saturated sums: what is cut off once stays cut off.
@@ -16,17 +16,6 @@ grown m total more r s h k = omega arith
 
 pub grown_by : (m total more r q s : ℕ) → r ≡ min total m → q ≡ min more m → s ≡ min (r + q) m → s ≡ min (total + more) m
 grown_by m total more r q s h i k = omega arith
-
-pub lines_step : (xs : List (List ℕ)) (i : ℕ) (x : List ℕ) (m len next last : ℕ) → i < length xs → x ≡ get_or xs i x
-    → len ≡ min (sum_by (λ t. 1 + length t) (take i xs)) m → next ≡ min (len + 1) m → last ≡ min (next + length x) m → last ≡ min (sum_by (λ t. 1 + length t) (take (i + 1) xs)) m
-lines_step xs i x m len next last h at before first second =
-    let f : List ℕ → ℕ = λ t. 1 + length t in
-    let sum : sum_by f (take (i + 1) xs) ≡ sum_by f (take i xs) + f (get_or xs i x) = sum_by_more f xs i x h in
-    let item : f (get_or xs i x) ≡ 1 + length x = ap f (sym at) in
-    let one : next ≡ min (sum_by f (take i xs) + 1) m = grown m (sum_by f (take i xs)) 1 len next before first in
-    let two : last ≡ min (sum_by f (take i xs) + 1 + length x) m = grown m (sum_by f (take i xs) + 1) (length x) next last one second in
-    let total : sum_by f (take i xs) + 1 + length x ≡ sum_by f (take (i + 1) xs) = omega arith in
-    two ∙ ap (λ n. min n m) total
 
 texts_length : (texts : List (List ℕ)) → length (lines_of texts) ≡ sum_by (λ t. 1 + length t) texts
 texts_length [] = refl

@@ -1,22 +1,12 @@
 //! How long the parts of a text are, reckoned before they are written. A length that is larger than a `usize` counts is `usize::MAX`.
-ghost use Rattle.std.specs.Prelude.{◌≡◌, ◌+◌, decimal, length, sum_by};
+ghost use Rattle.std.specs.Prelude.{◌≡◌, length};
 ghost use Rattle.relay_wire.specs.Lengths.{saturated};
 ghost use Rattle.relay_returns.specs.Returns.{block_text, blocks_text, tail_text};
 
 use crate::block::Return;
 use itoa::Buffer;
 use relay_text::{Text, path_len};
-
-// The length of lines with their ends.
-fn lines_len(lines: &[Text]) -> usize
-    ensures { result ≡ saturated (sum_by (λ t. 1 + length t) lines.now) }
-{
-    let mut len: usize = 0;
-    for line in lines {
-        len = len.saturating_add(b"\n".len()).saturating_add(line.len());
-    }
-    len
-}
+use relay_wire::texts_len;
 
 // The length of a block.
 fn block_len(number: usize, block: &Return) -> usize
@@ -26,7 +16,7 @@ fn block_len(number: usize, block: &Return) -> usize
         .len()
         .saturating_add(Buffer::new().format(number).len())
         .saturating_add(path_len(block.sender.as_ref()))
-        .saturating_add(lines_len(block.lines.as_slice()))
+        .saturating_add(texts_len(block.lines.as_slice(), b"\n".len()))
 }
 
 /// The length of the blocks.
@@ -44,5 +34,5 @@ pub(crate) fn blocks_len(returns: &[Return]) -> usize
 pub(crate) fn tail_len(findings: &[Text]) -> usize
     ensures { result ≡ saturated (length (tail_text findings.now)) }
 {
-    lines_len(findings).saturating_add(b"end\n".len())
+    texts_len(findings, b"\n".len()).saturating_add(b"end\n".len())
 }

@@ -4,5 +4,6 @@ pub mod Lines
 pub mod ScriptParts
 pub mod ScriptText
 pub mod LengthSums
-pub mod LineFronts
+pub mod Fronts
 pub mod LineOrders
+pub mod LineCuts

@@ -1,7 +1,12 @@
 -- Lines of findings, as they are gathered.
-use Rattle.std.specs.Prelude.{ℕ, List, map}
+use Rattle.std.specs.Prelude.{ℕ, List, [], ◌∷◌, map, take, drop}
 use Rattle.relay_wire.specs.declared.fronted_line.FrontedLine.{FrontedLine}
+
+-- the lines that stand one behind the other in some bytes, by how many bytes each of them has
+abbrev pub lines_cut : List ℕ → List ℕ → List (List ℕ)
+lines_cut [] bytes = []
+lines_cut (n ∷ lengths) bytes = take n bytes ∷ lines_cut lengths (drop n bytes)
 
 -- the lines without the numbers beside them
 abbrev pub lines_in : List FrontedLine → List (List ℕ)
-lines_in gathered = map (λ fronted. fronted.line.items) gathered
+lines_in fronted = map (λ one. one.line.now) fronted

@@ -2,6 +2,6 @@ pub mod Findings
 pub mod Script
 pub mod PlanText
 pub mod Lengths
-pub mod FrontedLines
+pub mod Fronts
 pub mod FindingLines
 pub mod CheckText

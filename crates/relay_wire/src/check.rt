@@ -3,7 +3,7 @@ ghost use Rattle.std.specs.Prelude.{◌≡◌, ◌++◌, length, IfOk, OnOk};
 ghost use Rattle.relay_wire.specs.CheckText.{check_line, check_text_of};
 ghost use Rattle.relay_wire.specs.PlanText.{line};
 
-use crate::plan::{put_count, put_lines};
+use crate::words::{put_count, put_lines};
 use relay_text::Text;
 use std::alloc::{AllocError, Global};
 

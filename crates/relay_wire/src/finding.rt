@@ -110,8 +110,9 @@ fn put_place(place: &Place, out: &mut Vec<u8>) -> Result<(), AllocError>
     }
 }
 
-// Writes why an address has no route.
-fn put_reason(reason: &Reason, out: &mut Vec<u8>) -> Result<(), AllocError>
+/// Puts why an address has no route at the end, in the words of a finding, each with a space before it. `Err` where memory runs out; then
+/// some front of them stands behind what was there.
+pub fn put_reason(reason: &Reason, out: &mut Vec<u8>) -> Result<(), AllocError>
     ensures { OnOk result (out.new.items ≡ out.old.items ++ after_spaces (reason_words reason.now)) }
 {
     match reason {
@@ -212,15 +213,13 @@ fn put_finding(finding: &Finding, out: &mut Vec<u8>) -> Result<(), AllocError>
 // Most lines are no longer than this many bytes, and take memory once.
 const USUAL_LEN: usize = 64;
 
-/// The bytes of a finding's line.
+/// Puts the line of a finding, without its end, at the end.
 #[tactic(auto, using(crate::proofs::Pieces::spaced_after))]
-pub(crate) fn finding_bytes(alloc: Global, finding: &Finding) -> Result<Vec<u8>, AllocError>
-    ensures { IfOk result (λ line. line.items ≡ finding_text_of finding.now) }
+pub(crate) fn put_finding_line(finding: &Finding, out: &mut Vec<u8>) -> Result<(), AllocError>
+    ensures { OnOk result (out.new.items ≡ out.old.items ++ finding_text_of finding.now) }
 {
-    let mut out = Vec::with_capacity(alloc, USUAL_LEN)?;
     out.extend_from_slice(b"finding")?;
-    put_finding(finding, &mut out)?;
-    Ok(out)
+    put_finding(finding, out)
 }
 
 /// The line of a finding, without its end: words with one space between each two, an alias's name in the one spelling of a local
@@ -228,5 +227,7 @@ pub(crate) fn finding_bytes(alloc: Global, finding: &Finding) -> Result<Vec<u8>,
 pub fn finding_line(alloc: Global, finding: &Finding) -> Result<Text, AllocError>
     ensures { IfOk result (λ line. line ≡ finding_text_of finding.now) }
 {
-    Ok(Text::of(finding_bytes(alloc, finding)?))
+    let mut line = Vec::with_capacity(alloc, USUAL_LEN)?;
+    put_finding_line(finding, &mut line)?;
+    Ok(Text::of(line))
 }

@@ -41,8 +41,8 @@ fn paths_len(addresses: &[Address], each: usize) -> usize
     len
 }
 
-// The length of texts, with so much for each line.
-fn texts_len(texts: &[Text], each: usize) -> usize
+/// The length of texts, and so much more for each of them, as for the end of a line; `usize::MAX` where a `usize` doesn't count it.
+pub fn texts_len(texts: &[Text], each: usize) -> usize
     ensures { result ≡ saturated (sum_by (λ t. each + length t) texts.now) }
 {
     let mut len: usize = 0;

@@ -1,11 +1,10 @@
 //! Plans.
-ghost use Rattle.std.specs.Prelude.{◌≡◌, ◌≤◌, ◌^◌, ◌∷◌, ◌++◌, [], codes, map, decimal, option_map, IfOk, IfSome, IfNone, OnOk};
+ghost use Rattle.std.specs.Prelude.{◌≡◌, ◌≤◌, ◌^◌, ◌∷◌, ◌++◌, [], codes, map, option_map, IfOk, IfSome, IfNone, OnOk};
 ghost use Rattle.std.specs.List.{enumerate_from};
-ghost use Rattle.relay_wire.specs.Findings.{after_spaces};
 ghost use Rattle.relay_wire.specs.PlanText.{line, lines_of, recipient_count, counts_line, via_line, host_line, host_lines, from_line, to_line, transaction_line, transaction_text, numbered_texts, plan_text_of};
 
 use crate::lengths::plan_len;
-use crate::words::{put_number, put_path, put_word};
+use crate::words::{put_count, put_lines, put_number, put_path, put_word};
 use relay_routes::{Hosts, Transport};
 use relay_text::{Address, Seq, Text, write_path};
 use std::alloc::{AllocError, Global};
@@ -44,14 +43,6 @@ pub(crate) fn recipient_count(plan: &Plan) -> Option<usize>
         count = count.checked_add(planned.to.len())?;
     }
     Some(count)
-}
-
-// Puts a number at the end, and what it counts.
-pub(crate) fn put_count(number: usize, counted: &[u8], out: &mut Vec<u8>) -> Result<(), AllocError>
-    ensures { OnOk result (out.new.items ≡ out.old.items ++ after_spaces (decimal number ∷ counted.now ∷ [])) }
-{
-    put_number(number, out)?;
-    put_word(counted, out)
 }
 
 // Writes the line that counts.
@@ -162,17 +153,6 @@ fn put_transactions(transactions: &[Planned], out: &mut Vec<u8>) -> Result<(), A
 {
     for (index, planned) in transactions.iter().enumerate() {
         put_transaction(index + 1, planned, out)?;
-    }
-    Ok(())
-}
-
-// Writes lines that are there already.
-pub(crate) fn put_lines(lines: &[Text], out: &mut Vec<u8>) -> Result<(), AllocError>
-    ensures { OnOk result (out.new.items ≡ out.old.items ++ lines_of lines.now) }
-{
-    for text in lines {
-        out.extend_from_slice(text.as_bytes())?;
-        out.push(b'\n')?;
     }
     Ok(())
 }

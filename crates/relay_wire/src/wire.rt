@@ -4,10 +4,8 @@ ghost use Rattle.std.specs.List.{enumerate_from};
 ghost use Rattle.relay_wire.specs.PlanText.{line, numbered_texts, script_line, scripted_text, wire_text_of};
 
 use crate::lengths::{script_len, wire_len};
-use crate::plan::{
-    Plan, Planned, put_counts, put_lines, put_route, put_transaction_line, recipient_count,
-};
-use crate::words::put_number;
+use crate::plan::{Plan, Planned, put_counts, put_route, put_transaction_line, recipient_count};
+use crate::words::{put_lines, put_number};
 use crate::writing::put_script;
 use relay_text::Text;
 use std::alloc::{AllocError, Global};

@@ -5,5 +5,5 @@ use Rattle.relay_returns.proofs.lengths.tail_len.Goals as goal
 
 pub returns : goal.returns
 returns c =
-    grown (2 ^ 64 - 1) (sum_by (λ t. 1 + length t) c.args.findings.now) 4 c.lines_len.result c.saturating_add.result c.lines_len.ensures c.saturating_add.ensures
+    grown (2 ^ 64 - 1) (sum_by (λ t. 1 + length t) c.args.findings.now) 4 c.texts_len.result c.saturating_add.result c.texts_len.ensures c.saturating_add.ensures
     ∙ ap saturated (sym (tail_length c.args.findings.now))

@@ -1,4 +1,4 @@
-use Rattle.std.proofs.Common.{◌≡◌, ◌-◌, ◌≤◌, take, drop, length, ap, arith}
+use Rattle.std.proofs.Common.{◌≡◌, ◌-◌, take, drop, length, ap, arith}
 use Rattle.std.proofs.lemmas.List.{take_all, length-drop}
 use Rattle.relay_returns.proofs.LineFacts.{head_within, line_is}
 use Rattle.relay_returns.proofs.lines.return_line.Goals as goal

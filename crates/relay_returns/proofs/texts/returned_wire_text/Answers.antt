@@ -1,7 +1,6 @@
-use Rattle.std.proofs.Common.{◌∙◌, sym, ap, ◌++◌}
+use Rattle.std.proofs.Common.{◌∙◌}
 use Rattle.std.proofs.lemmas.Result.{IfOk-weaker}
 use Rattle.relay_wire.specs.PlanText.{scripted_text}
-use Rattle.relay_returns.specs.Returns.{tail_text}
 use Rattle.relay_returns.proofs.Blocks.{front_of, parted, joined, without}
 use Rattle.relay_returns.proofs.texts.returned_wire_text.Goals as goal
 

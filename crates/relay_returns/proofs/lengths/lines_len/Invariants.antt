@@ -1,6 +1,0 @@
-use Rattle.std.proofs.Common.{◌≡◌, ◌+◌, length, sum_by, take}
-use Rattle.relay_wire.specs.Lengths.{saturated}
-use Rattle.relay_returns.proofs.lengths.lines_len.Given as goal
-
-abbrev pub invariant-loop-line : goal.invariant-loop-line
-invariant-loop-line l = l.len ≡ saturated (sum_by (λ t. 1 + length t) (take l.line-index l.lines))

@@ -1,6 +1,0 @@
-use Rattle.std.proofs.Common.{◌≡◌, ◌++◌, take}
-use Rattle.relay_wire.specs.PlanText.{lines_of}
-use Rattle.relay_returns.proofs.words.put_lines.Given as goal
-
-abbrev pub invariant-loop-text : goal.invariant-loop-text
-invariant-loop-text l = l.out.items ≡ l.initial.out.items ++ lines_of (take l.text-index l.lines)
