@@ -1,13 +1,17 @@
 //! What becomes of a job's bytes.
-ghost use Rattle.std.specs.Prelude.{◌≤◌, length, IfOk, IfErr};
-ghost use Rattle.aliasplan.specs.Outcomes.{AreOptions, AreLimits, IsAnswer, RefusesBytes};
+ghost use Rattle.std.specs.Prelude.{◌≡◌, ◌≤◌, length, IfOk, IfErr};
+ghost use Rattle.relay_job.specs.JobAnswers.{IsJobWithin};
+ghost use Rattle.relay_wire.specs.declared.plan.Plan as plans;
+ghost use Rattle.aliasplan.specs.Outcomes.{AreOptions, AreLimits, IsAnswer, IsRefused, IsWithin, RefusesBytes, summary_of, text_in};
+ghost use Rattle.aliasplan.specs.Plans.{IsFewest, IsPlanOf};
 
-use crate::options::{Limits, Options};
+use crate::options::{Form, Limits, Options};
 use crate::planning::plan_job;
 use crate::summary::Summary;
-use relay_job::{RunFault, parse_job};
+use relay_job::{Job, RunFault, parse_job};
 use relay_rounds::Gate;
 use relay_text::Text;
+use relay_wire::Plan;
 use std::alloc::Global;
 use std::thread::Threads;
 
@@ -16,6 +20,36 @@ use std::thread::Threads;
 pub struct Answer {
     pub text: Text,
     pub summary: Summary,
+}
+
+/// What is written of a plan.
+fn answer_of(alloc: Global, form: Form, plan: &Plan) -> Result<Answer, RunFault>
+    ensures written { IfOk result (λ answer. answer.text ≡ text_in form plan.now) }
+    ensures summed { IfOk result (λ answer. answer.summary ≡ summary_of plan.now) }
+    ensures memory { IfErr result (λ fault. fault ≡ RunFault.Memory) }
+{
+    let summary = Summary::of(plan)?;
+    let text = form.text_of(alloc, plan)?;
+    Ok(Answer { text, summary })
+}
+
+/// What is written for a job.
+fn answer_parsed<G: Gate, R: Threads + Sync>(
+    rt: &R,
+    alloc: Global,
+    job: &Job,
+    options: Options,
+    limits: Limits,
+    gate: &G,
+) -> Result<Answer, RunFault>
+    requires options { AreOptions options }
+    requires limits { AreLimits limits }
+    requires job { IsJobWithin limits.bytes job.now }
+    ensures answered { IfOk result (λ answer. IsWithin limits job.now × ((plan : plans.Plan) × IsPlanOf job.now plan × IsFewest job.now plan.transactions × (answer.text ≡ text_in options.form plan) × (answer.summary ≡ summary_of plan))) }
+    ensures refused { IfErr result (IsRefused limits job.now) }
+{
+    let plan = plan_job(rt, alloc, job, options, limits, gate)?;
+    answer_of(alloc, options.form, &plan)
 }
 
 /// What is written for a job's bytes.
@@ -34,8 +68,5 @@ pub fn answer_job<G: Gate, R: Threads + Sync>(
     ensures refused { IfErr result (RefusesBytes limits input.now) }
 {
     let job = parse_job(alloc, input)?;
-    let plan = plan_job(rt, alloc, &job, options, limits, gate)?;
-    let text = options.form.text_of(alloc, &plan)?;
-    let summary = Summary::of(&plan)?;
-    Ok(Answer { text, summary })
+    answer_parsed(rt, alloc, &job, options, limits, gate)
 }

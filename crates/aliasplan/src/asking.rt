@@ -1,16 +1,15 @@
 //! The domains whose mail exchangers a job asks for.
-ghost use Rattle.std.specs.Prelude.{◌≡◌, ◌<◌, [], Some, Err, length, All, IfOk, IfErr, OnOk};
+ghost use Rattle.std.specs.Prelude.{◌≡◌, ◌<◌, ◌≤◌, [], Some, Err, length, All, IfOk, IfErr, OnOk};
 ghost use Rattle.relay_job.specs.JobAnswers.{IsJobWithin};
 ghost use Rattle.relay_pairs.specs.Pairs.{ArePairs};
 ghost use Rattle.aliasplan.specs.Delivery.{directory_of, routing_of, IsJobPart};
 ghost use Rattle.aliasplan.specs.Domains.{domain_of_found, AreAskedDomains, AsksFor};
 ghost use Rattle.aliasplan.specs.Entries.{HaveLine};
 ghost use Rattle.aliasplan.specs.Findings.{Reports};
-ghost use Rattle.aliasplan.specs.Outcomes.{AreOptions, AreLimits, IsWithin, IsRefused};
+ghost use Rattle.aliasplan.specs.Outcomes.{name_count, owned_count, IsWithin, IsRefused};
 
 use crate::crew::Crew;
 use crate::job_view::JobView;
-use crate::options::{Limits, Options};
 use crate::planning::{graph_of, nodes_of, pairs_of};
 use crate::sources::Sources;
 use relay_aliasfile::file_counts;
@@ -110,6 +109,28 @@ fn domains_of_pairs(
     domains.into_seq(alloc)
 }
 
+/// The domains that a job asks for, by its graph.
+fn domains_of_graph<G: Gate, R: Threads + Sync>(
+    crew: &Crew<G, R>,
+    job: &JobView<'_>,
+    router: &Router,
+    graph: &Graph,
+) -> Result<Seq<Text>, RunFault>
+    requires router { router.now ≡ routing_of job.now }
+    requires graph { IsJobPart job.now graph.now }
+    requires names { name_count job.now ≤ crew.now.limits.names }
+    requires owners { owned_count job.now ≤ crew.now.limits.owners }
+    ensures domains { IfOk result (AreAskedDomains job.now) }
+    ensures within { OnOk result (IsWithin crew.now.limits job.now) }
+    ensures refused { IfErr result (IsRefused crew.now.limits job.now) }
+{
+    let pairs = pairs_of(crew, job, graph)?;
+    match domains_of_pairs(crew.alloc, job, router, graph, &pairs) {
+        Ok(domains) => Ok(domains),
+        Err(_) => Err(RunFault::Memory),
+    }
+}
+
 /// The domains that a job asks for whose files and tables are read.
 fn domains_of_sources<G: Gate, R: Threads + Sync>(
     crew: &Crew<G, R>,
@@ -123,11 +144,7 @@ fn domains_of_sources<G: Gate, R: Threads + Sync>(
     ensures refused { IfErr result (IsRefused crew.now.limits job.now) }
 {
     let graph = graph_of(crew.alloc, job, &sources.tables, crew.limits)?;
-    let pairs = pairs_of(crew, job, &graph)?;
-    match domains_of_pairs(crew.alloc, job, &sources.router, &graph, &pairs) {
-        Ok(domains) => Ok(domains),
-        Err(_) => Err(RunFault::Memory),
-    }
+    domains_of_graph(crew, job, &sources.router, &graph)
 }
 
 /// The domains whose mail exchangers a plan of the job looks up, in lower case, each once, in the order of their bytes: of each mailbox
@@ -137,32 +154,19 @@ fn domains_of_sources<G: Gate, R: Threads + Sync>(
 /// The errors are those of `plan_job`. The form of the options is not regarded, and neither the number of threads nor how the work is cut
 /// changes the answer.
 pub fn domains<G: Gate, R: Threads + Sync>(
-    rt: &R,
-    alloc: Global,
+    crew: &Crew<G, R>,
     job: &Job,
-    options: Options,
-    limits: Limits,
-    gate: &G,
 ) -> Result<Seq<Text>, RunFault>
-    requires options { AreOptions options }
-    requires limits { AreLimits limits }
-    requires job { IsJobWithin limits.bytes job.now }
+    requires job { IsJobWithin crew.now.limits.bytes job.now }
     ensures domains { IfOk result (AreAskedDomains job.now) }
-    ensures within { OnOk result (IsWithin limits job.now) }
-    ensures refused { IfErr result (IsRefused limits job.now) }
+    ensures within { OnOk result (IsWithin crew.now.limits job.now) }
+    ensures refused { IfErr result (IsRefused crew.now.limits job.now) }
 {
     parsed_jobs();
     file_counts();
-    let mut lines = FindingLines::new(alloc);
-    let Ok(sources) = Sources::read(alloc, job, &mut lines) else {
+    let mut lines = FindingLines::new(crew.alloc);
+    let Ok(sources) = Sources::read(crew.alloc, job, &mut lines) else {
         return Err(RunFault::Memory);
     };
-    let crew = Crew {
-        rt,
-        alloc,
-        options,
-        limits,
-        gate,
-    };
-    domains_of_sources(&crew, &JobView::of(job), &sources)
+    domains_of_sources(crew, &JobView::of(job), &sources)
 }

@@ -2,17 +2,20 @@
 //!
 //! `check_texts` judges their lines; `check_aliases` also finds where every alias leads, as if the null sender wrote to all of them;
 //! `notes` says which settings Postfix reads otherwise.
-ghost use Rattle.std.specs.Prelude.{◌≡◌, IfOk, IfErr, OnOk};
+ghost use Rattle.std.specs.Prelude.{◌≡◌, ◌<◌, ℕ, List, IfOk, IfErr, OnOk};
 ghost use Rattle.relay_text.specs.Bytes.{has_text};
+ghost use Rattle.relay_routes.specs.declared.transport.Transport as names;
+ghost use Rattle.relay_job.specs.Settings.{limit_of};
 ghost use Rattle.relay_job.specs.Tables.{AreTablesWithin};
 ghost use Rattle.aliasplan.specs.Checks.{to_each_alias, AreLines, notes_of};
-ghost use Rattle.aliasplan.specs.Delivery.{directory_of};
-ghost use Rattle.aliasplan.specs.Outcomes.{AreOptions, AreLimits, IsWithin, IsRefused};
+ghost use Rattle.aliasplan.specs.Delivery.{directory_of, routing_of};
+ghost use Rattle.aliasplan.specs.Outcomes.{AreLimits, IsWithin, IsRefused};
 ghost use Rattle.aliasplan.specs.Report.{texts, IsFindingLine, IsLineOf};
+ghost use Rattle.aliasplan.specs.Texts.{has_fault_line};
 
 use crate::crew::Crew;
 use crate::job_view::JobView;
-use crate::options::{Limits, Options};
+use crate::options::Limits;
 use crate::planning::plan_sources;
 use crate::sources::Sources;
 use relay_aliasfile::file_counts;
@@ -58,45 +61,68 @@ pub fn check_texts(alloc: Global, tables: &Job, limits: Limits) -> Result<Seq<Te
     Ok(lines)
 }
 
+/// The lines of all that is found in a job whose files and tables are read. Their lines that are at fault are given.
+fn findings_of<G: Gate, R: Threads + Sync>(
+    crew: &Crew<G, R>,
+    job: &Job,
+    sources: &Sources,
+    lines: FindingLines,
+) -> Result<Seq<Text>, RunFault>
+    requires batches { (t : names.Transport) → 0 < limit_of job.now.settings t }
+    requires tables { sources.now.tables ≡ directory_of job.now }
+    requires router { sources.now.router ≡ routing_of job.now }
+    requires lines { (q : List ℕ) → has_text lines q ≡ has_fault_line job.now q }
+    ensures lines { IfOk result (AreLines (IsFindingLine job.now)) }
+    ensures within { OnOk result (IsWithin crew.now.limits job.now) }
+    ensures refused { IfErr result (IsRefused crew.now.limits job.now) }
+{
+    match plan_sources(crew, &JobView::of(job), sources, lines) {
+        Ok(plan) => Ok(plan.findings),
+        Err(fault) => Err(fault),
+    }
+}
+
+/// The same where the null sender writes to every alias of these files and tables.
+fn findings_of_aliases<G: Gate, R: Threads + Sync>(
+    crew: &Crew<G, R>,
+    tables: Job,
+    sources: &Sources,
+    lines: FindingLines,
+) -> Result<Seq<Text>, RunFault>
+    requires batches { (t : names.Transport) → 0 < limit_of tables.settings t }
+    requires tables { sources.now.tables ≡ directory_of tables }
+    requires router { sources.now.router ≡ routing_of tables }
+    requires lines { (q : List ℕ) → has_text lines q ≡ has_fault_line tables q }
+    ensures lines { IfOk result (AreLines (IsFindingLine (to_each_alias tables))) }
+    ensures within { OnOk result (IsWithin crew.now.limits (to_each_alias tables)) }
+    ensures refused { IfErr result (IsRefused crew.now.limits (to_each_alias tables)) }
+{
+    match to_each_alias(crew.alloc, tables, &sources.tables) {
+        Ok(job) => findings_of(crew, &job, sources, lines),
+        Err(_) => Err(RunFault::Memory),
+    }
+}
+
 /// The same lines, and with them those of all that is found where the null sender writes to every alias: loops, missing names and include
 /// files, items that aren't delivered to, entries without good items, and addresses without a route.
 ///
 /// The errors are those of `plan_job` of that message. The form of the options is not regarded, and neither the number of threads nor
 /// how the work is cut changes the answer.
 pub fn check_aliases<G: Gate, R: Threads + Sync>(
-    rt: &R,
-    alloc: Global,
+    crew: &Crew<G, R>,
     tables: Job,
-    options: Options,
-    limits: Limits,
-    gate: &G,
 ) -> Result<Seq<Text>, RunFault>
-    requires options { AreOptions options }
-    requires limits { AreLimits limits }
-    requires tables { AreTablesWithin limits.bytes tables }
+    requires { AreTablesWithin crew.now.limits.bytes tables }
     ensures lines { IfOk result (AreLines (IsFindingLine (to_each_alias tables))) }
-    ensures within { OnOk result (IsWithin limits (to_each_alias tables)) }
-    ensures refused { IfErr result (IsRefused limits (to_each_alias tables)) }
+    ensures within { OnOk result (IsWithin crew.now.limits (to_each_alias tables)) }
+    ensures refused { IfErr result (IsRefused crew.now.limits (to_each_alias tables)) }
 {
     parsed_tables();
     file_counts();
-    let mut lines = FindingLines::new(alloc);
-    let Ok(sources) = Sources::read(alloc, &tables, &mut lines) else {
-        return Err(RunFault::Memory);
-    };
-    let Ok(job) = to_each_alias(alloc, tables, &sources.tables) else {
-        return Err(RunFault::Memory);
-    };
-    let crew = Crew {
-        rt,
-        alloc,
-        options,
-        limits,
-        gate,
-    };
-    match plan_sources(&crew, &JobView::of(&job), &sources, lines) {
-        Ok(plan) => Ok(plan.findings),
-        Err(fault) => Err(fault),
+    let mut lines = FindingLines::new(crew.alloc);
+    match Sources::read(crew.alloc, &tables, &mut lines) {
+        Ok(sources) => findings_of_aliases(crew, tables, &sources, lines),
+        Err(_) => Err(RunFault::Memory),
     }
 }
 

@@ -7,8 +7,8 @@ use std::marker::Model;
 ///
 /// Contracts see it as the job of these files and tables and of this envelope.
 #[derive(Drop)]
-pub struct JobView<'a> {
-    /// Its own envelope isn't looked at.
+pub(crate) struct JobView<'a> {
+    /// The settings, files and tables of this job; of its envelope nothing.
     tables: &'a Job,
     sender: Option<&'a Address>,
     recipients: &'a [Address],
@@ -29,7 +29,7 @@ ghost use Rattle.relay_job.specs.Envelopes.{with_envelope};
 
 impl<'a> JobView<'a> {
     /// A job as it stands.
-    pub fn of(job: &'a Job) -> JobView<'a>
+    pub(crate) fn of(job: &'a Job) -> JobView<'a>
         ensures { result ≡ job.now }
     {
         JobView {
@@ -40,7 +40,7 @@ impl<'a> JobView<'a> {
     }
 
     /// The job of these tables and this envelope.
-    pub fn joined(tables: &'a Job, envelope: &'a Envelope) -> JobView<'a>
+    pub(crate) fn joined(tables: &'a Job, envelope: &'a Envelope) -> JobView<'a>
         ensures { result ≡ with_envelope tables.now envelope.now }
     {
         JobView {
@@ -50,20 +50,22 @@ impl<'a> JobView<'a> {
         }
     }
 
-    pub fn settings(&self) -> &'a Settings
+    /// Of the tables, whatever the envelope.
+    pub(crate) fn settings(&self) -> &'a Settings
         ensures { result.now ≡ self.now.settings }
     {
         &self.tables.settings
     }
 
     /// `None` for the null sender.
-    pub fn sender(&self) -> Option<&'a Address>
+    pub(crate) fn sender(&self) -> Option<&'a Address>
         ensures { option_map (λ s. s.now) result ≡ self.now.sender }
     {
         self.sender
     }
 
-    pub fn recipients(&self) -> &'a [Address]
+    /// In the envelope's order, repeats included.
+    pub(crate) fn recipients(&self) -> &'a [Address]
         ensures { result.now ≡ self.now.recipients }
     {
         self.recipients

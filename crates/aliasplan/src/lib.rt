@@ -52,6 +52,7 @@ pub use relay_job::{Envelope, Job, JobInclude, RunFault, Settings, parse_job, pa
 pub use relay_rounds::{Gate, NoGate};
 pub use returned::Returned;
 pub use returning::returns;
+pub use routing::own_names;
 pub use running::run;
 pub use running_returns::run_returns;
 pub use summary::Summary;

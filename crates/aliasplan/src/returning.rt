@@ -1,21 +1,20 @@
 //! What is returned to which sender, beside the plan of a job.
-ghost use Rattle.std.specs.Prelude.{◌≡◌, ◌<◌, All, ℕ, length, IfOk, IfErr, OnOk, List};
+ghost use Rattle.std.specs.Prelude.{◌≡◌, ◌<◌, ◌≤◌, All, ℕ, length, IfOk, IfErr, OnOk, List};
 ghost use Rattle.relay_text.specs.Bytes.{has_text};
 ghost use Rattle.relay_routes.specs.declared.transport.Transport as names;
 ghost use Rattle.relay_job.specs.Settings.{limit_of};
 ghost use Rattle.relay_job.specs.JobAnswers.{IsJobWithin};
 ghost use Rattle.relay_pairs.specs.Pairs.{ArePairs};
 ghost use Rattle.aliasplan.specs.Delivery.{directory_of, routing_of, IsJobPart};
-ghost use Rattle.aliasplan.specs.Outcomes.{AreOptions, AreLimits, IsWithin};
+ghost use Rattle.aliasplan.specs.Outcomes.{name_count, owned_count, IsWithin};
 ghost use Rattle.aliasplan.specs.Plans.{IsFewest, IsPlanOf, IsSoundFor};
-ghost use Rattle.aliasplan.specs.Reaching.{AreReachedNodes};
+ghost use Rattle.aliasplan.specs.Reaching.{AreReachedNodes, AreReachedPairs};
 ghost use Rattle.aliasplan.specs.Returns.{AreReturnsOf, HasAtMostReturnPairs, IsReturnedWithin, IsUnreturned};
 ghost use Rattle.aliasplan.specs.ReturnLines.{AreFindings, AreLinesOf, AreReturnLines};
 ghost use Rattle.aliasplan.specs.Texts.{has_fault_line};
 
 use crate::crew::Crew;
 use crate::job_view::JobView;
-use crate::options::{Limits, Options};
 use crate::planning::{graph_of, nodes_of, pairs_of, plan_reached};
 use crate::return_blocks::blocks_of;
 use crate::return_lines::lines_by_sender;
@@ -110,6 +109,68 @@ fn returns_of<G: Gate, R: Threads + Sync>(
     Ok(blocks_of_lines(alloc, job, graph, lists)?)
 }
 
+/// The plan and what is returned, of a job that reaches these pairs. The lines of files and tables that are at fault are given.
+fn returned_pairs<G: Gate, R: Threads + Sync>(
+    crew: &Crew<G, R>,
+    job: &JobView<'_>,
+    sources: &Sources,
+    graph: &Graph,
+    pairs: &[Reached],
+    lines: FindingLines,
+) -> Result<Returned, RunFault>
+    requires batches { (t : names.Transport) → 0 < limit_of job.now.settings t }
+    requires tables { sources.now.tables ≡ directory_of job.now }
+    requires router { sources.now.router ≡ routing_of job.now }
+    requires graph { IsJobPart job.now graph.now }
+    requires pairs { ArePairs graph.now pairs.now }
+    requires reached { AreReachedPairs job.now graph.now pairs.now }
+    requires few { length pairs.now ≤ 16777216 }
+    requires within { IsWithin crew.now.limits job.now }
+    requires lines { (q : List ℕ) → has_text lines q ≡ has_fault_line job.now q }
+    ensures plan { IfOk result (λ returned. IsPlanOf job.now returned.plan) }
+    ensures sound { IfOk result (λ returned. IsSoundFor job.now returned.plan.transactions) }
+    ensures fewest { IfOk result (λ returned. IsFewest job.now returned.plan.transactions) }
+    ensures returns { IfOk result (λ returned. AreReturnsOf job.now returned.returns) }
+    ensures pairs { OnOk result (HasAtMostReturnPairs job.now crew.now.limits.pairs) }
+    ensures refused { IfErr result (IsUnreturned crew.now.limits job.now) }
+{
+    let Ok(plan) = plan_reached(crew, job, sources, graph, pairs, lines) else {
+        return Err(RunFault::Memory);
+    };
+    match returns_of(crew, job, sources, graph, pairs) {
+        Ok(returns) => Ok(Returned { plan, returns }),
+        Err(fault) => Err(fault),
+    }
+}
+
+/// The plan and what is returned, of a job of this graph. The lines of files and tables that are at fault are given.
+fn returned_graph<G: Gate, R: Threads + Sync>(
+    crew: &Crew<G, R>,
+    job: &JobView<'_>,
+    sources: &Sources,
+    graph: &Graph,
+    lines: FindingLines,
+) -> Result<Returned, RunFault>
+    requires batches { (t : names.Transport) → 0 < limit_of job.now.settings t }
+    requires tables { sources.now.tables ≡ directory_of job.now }
+    requires router { sources.now.router ≡ routing_of job.now }
+    requires graph { IsJobPart job.now graph.now }
+    requires names { name_count job.now ≤ crew.now.limits.names }
+    requires owners { owned_count job.now ≤ crew.now.limits.owners }
+    requires lines { (q : List ℕ) → has_text lines q ≡ has_fault_line job.now q }
+    ensures plan { IfOk result (λ returned. IsPlanOf job.now returned.plan) }
+    ensures sound { IfOk result (λ returned. IsSoundFor job.now returned.plan.transactions) }
+    ensures fewest { IfOk result (λ returned. IsFewest job.now returned.plan.transactions) }
+    ensures returns { IfOk result (λ returned. AreReturnsOf job.now returned.returns) }
+    ensures within { OnOk result (IsReturnedWithin crew.now.limits job.now) }
+    ensures refused { IfErr result (IsUnreturned crew.now.limits job.now) }
+{
+    match pairs_of(crew, job, graph) {
+        Ok(pairs) => returned_pairs(crew, job, sources, graph, &pairs, lines),
+        Err(fault) => Err(fault),
+    }
+}
+
 /// The plan and what is returned, of a job whose files and tables are read. Their lines that are at fault are given.
 fn returned_sources<G: Gate, R: Threads + Sync>(
     crew: &Crew<G, R>,
@@ -128,12 +189,9 @@ fn returned_sources<G: Gate, R: Threads + Sync>(
     ensures within { OnOk result (IsReturnedWithin crew.now.limits job.now) }
     ensures refused { IfErr result (IsUnreturned crew.now.limits job.now) }
 {
-    let graph = graph_of(crew.alloc, job, &sources.tables, crew.limits)?;
-    let pairs = pairs_of(crew, job, &graph)?;
-    let returns = returns_of(crew, job, sources, &graph, &pairs)?;
-    match plan_reached(crew, job, sources, &graph, &pairs, lines) {
-        Ok(plan) => Ok(Returned { plan, returns }),
-        Err(_) => Err(RunFault::Memory),
+    match graph_of(crew.alloc, job, &sources.tables, crew.limits) {
+        Ok(graph) => returned_graph(crew, job, sources, &graph, lines),
+        Err(fault) => Err(fault),
     }
 }
 
@@ -146,35 +204,22 @@ fn returned_sources<G: Gate, R: Threads + Sync>(
 /// recipients, each counted once for each recipient. The form of the options is not regarded, and neither the number of threads nor how
 /// the work is cut changes the answer.
 pub fn returns<G: Gate, R: Threads + Sync>(
-    rt: &R,
-    alloc: Global,
+    crew: &Crew<G, R>,
     job: &Job,
-    options: Options,
-    limits: Limits,
-    gate: &G,
 ) -> Result<Returned, RunFault>
-    requires options { AreOptions options }
-    requires limits { AreLimits limits }
-    requires job { IsJobWithin limits.bytes job.now }
+    requires job { IsJobWithin crew.now.limits.bytes job.now }
     ensures plan { IfOk result (λ returned. IsPlanOf job.now returned.plan) }
     ensures sound { IfOk result (λ returned. IsSoundFor job.now returned.plan.transactions) }
     ensures fewest { IfOk result (λ returned. IsFewest job.now returned.plan.transactions) }
     ensures returns { IfOk result (λ returned. AreReturnsOf job.now returned.returns) }
-    ensures within { OnOk result (IsReturnedWithin limits job.now) }
-    ensures refused { IfErr result (IsUnreturned limits job.now) }
+    ensures within { OnOk result (IsReturnedWithin crew.now.limits job.now) }
+    ensures refused { IfErr result (IsUnreturned crew.now.limits job.now) }
 {
     parsed_jobs();
     file_counts();
-    let mut lines = FindingLines::new(alloc);
-    let Ok(sources) = Sources::read(alloc, job, &mut lines) else {
+    let mut lines = FindingLines::new(crew.alloc);
+    let Ok(sources) = Sources::read(crew.alloc, job, &mut lines) else {
         return Err(RunFault::Memory);
     };
-    let crew = Crew {
-        rt,
-        alloc,
-        options,
-        limits,
-        gate,
-    };
-    returned_sources(&crew, &JobView::of(job), &sources, lines)
+    returned_sources(crew, &JobView::of(job), &sources, lines)
 }

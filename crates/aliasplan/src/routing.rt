@@ -19,8 +19,9 @@ pub fn push_copies(alloc: Global, texts: &[Text], names: &mut Vec<Text>) -> Resu
     Ok(())
 }
 
-/// The relay's own names: its host name, its origin and its local domains.
-fn own_names(alloc: Global, settings: &Settings) -> Result<Seq<Text>, AllocError>
+/// The relay's own names, by which it finds itself among mail exchangers (RFC 5321 section 5.1): its host name, its origin and its local
+/// domains, in this order and as the settings have them, repeats included. `Err` where memory runs out.
+pub fn own_names(alloc: Global, settings: &Settings) -> Result<Seq<Text>, AllocError>
     ensures { IfOk result (λ names. names ≡ settings.now.hostname ∷ settings.now.origin ∷ settings.now.destinations) }
 {
     let mut names = Vec::new(alloc);

@@ -1,18 +1,23 @@
 //! A run from a job's bytes to its plan's, with what is returned.
-ghost use Rattle.std.specs.Prelude.{◌≡◌, ◌≢◌, ◌≤◌, false, true, length, Err, IfOk, IfErr, IfSome};
+ghost use Rattle.std.specs.Prelude.{◌≡◌, ◌≢◌, ◌≤◌, List, false, true, length, Err, IfOk, IfErr, IfSome};
 ghost use Rattle.std.specs.Io.KnownBytes.{Keeps};
-ghost use Rattle.aliasplan.specs.Outcomes.{AreOptions, AreLimits};
-ghost use Rattle.aliasplan.specs.Returns.{returned_text_in, IsReturnedAnswer, PlansReturns, RefusesReturnBytes, RefusesReturns, WritesReturnsFront};
+ghost use Rattle.relay_job.specs.JobAnswers.{IsJobWithin};
+ghost use Rattle.relay_wire.specs.declared.plan.Plan as plans;
+ghost use Rattle.relay_returns.specs.declared.block.Return as returned;
+ghost use Rattle.aliasplan.specs.Outcomes.{summary_of};
+ghost use Rattle.aliasplan.specs.Plans.{IsFewest, IsPlanOf};
+ghost use Rattle.aliasplan.specs.Returns.{returned_text_in, AreReturnsOf, IsReturnedAnswer, IsReturnedWithin, IsUnreturned, PlansReturns, RefusesReturnBytes, RefusesReturns, WritesReturnsFront};
 
 use crate::answering::Answer;
+use crate::crew::Crew;
 use crate::device::{Feed, Sink};
-use crate::options::{Form, Limits, Options};
+use crate::options::Form;
 use crate::reading::read_job;
 use crate::returned::Returned;
 use crate::returning::returns;
 use crate::summary::Summary;
 use crate::writing::write_text;
-use relay_job::{RunFault, parse_job};
+use relay_job::{Job, RunFault, parse_job};
 use relay_returns::{returned_plan_text, returned_wire_text};
 use relay_rounds::Gate;
 use relay_text::Text;
@@ -30,26 +35,41 @@ fn returned_text(alloc: Global, form: Form, returned: &Returned) -> Result<Text,
     }
 }
 
+/// What is written of a plan and its blocks.
+fn answer_of(alloc: Global, form: Form, returned: &Returned) -> Result<Answer, RunFault>
+    ensures written { IfOk result (λ answer. answer.text ≡ returned_text_in form returned.now.plan returned.now.returns) }
+    ensures summed { IfOk result (λ answer. answer.summary ≡ summary_of returned.now.plan) }
+    ensures memory { IfErr result (λ fault. fault ≡ RunFault.Memory) }
+{
+    let summary = Summary::of(&returned.plan)?;
+    let text = returned_text(alloc, form, returned)?;
+    Ok(Answer { text, summary })
+}
+
+/// What is written for a job.
+fn answer_parsed<G: Gate, R: Threads + Sync>(
+    crew: &Crew<G, R>,
+    job: &Job,
+) -> Result<Answer, RunFault>
+    requires job { IsJobWithin crew.now.limits.bytes job.now }
+    ensures answered { IfOk result (λ answer. IsReturnedWithin crew.now.limits job.now × ((plan : plans.Plan) × IsPlanOf job.now plan × IsFewest job.now plan.transactions × ((blocks : List returned.Return) × AreReturnsOf job.now blocks × (answer.text ≡ returned_text_in crew.now.options.form plan blocks) × (answer.summary ≡ summary_of plan)))) }
+    ensures refused { IfErr result (IsUnreturned crew.now.limits job.now) }
+{
+    let returned = returns(crew, job)?;
+    answer_of(crew.alloc, crew.options.form, &returned)
+}
+
 /// What is written for a job's bytes.
 fn answer_returns<G: Gate, R: Threads + Sync>(
-    rt: &R,
-    alloc: Global,
+    crew: &Crew<G, R>,
     input: &[u8],
-    options: Options,
-    limits: Limits,
-    gate: &G,
 ) -> Result<Answer, RunFault>
-    requires options { AreOptions options }
-    requires limits { AreLimits limits }
-    requires input { length input.now ≤ limits.bytes }
-    ensures answered { IfOk result (λ answer. IsReturnedAnswer limits options.form input.now answer.text answer.summary) }
-    ensures refused { IfErr result (RefusesReturnBytes limits input.now) }
+    requires { length input.now ≤ crew.now.limits.bytes }
+    ensures answered { IfOk result (λ answer. IsReturnedAnswer crew.now.limits crew.now.options.form input.now answer.text answer.summary) }
+    ensures refused { IfErr result (RefusesReturnBytes crew.now.limits input.now) }
 {
-    let job = parse_job(alloc, input)?;
-    let returned = returns(rt, alloc, &job, options, limits, gate)?;
-    let text = returned_text(alloc, options.form, &returned)?;
-    let summary = Summary::of(&returned.plan)?;
-    Ok(Answer { text, summary })
+    let job = parse_job(crew.alloc, input)?;
+    answer_parsed(crew, &job)
 }
 
 /// Reads a job, plans it, and writes the plan's text with what is returned, and nothing else: after the transactions and before the
@@ -58,39 +78,26 @@ fn answer_returns<G: Gate, R: Threads + Sync>(
 /// The faults are those of `run`, and `TooManyPairs` also where more pairs than the limit are reached from the recipients, each counted
 /// once for each recipient.
 pub fn run_returns<F: Feed, S: Sink, G: Gate, R: Threads + Sync>(
-    rt: &R,
-    alloc: Global,
+    crew: &Crew<G, R>,
     reader: &mut F,
     writer: &mut S,
-    options: Options,
-    limits: Limits,
-    gate: &G,
 ) -> Result<Summary, RunFault>
-    requires options { AreOptions options }
-    requires limits { AreLimits limits }
     requires reader { (F.has_failed reader.old ≡ false) × (F.has_ended reader.old ≡ false) }
     requires writer { S.has_failed writer.old ≡ false }
     // The bytes written are the text of the plan of the job that the bytes read are, with what is returned.
-    ensures plans { IfOk result (λ summary. IfSome (F.remaining reader.old) (λ input. PlansReturns limits options.form input (S.contents writer.old) (S.contents writer.new) summary)) }
-    ensures refuses { IfErr result (λ fault. IfSome (F.remaining reader.old) (λ input. RefusesReturns limits input fault)) }
+    ensures plans { IfOk result (λ summary. IfSome (F.remaining reader.old) (λ input. PlansReturns crew.now.limits crew.now.options.form input (S.contents writer.old) (S.contents writer.new) summary)) }
+    ensures refuses { IfErr result (λ fault. IfSome (F.remaining reader.old) (λ input. RefusesReturns crew.now.limits input fault)) }
     // Read exactly where the reader failed, and Write exactly where the writer did.
     ensures read { (result ≡ Err RunFault.Read → F.has_failed reader.new ≡ true) × (result ≢ Err RunFault.Read → F.has_failed reader.new ≡ false) }
     ensures write { (result ≡ Err RunFault.Write → S.has_failed writer.new ≡ true) × (result ≢ Err RunFault.Write → S.has_failed writer.new ≡ false) }
     // A failed write leaves a front of the text; every other refusal writes nothing.
-    ensures front { result ≡ Err RunFault.Write → IfSome (F.remaining reader.old) (λ input. WritesReturnsFront limits options.form input (S.contents writer.old) (S.contents writer.new)) }
+    ensures front { result ≡ Err RunFault.Write → IfSome (F.remaining reader.old) (λ input. WritesReturnsFront crew.now.limits crew.now.options.form input (S.contents writer.old) (S.contents writer.new)) }
     ensures nothing { IfErr result (λ fault. fault ≢ RunFault.Write → Keeps (S.contents writer.old) (S.contents writer.new)) }
     // But for Read, TooLong and Memory, the reader has ended.
     ensures ended { (result ≢ Err RunFault.Read) → (result ≢ Err RunFault.TooLong) → (result ≢ Err RunFault.Memory) → F.has_ended reader.new ≡ true }
 {
-    let input = read_job(alloc, reader, limits.bytes)?;
-    let Answer { text, summary } = answer_returns(
-        rt,
-        alloc,
-        input.as_bytes(),
-        options,
-        limits,
-        gate,
-    )?;
+    let input = read_job(crew.alloc, reader, crew.limits.bytes)?;
+    let Answer { text, summary } = answer_returns(crew, input.as_bytes())?;
     match write_text(writer, text.as_bytes()) {
         Ok(()) => Ok(summary),
         Err(_) => Err(RunFault::Write),

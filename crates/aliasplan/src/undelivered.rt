@@ -53,6 +53,31 @@ fn no_lines(alloc: Global, graph: &Graph) -> Result<Vec<Seq<Text>>, AllocError>
     Ok(lists)
 }
 
+/// The lines of these nodes, by their numbers. Routes that were found stay at hand.
+fn lists_of<'a>(
+    alloc: Global,
+    job: &JobView<'_>,
+    tables: &Tables,
+    graph: &'a Graph,
+    nodes: &[u32],
+    destinations: &mut Destinations<'a>,
+) -> Result<Vec<Seq<Text>>, AllocError>
+    requires tables { tables.now ≡ directory_of job.now }
+    requires graph { IsJobPart job.now graph.now }
+    requires nodes { All (λ n. n < length graph.now.nodes) nodes.now }
+    requires routing { destinations.old.routing ≡ routing_of job.now }
+    requires via { destinations.old.via ≡ job.now.settings.mailbox_transport }
+    ensures lines { IfOk result (λ lists. AreLinesOf graph.now job.now nodes.now lists.items) }
+    ensures findings { IfOk result (λ lists. All AreFindings lists.items) }
+{
+    let mut lists = no_lines(alloc, graph)?;
+    for node in nodes {
+        let lines = lines_of_node(alloc, job, tables, graph, *node, destinations)?;
+        lists[*node as usize] = lines;
+    }
+    Ok(lists)
+}
+
 /// The lines of these nodes, by their numbers.
 pub fn undelivered_at<'a>(
     alloc: Global,
@@ -70,10 +95,5 @@ pub fn undelivered_at<'a>(
 {
     let via = &job.settings().mailbox_transport;
     let mut destinations = Destinations::new(alloc, &sources.router, via, sources.key)?;
-    let mut lists = no_lines(alloc, graph)?;
-    for node in nodes {
-        let lines = lines_of_node(alloc, job, &sources.tables, graph, *node, &mut destinations)?;
-        lists[*node as usize] = lines;
-    }
-    Ok(lists)
+    lists_of(alloc, job, &sources.tables, graph, nodes, &mut destinations)
 }

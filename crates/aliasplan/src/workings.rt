@@ -15,14 +15,14 @@ pub struct Workings {
     pub plan: Plan,
 }
 
-ghost use Rattle.std.specs.Prelude.{◌≡◌, ◌<◌, ℕ, List, IfOk, IfErr, OnOk};
+ghost use Rattle.std.specs.Prelude.{◌≡◌, ◌<◌, ◌≤◌, ℕ, List, IfOk, IfErr, OnOk};
 ghost use Rattle.relay_text.specs.Bytes.{has_text};
 ghost use Rattle.relay_routes.specs.declared.transport.Transport as names;
 ghost use Rattle.relay_job.specs.Settings.{limit_of};
 ghost use Rattle.relay_job.specs.JobAnswers.{IsJobWithin};
 ghost use Rattle.relay_pairs.specs.Pairs.{ArePairs};
-ghost use Rattle.aliasplan.specs.Delivery.{directory_of, routing_of, IsJobGraph};
-ghost use Rattle.aliasplan.specs.Outcomes.{IsWithin, IsRefused};
+ghost use Rattle.aliasplan.specs.Delivery.{directory_of, routing_of, IsJobGraph, IsJobPart};
+ghost use Rattle.aliasplan.specs.Outcomes.{name_count, owned_count, IsWithin, IsRefused};
 ghost use Rattle.aliasplan.specs.Plans.{IsPlanOf};
 ghost use Rattle.aliasplan.specs.Reaching.{AreReachedPairs};
 ghost use Rattle.aliasplan.specs.Texts.{has_fault_line};
@@ -36,6 +36,71 @@ use relay_job::{Job, RunFault, parsed_jobs};
 use relay_rounds::Gate;
 use relay_wire::FindingLines;
 use std::thread::Threads;
+
+/// The pairs that a job of this graph reaches, and its plan. The lines of files and tables that are at fault are given.
+fn pairs_and_plan<G: Gate, R: Threads + Sync>(
+    crew: &Crew<G, R>,
+    job: &JobView<'_>,
+    sources: &Sources,
+    graph: &Graph,
+    lines: FindingLines,
+) -> Result<(Vec<Reached>, Plan), RunFault>
+    requires batches { (t : names.Transport) → 0 < limit_of job.now.settings t }
+    requires tables { sources.now.tables ≡ directory_of job.now }
+    requires router { sources.now.router ≡ routing_of job.now }
+    requires graph { IsJobPart job.now graph.now }
+    requires names { name_count job.now ≤ crew.now.limits.names }
+    requires owners { owned_count job.now ≤ crew.now.limits.owners }
+    requires lines { (q : List ℕ) → has_text lines q ≡ has_fault_line job.now q }
+    ensures plan { IfOk result (λ both. IsPlanOf job.now both.1) }
+    ensures pairs { IfOk result (λ both. ArePairs graph.now both.0.items) }
+    ensures reached { IfOk result (λ both. AreReachedPairs job.now graph.now both.0.items) }
+    ensures within { OnOk result (IsWithin crew.now.limits job.now) }
+    ensures refused { IfErr result (IsRefused crew.now.limits job.now) }
+{
+    let pairs = pairs_of(crew, job, graph)?;
+    match plan_reached(crew, job, sources, graph, &pairs, lines) {
+        Ok(plan) => Ok((pairs, plan)),
+        Err(_) => Err(RunFault::Memory),
+    }
+}
+
+/// The plan and the workings of a job of this graph.
+fn workings_by<G: Gate, R: Threads + Sync>(
+    crew: &Crew<G, R>,
+    job: &JobView<'_>,
+    sources: Sources,
+    graph: Graph,
+    lines: FindingLines,
+) -> Result<Workings, RunFault>
+    requires batches { (t : names.Transport) → 0 < limit_of job.now.settings t }
+    requires tables { sources.tables ≡ directory_of job.now }
+    requires router { sources.router ≡ routing_of job.now }
+    requires graph { IsJobGraph job.now graph }
+    requires part { IsJobPart job.now graph }
+    requires names { name_count job.now ≤ crew.now.limits.names }
+    requires owners { owned_count job.now ≤ crew.now.limits.owners }
+    requires lines { (q : List ℕ) → has_text lines q ≡ has_fault_line job.now q }
+    ensures plan { IfOk result (λ workings. IsPlanOf job.now workings.plan) }
+    ensures tables { IfOk result (λ workings. workings.tables ≡ directory_of job.now) }
+    ensures router { IfOk result (λ workings. workings.router ≡ routing_of job.now) }
+    ensures graph { IfOk result (λ workings. IsJobGraph job.now workings.graph) }
+    ensures pairs { IfOk result (λ workings. ArePairs workings.graph workings.pairs.items) }
+    ensures reached { IfOk result (λ workings. AreReachedPairs job.now workings.graph workings.pairs.items) }
+    ensures within { OnOk result (IsWithin crew.now.limits job.now) }
+    ensures refused { IfErr result (IsRefused crew.now.limits job.now) }
+{
+    match pairs_and_plan(crew, job, &sources, &graph, lines) {
+        Ok((pairs, plan)) => Ok(Workings {
+            tables: sources.tables,
+            router: sources.router,
+            graph,
+            pairs,
+            plan,
+        }),
+        Err(fault) => Err(fault),
+    }
+}
 
 /// The plan and the workings of a job whose files and tables are read. Their lines that are at fault are given.
 fn workings_of<G: Gate, R: Threads + Sync>(
@@ -57,19 +122,10 @@ fn workings_of<G: Gate, R: Threads + Sync>(
     ensures within { OnOk result (IsWithin crew.now.limits job.now) }
     ensures refused { IfErr result (IsRefused crew.now.limits job.now) }
 {
-    let graph = graph_of(crew.alloc, job, &sources.tables, crew.limits)?;
-    let pairs = pairs_of(crew, job, &graph)?;
-    let Ok(plan) = plan_reached(crew, job, &sources, &graph, &pairs, lines) else {
-        return Err(RunFault::Memory);
-    };
-    let Sources { tables, router, .. } = sources;
-    Ok(Workings {
-        tables,
-        router,
-        graph,
-        pairs,
-        plan,
-    })
+    match graph_of(crew.alloc, job, &sources.tables, crew.limits) {
+        Ok(graph) => workings_by(crew, job, sources, graph, lines),
+        Err(fault) => Err(fault),
+    }
 }
 
 /// The plan of a job with what it is made from. The errors are those of `plan_job`, in the same order, and neither the number of threads

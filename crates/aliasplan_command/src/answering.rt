@@ -15,8 +15,8 @@ use crate::json_run::run_as_json;
 use crate::standard_input::StandardInput;
 use crate::status::Status;
 use aliasplan::{
-    Crew, Device, Feed, Limits, NoGate, Options, Paths, RunFault, Sink, SourceFault, gather, run,
-    run_domains, run_returns,
+    Crew, Device, Feed, Gate, Limits, NoGate, Options, Paths, RunFault, Sink, SourceFault, gather,
+    run, run_domains, run_returns,
 };
 use aliasplan_explain::run_explain;
 use relay_explain::Asked;
@@ -53,26 +53,17 @@ fn status_where(in_plan: bool) -> Status
 }
 
 /// What becomes of an address that is explained by the job that a reader gives.
-fn explained<R: AllocGlobal + Threads + Sync, F: Feed, S: Sink>(
-    rt: &R,
+fn explained<G: Gate, R: Threads + Sync, F: Feed, S: Sink>(
+    crew: &Crew<G, R>,
     reader: &mut F,
     writer: &mut S,
     asked: &Asked,
-    options: Options,
 ) -> Result<Status, RunFault>
-    requires options { AreOptions options }
     requires reader { (F.has_failed reader.old ≡ false) × (F.has_ended reader.old ≡ false) }
     requires writer { S.has_failed writer.old ≡ false }
     ensures { IfOk result (λ status. status ≢ Status.CommandLine) }
 {
-    let crew = Crew {
-        rt,
-        alloc: rt.alloc(),
-        options,
-        limits: Limits::default(),
-        gate: &NoGate,
-    };
-    let in_plan = run_explain(&crew, reader, writer, asked)?;
+    let in_plan = run_explain(crew, reader, writer, asked)?;
     Ok(status_where(in_plan))
 }
 
@@ -89,22 +80,27 @@ fn planned<R: Print + Eprint + AllocGlobal + Threads + Sync, J: Read + Drop>(
 {
     let reader = &mut Device::new(job);
     let writer = &mut Device::new(io::writer(rt));
-    let alloc = rt.alloc();
-    let limits = Limits::default();
-    let gate = &NoGate;
+    let (alloc, limits, gate) = (rt.alloc(), Limits::default(), &NoGate);
+    let crew = &Crew {
+        rt,
+        alloc,
+        options,
+        limits,
+        gate,
+    };
     let summary = match output {
         Output::Text => run(rt, alloc, reader, writer, options, limits, gate)?,
-        Output::Returns => run_returns(rt, alloc, reader, writer, options, limits, gate)?,
+        Output::Returns => run_returns(crew, reader, writer)?,
         Output::Json => run_as_json(rt, reader, writer, options, limits)?,
         Output::Domains => {
-            run_domains(rt, alloc, reader, writer, options, limits, gate)?;
+            run_domains(crew, reader, writer)?;
             return Ok(Status::Done);
         }
         Output::Check(scope) => {
-            let findings = run_check(rt, reader, writer, scope, options, limits)?;
+            let findings = run_check(crew, reader, writer, scope)?;
             return Ok(status_of(findings));
         }
-        Output::Explain(asked) => return explained(rt, reader, writer, asked, options),
+        Output::Explain(asked) => return explained(crew, reader, writer, asked),
     };
     Ok(status_of(summary.findings))
 }

@@ -13,7 +13,7 @@ pub(crate) const BLOCK: usize = 256;
 
 // The likely place of the line of the entry of a number. Each entry has a line, so as many lines stand before its own as entries before
 // it, and at most as many more as there are lines without an entry. The lengths are read as well: the texts are what the step is made of.
-fn likely_place(grounds: &Grounds<'_>, number: usize) -> usize {
+fn likely_line(grounds: &Grounds<'_>, number: usize) -> usize {
     let aliases = grounds.workings.tables.aliases();
     let lines = grounds.alias_lines.as_slice();
     let Some(entry) = aliases.get(number) else {
@@ -58,7 +58,7 @@ pub(crate) fn places_ahead(
 {
     entry_numbers(grounds, nodes, places)?;
     for place in places.iter_mut() {
-        *place = likely_place(grounds, *place);
+        *place = likely_line(grounds, *place);
     }
     Ok(())
 }

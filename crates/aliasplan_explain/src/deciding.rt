@@ -6,9 +6,9 @@ ghost use Rattle.relay_routes.specs.Destinations.{looked_up_name};
 ghost use Rattle.relay_routes.specs.Routes.{Answers};
 ghost use Rattle.aliasplan_explain.specs.Decisions.{decision_by, decision_of, fate_at, ok_of, record_at, records_of, rule_for};
 ghost use Rattle.aliasplan_explain.specs.Grounds.{AreWorkingsOf};
-ghost use Rattle.aliasplan.specs.Delivery.{routing_of};
 
 use crate::grounds::Grounds;
+use aliasplan::own_names;
 use relay_explain::{Decision, Fate, Record, Rule};
 use relay_job::Job;
 use relay_routes::{
@@ -71,26 +71,12 @@ fn record_of(line: ExchangerLine) -> Record
     }
 }
 
-// The relay's own names: its host name, its origin and its local domains.
-fn own_names(alloc: Global, job: &Job) -> Result<Vec<Text>, AllocError>
-    ensures { IfOk result (λ names. names.items ≡ (routing_of job.now).settings.own_names) }
-{
-    let settings = &job.settings;
-    let mut names = Vec::new(alloc);
-    names.push(Text::copy_of(alloc, settings.hostname.as_bytes())?)?;
-    names.push(Text::copy_of(alloc, settings.origin.as_bytes())?)?;
-    for name in settings.destinations.as_slice() {
-        names.push(Text::copy_of(alloc, name.as_bytes())?)?;
-    }
-    Ok(names)
-}
-
 // The records of a name, in the order of the table.
 fn records_of_name(alloc: Global, job: &Job, name: &[u8]) -> Result<Seq<Record>, AllocError>
     ensures { IfOk result (λ records. records ≡ records_of job.now (Some name.now)) }
 {
-    let own_names = own_names(alloc, job)?;
-    let lines = exchanger_lines(alloc, job.mx.as_bytes(), name, &own_names)?;
+    let own_names = own_names(alloc, &job.settings)?;
+    let lines = exchanger_lines(alloc, job.mx.as_bytes(), name, own_names.as_slice())?;
     let mut records = Vec::with_capacity(alloc, lines.len())?;
     for line in lines {
         records.push(record_of(line))?;

@@ -1,12 +1,17 @@
 //! A run from a job's bytes to the text of an explanation.
 ghost use Rattle.std.specs.Prelude.{◌≡◌, ◌≢◌, ◌≤◌, false, true, length, Err, IfOk, IfErr, IfSome};
 ghost use Rattle.std.specs.Io.KnownBytes.{Keeps};
-ghost use Rattle.aliasplan.specs.Outcomes.{Refuses, RefusesBytes};
-ghost use Rattle.aliasplan_explain.specs.Explanations.{is_in_plan};
+ghost use Rattle.relay_wire.specs.declared.plan.Plan as plans;
+ghost use Rattle.relay_job.specs.JobAnswers.{IsJobWithin};
+ghost use Rattle.relay_explain.specs.declared.explanation.Explanation as answers;
+ghost use Rattle.relay_explain.specs.ExplanationText.{explanation_text_of};
+ghost use Rattle.aliasplan.specs.Outcomes.{IsRefused, IsWithin, Refuses, RefusesBytes};
+ghost use Rattle.aliasplan.specs.Plans.{IsPlanOf};
+ghost use Rattle.aliasplan_explain.specs.Explanations.{IsExplanationOf, is_in_plan};
 ghost use Rattle.aliasplan_explain.specs.Runs.{Explains, IsExplained, WritesExplanationFront};
 
 use crate::explaining::explain;
-use aliasplan::{Crew, Feed, Gate, RunFault, Sink, parse_job, read_job, write_text};
+use aliasplan::{Crew, Feed, Gate, Job, RunFault, Sink, parse_job, read_job, write_text};
 use relay_explain::{Asked, Explanation, Outcome, explanation_text};
 use relay_job::{each_recipient_has_line, recipient_lines};
 use relay_text::Text;
@@ -27,6 +32,26 @@ fn is_in_plan(explanation: &Explanation) -> bool
     answers.iter().any(|answer| matches!(answer.outcome, Some(Outcome::Transaction(_))))
 }
 
+// What is written for a job whose recipients stand on these lines.
+fn answer_job<G: Gate, R: Threads + Sync>(
+    crew: &Crew<G, R>,
+    job: &Job,
+    recipient_lines: &[usize],
+    asked: &Asked,
+) -> Result<Explained, RunFault>
+    requires job { IsJobWithin crew.now.limits.bytes job.now }
+    requires lines { length recipient_lines.now ≡ length job.now.recipients }
+    ensures explained { IfOk result (λ it. IsWithin crew.now.limits job.now × ((plan : plans.Plan) × IsPlanOf job.now plan × ((explanation : answers.Explanation) × IsExplanationOf job.now plan recipient_lines.now asked.now explanation × (it.text ≡ explanation_text_of explanation) × (it.in_plan ≡ is_in_plan explanation)))) }
+    ensures refused { IfErr result (IsRefused crew.now.limits job.now) }
+{
+    let explanation = explain(crew, job, recipient_lines, asked)?;
+    let text = explanation_text(crew.alloc, &explanation)?;
+    Ok(Explained {
+        text,
+        in_plan: is_in_plan(&explanation),
+    })
+}
+
 // What is written for a job's bytes.
 fn answer_input<G: Gate, R: Threads + Sync>(
     crew: &Crew<G, R>,
@@ -40,12 +65,7 @@ fn answer_input<G: Gate, R: Threads + Sync>(
     each_recipient_has_line();
     let job = parse_job(crew.alloc, input)?;
     let lines = recipient_lines(crew.alloc, input)?;
-    let explanation = explain(crew, &job, &lines, asked)?;
-    let text = explanation_text(crew.alloc, &explanation)?;
-    Ok(Explained {
-        text,
-        in_plan: is_in_plan(&explanation),
-    })
+    answer_job(crew, &job, &lines, asked)
 }
 
 /// Reads a job, and writes why a name or an address is reached by its message, or isn't, and nothing else. All of the text is there before

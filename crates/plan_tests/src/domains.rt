@@ -7,7 +7,7 @@ use crate::devices::Paper;
 use crate::limits::LIMITS;
 use crate::plans::{FIRST_JOB, OPTIONS, job_of};
 use crate::proved::blank;
-use aliasplan::{Device, Form, Limits, NoGate, Options, RunFault, run_domains};
+use aliasplan::{Crew, Device, Form, Limits, NoGate, Options, RunFault, run_domains};
 use relay_text::Text;
 use std::alloc::Global;
 use std::process::Abort;
@@ -29,15 +29,14 @@ fn asked<R: Threads + Sync>(
 {
     let mut reader = Device::new(job);
     let mut writer = blank(alloc);
-    run_domains(
+    let crew = Crew {
         rt,
         alloc,
-        &mut reader,
-        &mut writer,
         options,
         limits,
-        &NoGate,
-    )?;
+        gate: &NoGate,
+    };
+    run_domains(&crew, &mut reader, &mut writer)?;
     Ok(Text::of(writer.text))
 }
 
@@ -127,15 +126,14 @@ fn writes_no_more_than_there_is_room_for(rt: HostRuntime) -> Result<(), Fail> {
         room: 15,
         failed: false,
     };
-    let answer = run_domains(
-        &rt,
-        rt.alloc(),
-        &mut reader,
-        &mut writer,
-        OPTIONS,
-        LIMITS,
-        &NoGate,
-    );
+    let crew = Crew {
+        rt: &rt,
+        alloc: rt.alloc(),
+        options: OPTIONS,
+        limits: LIMITS,
+        gate: &NoGate,
+    };
+    let answer = run_domains(&crew, &mut reader, &mut writer);
     assert_eq!(rt; answer.err(), Some(RunFault::Write));
     assert_eq!(rt; writer.text.as_slice(), &DOMAINS[..15]);
     Ok(())

@@ -12,15 +12,15 @@ read-requires-clause-paths g c = c.parsed_jobs.ensures.paths c.requires.job.0 c.
 
 pub read-requires-clause-few_entries : goal.read-requires-clause-few_entries
 read-requires-clause-few_entries g c =
-    omega (arith, c.file_counts.ensures.entries c.args.job.now.aliases, c.parsed_jobs.ensures.sizes c.requires.job.0 c.args.job.now c.requires.job.2, c.requires.job.1, c.requires.limits.bytes)
+    omega (arith, c.file_counts.ensures.entries c.args.job.now.aliases, c.parsed_jobs.ensures.sizes c.requires.job.0 c.args.job.now c.requires.job.2, c.requires.job.1, c.args.crew.now.limited.bytes)
 
 pub read-requires-clause-few_includes : goal.read-requires-clause-few_includes
 read-requires-clause-few_includes g c =
-    omega (arith, c.parsed_jobs.ensures.sizes c.requires.job.0 c.args.job.now c.requires.job.2, c.requires.job.1, c.requires.limits.bytes)
+    omega (arith, c.parsed_jobs.ensures.sizes c.requires.job.0 c.args.job.now c.requires.job.2, c.requires.job.1, c.args.crew.now.limited.bytes)
 
 pub read-requires-clause-few_mailboxes : goal.read-requires-clause-few_mailboxes
 read-requires-clause-few_mailboxes g c =
-    omega (arith, c.file_counts.ensures.names c.args.job.now.mailboxes, c.parsed_jobs.ensures.sizes c.requires.job.0 c.args.job.now c.requires.job.2, c.requires.job.1, c.requires.limits.bytes)
+    omega (arith, c.file_counts.ensures.names c.args.job.now.mailboxes, c.parsed_jobs.ensures.sizes c.requires.job.0 c.args.job.now c.requires.job.2, c.requires.job.1, c.args.crew.now.limited.bytes)
 
 pub returns-clause-refused : goal.returns-clause-refused
 returns-clause-refused g c = rw c.of.ensures at c.domains_of_sources.ensures.refused

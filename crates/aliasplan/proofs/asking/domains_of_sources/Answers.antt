@@ -5,8 +5,3 @@ pub returns-in_err-graph-clause-refused : goal.returns-in_err-graph-clause-refus
 returns-in_err-graph-clause-refused g c =
     let p = err_from_is_err_and c.from_residual.result c.from_residual.ensures.1 in
     rw (p.1, p.2) c.in_err-graph.ensures.refused
-
-pub returns-in_err-pairs-clause-refused : goal.returns-in_err-pairs-clause-refused
-returns-in_err-pairs-clause-refused g c =
-    let p = err_from_is_err_and c.from_residual-in_err-pairs.result c.from_residual-in_err-pairs.ensures.1 in
-    rw (p.1, p.2) c.in_err-pairs.ensures.refused

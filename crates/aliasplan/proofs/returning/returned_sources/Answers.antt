@@ -1,22 +1,5 @@
-use Rattle.std.proofs.lemmas.Result.{err_from_is_err_and}
 use Rattle.aliasplan.proofs.ReturnFaults.{unreturned}
-use Rattle.aliasplan.proofs.PlanFacts.{whole_plan}
 use Rattle.aliasplan.proofs.returning.returned_sources.Goals as goal
 
-pub returns-in_err-graph-clause-refused : goal.returns-in_err-graph-clause-refused
-returns-in_err-graph-clause-refused g c =
-    let p = err_from_is_err_and c.from_residual.result c.from_residual.ensures.1 in
-    rw (p.1, p.2) (unreturned c.args.crew.now.limits c.args.job.now c.in_err-graph.field-0.0 c.in_err-graph.ensures.refused)
-
-pub returns-in_err-pairs-clause-refused : goal.returns-in_err-pairs-clause-refused
-returns-in_err-pairs-clause-refused g c =
-    let p = err_from_is_err_and c.from_residual-in_err-pairs.result c.from_residual-in_err-pairs.ensures.1 in
-    rw (p.1, p.2) (unreturned c.args.crew.now.limits c.args.job.now c.in_err-pairs.field-0.0 c.in_err-pairs.ensures.refused)
-
-pub returns-in_err-returns-clause-refused : goal.returns-in_err-returns-clause-refused
-returns-in_err-returns-clause-refused g c =
-    let p = err_from_is_err_and c.from_residual-in_err-returns.result c.from_residual-in_err-returns.ensures.1 in
-    rw (p.1, p.2) c.in_err-returns.ensures.refused
-
-pub returns-in-Ok-clause-plan : goal.returns-in-Ok-clause-plan
-returns-in-Ok-clause-plan g c = whole_plan c.args.job.now c.in-Ok.plan c.args.lines c.in-Ok.ensures.plan c.requires.lines
+pub returns-in-Err-clause-refused : goal.returns-in-Err-clause-refused
+returns-in-Err-clause-refused g c = unreturned c.args.crew.now.limits c.args.job.now c.in-Err.fault c.in-Err.ensures.refused

@@ -7,16 +7,16 @@ use Rattle.aliasplan_command.proofs.check_run.check_input.Goals as goal
 pub returns-in_err-tables-clause-refused : goal.returns-in_err-tables-clause-refused
 returns-in_err-tables-clause-refused g c =
     let p = err_from_is_err_and c.from_residual.result c.from_residual.ensures.1 in
-    rw (p.1, p.2) (refuses_tables c.args.limits c.args.scope c.args.input.now c.requires.input c.in_err-tables.field-0.0 c.in_err-tables.ensures)
+    rw (p.1, p.2) (refuses_tables c.args.crew.now.limits c.args.scope c.args.input.now c.requires c.in_err-tables.field-0.0 c.in_err-tables.ensures)
 
 pub returns-in_err-lines-clause-refused : goal.returns-in_err-lines-clause-refused
 returns-in_err-lines-clause-refused g c =
     let p = err_from_is_err_and c.from_residual-in_err-lines.result c.from_residual-in_err-lines.ensures.1 in
-    rw (p.1, p.2) (refuses_scope c.args.limits c.args.input.now c.requires.input c.in_ok-tables.tables c.in_ok-tables.ensures c.args.scope c.in_err-lines.field-0.0 c.in_err-lines.ensures.refused)
+    rw (p.1, p.2) (refuses_scope c.args.crew.now.limits c.args.input.now c.requires c.in_ok-tables.tables c.in_ok-tables.ensures c.args.scope c.in_err-lines.field-0.0 c.in_err-lines.ensures.refused)
 
 pub returns-clause-checked : goal.returns-clause-checked
 returns-clause-checked g c = record {
-  size = c.requires.input;
+  size = c.requires;
   tables = c.in_ok-tables.tables;
   read = c.in_ok-tables.ensures;
   lines = c.in_ok-lines.lines;

@@ -1,12 +1,11 @@
-use Rattle.std.proofs.Common.{◌≡◌, ◌<◌, ℕ, List, [], length, get_or, take, arith, ap, sym, subst, ◌∙◌}
+use Rattle.std.proofs.Common.{◌≡◌, ◌<◌, ℕ, List, [], length, get_or, take, arith, sym, subst, ◌∙◌}
 use Rattle.std.specs.Prelude.{Contains}
 use Rattle.std.proofs.lemmas.List.{take_all, length-set}
 use Rattle.std.proofs.lemmas.List.Elements.{All-set}
-use Rattle.relay_job.specs.declared.settings.Settings.{Settings}
 use Rattle.aliasplan.specs.ReturnLines.{AreFindings}
 use Rattle.aliasplan.proofs.NumberFacts.{slice_get_below}
 use Rattle.aliasplan.proofs.ReturnNodes.{lists_more}
-use Rattle.aliasplan.proofs.undelivered.undelivered_at.Goals as goal
+use Rattle.aliasplan.proofs.undelivered.lists_of.Goals as goal
 
 pub loop-node-init : goal.loop-node-init
 loop-node-init c =
@@ -17,8 +16,8 @@ loop-node-init c =
       findings = λ k d below.
           let none : get_or lists k d ≡ [] = h.empty k d below in
           λ line has. let no = subst (λ (ls : List (List ℕ)). Contains ls line) none has in absurd (omega (arith, no.1));
-      routing = ap (λ f. f.routing) c.in_ok-destinations.ensures ∙ c.requires.router;
-      via = ap (λ f. f.via) c.in_ok-destinations.ensures ∙ ap (λ (s : Settings). s.mailbox_transport) c.settings.ensures;
+      routing = c.requires.routing;
+      via = c.requires.via;
     }
 
 pub loop-node-preserved : goal.loop-node-preserved

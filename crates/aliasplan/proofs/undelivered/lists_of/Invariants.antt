@@ -3,7 +3,7 @@ use Rattle.std.specs.Prelude.{All, Contains, Some, slice_get}
 use Rattle.relay_tables.specs.declared.node.Node.{Node}
 use Rattle.aliasplan.specs.Delivery.{routing_of}
 use Rattle.aliasplan.specs.ReturnLines.{AreFindings, AreUndelivered, lines_at}
-use Rattle.aliasplan.proofs.undelivered.undelivered_at.Given as goal
+use Rattle.aliasplan.proofs.undelivered.lists_of.Given as goal
 
 abbrev pub invariant-loop-node : goal.invariant-loop-node
 invariant-loop-node l = record {
