@@ -5,16 +5,20 @@
 //! call), or by `case!` around a `twice!` (inputs kept), and ends with the teller's status. Without a word the program makes each call and
 //! prints a line on it. With the name of a call it makes that one alone, so that its growths of memory can be refused from outside, one
 //! after another; `tests/growths/run` does so.
+//!
+//! What a call gave goes to `judged`, and an input of many parts to `lent` or `lent_mut`, behind which it is dropped.
 #![tactic(auto)]
 
 pub mod answer;
 pub mod inputs;
+pub mod lending;
 pub mod seen;
 pub mod teller;
 pub mod twice;
 pub mod unready;
 
 pub use answer::Answer;
+pub use lending::{judged, lent, lent_mut};
 pub use seen::Seen;
 pub use teller::{DONE, Teller};
 pub use unready::{Unready, made_anew};

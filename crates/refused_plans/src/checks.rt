@@ -1,9 +1,9 @@
 //! What is wrong with files and tables.
 use crate::jobs::LISTS_JOB;
-use crate::running::{LIMITS, OPTIONS};
-use aliasplan::{NoGate, RunFault, check_aliases, check_texts, notes, parse_tables};
+use crate::running::{LIMITS, crew};
+use aliasplan::{RunFault, check_aliases, check_texts, notes, own_names, parse_tables};
 use growth_answers::inputs::are_texts;
-use growth_answers::{Answer, Seen, Teller, Unready, call, case, twice};
+use growth_answers::{Answer, Seen, Teller, Unready, call, case, judged, lent, twice};
 use relay_text::{Seq, Text};
 use std::alloc::{AllocError, Global};
 use std::thread::Threads;
@@ -35,26 +35,45 @@ fn checks_lines(alloc: Global) -> Result<Seen, Unready> {
 
 fn notes_a_setting(alloc: Global) -> Result<Seen, Unready> {
     let tables = parse_tables(alloc, FAULTY)?;
-    Ok(twice!({
-        are_lines(
-            &notes(alloc, &tables.settings),
-            b"note myorigin isn't in mydestination",
-        )
-    }))
+    lent(tables, |tables| {
+        Ok(twice!({
+            are_lines(
+                &notes(alloc, &tables.settings),
+                b"note myorigin isn't in mydestination",
+            )
+        }))
+    })
+}
+
+fn names_the_relay(alloc: Global) -> Result<Seen, Unready> {
+    let tables = parse_tables(alloc, FAULTY)?;
+    lent(tables, |tables| {
+        Ok(twice!(match own_names(alloc, &tables.settings) {
+            Ok(names) => judged(names, |names| {
+                are_texts(
+                    names.as_slice(),
+                    &[b"localhost", b"example.org", b"localhost"],
+                )
+            }),
+            Err(_) => Answer::Refused,
+        }))
+    })
 }
 
 /// The whole of the findings of lists, or of a refusal.
 fn follows_aliases<R: Threads + Sync>(rt: &R, alloc: Global) -> Result<Answer, Unready> {
     let tables = parse_tables(alloc, LISTS_JOB)?;
-    match check_aliases(rt, alloc, tables, OPTIONS, LIMITS, &NoGate) {
-        Ok(lines) => Ok(Answer::given(are_texts(
-            lines.as_slice(),
-            &[
-                b"finding loop alias east",
-                b"finding loop alias west",
-                b"finding missing bob in alias west",
-            ],
-        ))),
+    match check_aliases(&crew(rt, alloc), tables) {
+        Ok(lines) => Ok(judged(lines, |lines| {
+            are_texts(
+                lines.as_slice(),
+                &[
+                    b"finding loop alias east",
+                    b"finding loop alias west",
+                    b"finding missing bob in alias west",
+                ],
+            )
+        })),
         Err(RunFault::Memory) => Ok(Answer::Refused),
         Err(_) => Ok(Answer::Wrong),
     }
@@ -65,5 +84,6 @@ pub(crate) fn tell<R: Print + AllocGlobal + Threads + Sync>(teller: &mut Teller<
     let alloc = rt.alloc();
     case!(teller, "check_texts", checks_lines(alloc));
     case!(teller, "notes", notes_a_setting(alloc));
+    case!(teller, "own_names", names_the_relay(alloc));
     call!(teller, "check_aliases", follows_aliases(rt, alloc));
 }

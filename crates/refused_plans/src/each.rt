@@ -8,7 +8,7 @@ use crate::running::{LIMITS, crew};
 use aliasplan::{Planner, RunFault, parse_tables};
 use aliasplan_each::{EachSummary, run_beside, run_each};
 use growth_answers::inputs::is_address;
-use growth_answers::{Answer, Seen, Teller, Unready, call, case};
+use growth_answers::{Answer, Seen, Teller, Unready, call, case, judged, lent, twice};
 use relay_envelopes::{envelopes_place, find_envelopes};
 use relay_job::{Envelope, parse_envelope};
 use std::alloc::Global;
@@ -60,7 +60,7 @@ fn is_lists_envelope(envelope: &Envelope) -> bool {
 #[tactic(auto, unfolding(relay_text::specs::Addresses::is_origin, relay_text::specs::Addresses::is_domain))]
 fn reads_an_envelope(alloc: Global) -> Result<Answer, Unready> {
     match parse_envelope(alloc, LISTS_ENVELOPE, b"example.org") {
-        Ok(envelope) => Ok(Answer::given(is_lists_envelope(&envelope))),
+        Ok(envelope) => Ok(judged(envelope, is_lists_envelope)),
         Err(RunFault::Memory) => Ok(Answer::Refused),
         Err(_) => Ok(Answer::Wrong),
     }
@@ -80,7 +80,7 @@ fn finds_envelopes(alloc: Global) -> Result<Answer, Unready> {
 fn makes_a_planner(alloc: Global) -> Result<Answer, Unready> {
     let tables = parse_tables(alloc, FIRST_TABLES)?;
     match Planner::new(alloc, tables, LIMITS) {
-        Ok(planner) => Ok(Answer::given(planner.findings().is_empty())),
+        Ok(planner) => Ok(judged(planner, |planner| planner.findings().is_empty())),
         Err(RunFault::Memory) => Ok(Answer::Refused),
         Err(_) => Ok(Answer::Wrong),
     }
@@ -94,19 +94,18 @@ fn planned<R: Threads + Sync>(
     envelope: &Envelope,
 ) -> Seen {
     let crew = crew(rt, alloc);
-    match is_planned(planner.plan(&crew, envelope)) {
-        Answer::Refused => Seen::at_last(is_planned(planner.plan(&crew, envelope))),
-        answer => Seen::at_once(answer),
-    }
+    twice!(is_planned(planner.plan(&crew, envelope)))
 }
 
-/// The planner is made last and lent: a function that drops it at several places takes long to be proved.
 #[tactic(auto, unfolding(relay_text::specs::Addresses::is_origin, relay_text::specs::Addresses::is_domain))]
 fn plans_an_envelope<R: Threads + Sync>(rt: &R, alloc: Global) -> Result<Seen, Unready> {
     let envelope = parse_envelope(alloc, FIRST_ENVELOPE, b"example.org")?;
     let tables = parse_tables(alloc, FIRST_TABLES)?;
     let planner = Planner::new(alloc, tables, LIMITS)?;
-    Ok(planned(rt, alloc, &planner, &envelope))
+    lent(
+        planner,
+        |planner| Ok(planned(rt, alloc, planner, &envelope)),
+    )
 }
 
 /// Whether the whole answer is written.

@@ -7,7 +7,7 @@ use crate::running::crew;
 use aliasplan::{RunFault, Workings, parse_job, plan_with_workings};
 use aliasplan_explain::{explain, run_explain};
 use growth_answers::inputs::address;
-use growth_answers::{Answer, Seen, Teller, Unready, case};
+use growth_answers::{Answer, Seen, Teller, Unready, case, judged};
 use relay_explain::{Asked, Explanation, Outcome};
 use relay_job::{each_recipient_has_line, recipient_lines};
 use std::alloc::Global;
@@ -31,9 +31,9 @@ const EXPLANATION: &[u8] = b"explain <dan@example.net> answers 1\n\
 
 fn are_workings(workings: Result<Workings, RunFault>) -> Answer {
     match workings {
-        Ok(workings) => Answer::given(
-            workings.plan.transactions.len() == 5 && workings.graph.roots().len() == 2,
-        ),
+        Ok(workings) => judged(workings, |workings| {
+            workings.plan.transactions.len() == 5 && workings.graph.roots().len() == 2
+        }),
         Err(RunFault::Memory) => Answer::Refused,
         Err(_) => Answer::Wrong,
     }
@@ -49,12 +49,16 @@ fn keeps_workings<R: Threads + Sync>(rt: &R, alloc: Global) -> Result<Seen, Unre
 }
 
 /// Whether the one answer names the last transaction.
+fn names_last(explanation: &Explanation) -> bool {
+    matches!(
+        explanation.answers.as_slice(),
+        [answer] if matches!(answer.outcome, Some(Outcome::Transaction(5)))
+    )
+}
+
 fn is_explained(explanation: Result<Explanation, RunFault>) -> Answer {
     match explanation {
-        Ok(explanation) => Answer::given(matches!(
-            explanation.answers.as_slice(),
-            [answer] if matches!(answer.outcome, Some(Outcome::Transaction(5)))
-        )),
+        Ok(explanation) => judged(explanation, names_last),
         Err(RunFault::Memory) => Answer::Refused,
         Err(_) => Answer::Wrong,
     }

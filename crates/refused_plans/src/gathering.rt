@@ -3,7 +3,7 @@ ghost use Rattle.relay_gather.specs.Source.{unknown};
 
 use crate::devices::Paper;
 use aliasplan::{Paths, RunFault, Source, SourceFault, gather};
-use growth_answers::{Answer, Seen, Teller, Unready, call, case, twice};
+use growth_answers::{Answer, Seen, Teller, Unready, call, case, judged, lent, twice};
 use relay_gather::gathered_text;
 use relay_text::{Seq, Text};
 use std::alloc::{AllocError, Global};
@@ -56,25 +56,30 @@ fn texts(alloc: Global, paths: &[&[u8]]) -> Result<Seq<Text>, AllocError> {
 }
 
 fn paths(alloc: Global) -> Result<Paths, AllocError> {
+    let envelope = text(alloc, b"/envelope")?;
+    let transport = texts(alloc, &[])?;
+    let aliases = texts(alloc, &[b"/aliases", b"/lists"])?;
     Ok(Paths {
         settings: None,
-        aliases: texts(alloc, &[b"/aliases", b"/lists"])?,
+        aliases,
         mailboxes: None,
-        transport: texts(alloc, &[])?,
+        transport,
         mx: None,
-        envelope: text(alloc, b"/envelope")?,
+        envelope,
     })
+}
+
+fn text_is_gathered(alloc: Global, paths: &Paths) -> Answer {
+    match gathered_text(alloc, &mut Files, paths, MOST) {
+        Ok(text) => judged(text, |text| text.as_bytes() == GATHERED),
+        Err(RunFault::Memory) => Answer::Refused,
+        Err(_) => Answer::Wrong,
+    }
 }
 
 fn gathers_a_text(alloc: Global) -> Result<Seen, Unready> {
     let paths = paths(alloc)?;
-    Ok(twice!({
-        match gathered_text(alloc, &mut Files, &paths, MOST) {
-            Ok(text) => Answer::given(text.as_bytes() == GATHERED),
-            Err(RunFault::Memory) => Answer::Refused,
-            Err(_) => Answer::Wrong,
-        }
-    }))
+    lent(paths, |paths| Ok(twice!(text_is_gathered(alloc, paths))))
 }
 
 /// What gathering answers; where it's refused, nothing is written.
@@ -89,7 +94,7 @@ fn gathered(alloc: Global, paths: &Paths) -> Result<Answer, Unready> {
 
 fn gathers(alloc: Global) -> Result<Answer, Unready> {
     let paths = paths(alloc)?;
-    gathered(alloc, &paths)
+    lent(paths, |paths| gathered(alloc, paths))
 }
 
 pub(crate) fn tell<R: Print + AllocGlobal>(teller: &mut Teller<'_, R>) {

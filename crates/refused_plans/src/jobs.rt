@@ -1,6 +1,6 @@
 //! Jobs and their plans' texts, worked by hand, and what a job says.
 use growth_answers::inputs::{are_texts, is_address};
-use growth_answers::{Answer, Teller, Unready, call};
+use growth_answers::{Answer, Teller, Unready, call, judged};
 use relay_job::{Job, RunFault, Settings, parse_job, parse_tables};
 use relay_routes::Transport;
 use std::alloc::Global;
@@ -202,7 +202,7 @@ fn is_first_job(job: &Job) -> bool {
 
 fn reads_a_job(alloc: Global) -> Result<Answer, Unready> {
     match parse_job(alloc, FIRST_JOB) {
-        Ok(job) => Ok(Answer::given(is_first_job(&job))),
+        Ok(job) => Ok(judged(job, is_first_job)),
         Err(RunFault::Memory) => Ok(Answer::Refused),
         Err(_) => Ok(Answer::Wrong),
     }
@@ -218,7 +218,7 @@ fn are_first_tables(tables: &Job) -> bool {
 
 fn reads_tables(alloc: Global) -> Result<Answer, Unready> {
     match parse_tables(alloc, FIRST_JOB) {
-        Ok(tables) => Ok(Answer::given(are_first_tables(&tables))),
+        Ok(tables) => Ok(judged(tables, are_first_tables)),
         Err(RunFault::Memory) => Ok(Answer::Refused),
         Err(_) => Ok(Answer::Wrong),
     }
@@ -237,7 +237,7 @@ fn has_lists(job: &Job) -> bool {
 
 fn reads_a_job_of_lists(alloc: Global) -> Result<Answer, Unready> {
     match parse_job(alloc, LISTS_JOB) {
-        Ok(job) => Ok(Answer::given(has_lists(&job))),
+        Ok(job) => Ok(judged(job, has_lists)),
         Err(RunFault::Memory) => Ok(Answer::Refused),
         Err(_) => Ok(Answer::Wrong),
     }

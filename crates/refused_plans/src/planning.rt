@@ -1,10 +1,10 @@
 //! A job that is read, the plan of a message to one mailbox, and the domains of lists.
 use crate::devices::Page;
 use crate::jobs::{FIRST_JOB, LISTS_JOB, LISTS_RETURN};
-use crate::running::{LIMITS, OPTIONS};
+use crate::running::{LIMITS, OPTIONS, crew};
 use aliasplan::{Job, NoGate, Returned, RunFault, domains, parse_job, plan_job, read_job, returns};
 use growth_answers::inputs::{are_texts, is_address};
-use growth_answers::{Answer, Seen, Teller, Unready, call, case};
+use growth_answers::{Answer, Seen, Teller, Unready, call, case, judged};
 use relay_routes::Transport;
 use relay_text::{Seq, Text};
 use relay_wire::{Plan, Planned};
@@ -13,7 +13,7 @@ use std::thread::Threads;
 
 fn reads_a_job(alloc: Global) -> Result<Answer, Unready> {
     match read_job(alloc, &mut Page::new(FIRST_JOB), 1000) {
-        Ok(text) => Ok(Answer::given(text.as_bytes() == FIRST_JOB)),
+        Ok(text) => Ok(judged(text, |text| text.as_bytes() == FIRST_JOB)),
         Err(RunFault::Memory) => Ok(Answer::Refused),
         Err(_) => Ok(Answer::Wrong),
     }
@@ -39,7 +39,7 @@ fn is_plan(plan: &Plan) -> bool {
 /// Whether the first job's message is planned, without a finding.
 pub(crate) fn is_planned(plan: Result<Plan, RunFault>) -> Answer {
     match plan {
-        Ok(plan) => Answer::given(is_plan(&plan)),
+        Ok(plan) => judged(plan, is_plan),
         Err(RunFault::Memory) => Answer::Refused,
         Err(_) => Answer::Wrong,
     }
@@ -57,13 +57,17 @@ fn plans_a_job<R: Threads + Sync>(rt: &R, alloc: Global) -> Result<Seen, Unready
     )
 }
 
+fn is_bobs_return(returned: &Returned) -> bool {
+    matches!(
+        returned.returns.as_slice(),
+        [block] if are_texts(block.lines.as_slice(), &[LISTS_RETURN])
+    )
+}
+
 /// Whether bob is missing, and nothing else is returned.
 fn are_returns(returned: Result<Returned, RunFault>) -> Answer {
     match returned {
-        Ok(returned) => Answer::given(matches!(
-            returned.returns.as_slice(),
-            [block] if are_texts(block.lines.as_slice(), &[LISTS_RETURN])
-        )),
+        Ok(returned) => judged(returned, is_bobs_return),
         Err(RunFault::Memory) => Answer::Refused,
         Err(_) => Answer::Wrong,
     }
@@ -71,22 +75,18 @@ fn are_returns(returned: Result<Returned, RunFault>) -> Answer {
 
 fn returns_what_is_lost<R: Threads + Sync>(rt: &R, alloc: Global) -> Result<Seen, Unready> {
     let job = parse_job(alloc, LISTS_JOB)?;
-    Ok(
-        match are_returns(returns(rt, alloc, &job, OPTIONS, LIMITS, &NoGate)) {
-            Answer::Refused => Seen::at_last(are_returns(returns(
-                rt, alloc, &job, OPTIONS, LIMITS, &NoGate,
-            ))),
-            answer => Seen::at_once(answer),
-        },
-    )
+    let crew = crew(rt, alloc);
+    Ok(match are_returns(returns(&crew, &job)) {
+        Answer::Refused => Seen::at_last(are_returns(returns(&crew, &job))),
+        answer => Seen::at_once(answer),
+    })
 }
 
 fn are_domains(domains: Result<Seq<Text>, RunFault>) -> Answer {
     match domains {
-        Ok(domains) => Answer::given(are_texts(
-            domains.as_slice(),
-            &[b"example.com", b"example.net"],
-        )),
+        Ok(domains) => judged(domains, |domains| {
+            are_texts(domains.as_slice(), &[b"example.com", b"example.net"])
+        }),
         Err(RunFault::Memory) => Answer::Refused,
         Err(_) => Answer::Wrong,
     }
@@ -94,14 +94,11 @@ fn are_domains(domains: Result<Seq<Text>, RunFault>) -> Answer {
 
 fn finds_domains<R: Threads + Sync>(rt: &R, alloc: Global) -> Result<Seen, Unready> {
     let job = parse_job(alloc, LISTS_JOB)?;
-    Ok(
-        match are_domains(domains(rt, alloc, &job, OPTIONS, LIMITS, &NoGate)) {
-            Answer::Refused => Seen::at_last(are_domains(domains(
-                rt, alloc, &job, OPTIONS, LIMITS, &NoGate,
-            ))),
-            answer => Seen::at_once(answer),
-        },
-    )
+    let crew = crew(rt, alloc);
+    Ok(match are_domains(domains(&crew, &job)) {
+        Answer::Refused => Seen::at_last(are_domains(domains(&crew, &job))),
+        answer => Seen::at_once(answer),
+    })
 }
 
 pub(crate) fn tell<R: Print + AllocGlobal + Threads + Sync>(teller: &mut Teller<'_, R>) {

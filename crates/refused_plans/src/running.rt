@@ -91,7 +91,7 @@ fn returned<R: Threads + Sync>(rt: &R, alloc: Global, paper: &mut Paper) -> Answ
     requires { paper.old.failed ≡ false }
 {
     let mut page = Page::new(LISTS_JOB);
-    match run_returns(rt, alloc, &mut page, paper, OPTIONS, LIMITS, &NoGate) {
+    match run_returns(&crew(rt, alloc), &mut page, paper) {
         Ok(_) => Answer::given(paper.text.as_slice() == LISTS_PLAN_WITH_RETURNS),
         Err(RunFault::Memory) => Answer::refused(paper.text.is_empty()),
         Err(_) => Answer::Wrong,
@@ -112,7 +112,7 @@ fn named<R: Threads + Sync>(rt: &R, alloc: Global, paper: &mut Paper) -> Answer
     requires { paper.old.failed ≡ false }
 {
     let mut page = Page::new(LISTS_JOB);
-    match run_domains(rt, alloc, &mut page, paper, OPTIONS, LIMITS, &NoGate) {
+    match run_domains(&crew(rt, alloc), &mut page, paper) {
         Ok(()) => Answer::given(paper.text.as_slice() == LISTS_DOMAINS),
         Err(RunFault::Memory) => Answer::refused(paper.text.is_empty()),
         Err(_) => Answer::Wrong,

@@ -1,6 +1,6 @@
 //! The transactions of what goes out.
 use growth_answers::inputs::{address, is_address};
-use growth_answers::{Answer, Teller, Unready, call};
+use growth_answers::{Answer, Teller, Unready, call, judged, lent};
 use relay_delivery::{BatchLimits, Routed, Stop, transactions};
 use relay_routes::{Hosts, Route, Transport};
 use relay_text::{Address, Text, TextFault};
@@ -86,7 +86,7 @@ fn message(alloc: Global) -> Result<Addresses, TextFault> {
 }
 
 /// What is answered where the first two recipients and the third, who is the first again, go by the route.
-fn answered(alloc: Global, message: &Addresses, route: &Route) -> Result<Answer, AllocError> {
+fn answered(alloc: Global, message: &Addresses, route: &Route) -> Result<Answer, Unready> {
     let Addresses {
         sender,
         first,
@@ -97,15 +97,19 @@ fn answered(alloc: Global, message: &Addresses, route: &Route) -> Result<Answer,
     let recipients = [last, first, last].map(|address| Routed { route: 0, address });
     let senders = [Some(sender), None];
     match transactions(alloc, &senders, routes, &recipients, stops, LIMITS) {
-        Ok(planned) => Ok(Answer::given(are_planned(&planned, first, last))),
+        Ok(planned) => Ok(judged(planned, |planned| are_planned(planned, first, last))),
         Err(_) => Ok(Answer::Refused),
     }
 }
 
+fn answered_by_route(alloc: Global, message: &Addresses) -> Result<Answer, Unready> {
+    let route = route(alloc)?;
+    lent(route, |route| answered(alloc, message, route))
+}
+
 fn makes_transactions(alloc: Global) -> Result<Answer, Unready> {
     let message = message(alloc)?;
-    let route = route(alloc)?;
-    Ok(answered(alloc, &message, &route)?)
+    lent(message, |message| answered_by_route(alloc, message))
 }
 
 pub(crate) fn tell<R: Print + AllocGlobal>(teller: &mut Teller<'_, R>) {

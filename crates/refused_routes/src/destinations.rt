@@ -1,7 +1,7 @@
 //! Routes of addresses, each looked up once.
 use crate::routes::{mailbox_transport, router};
 use growth_answers::inputs::address;
-use growth_answers::{Answer, Seen, Teller, Unready, call, case, twice};
+use growth_answers::{Answer, Seen, Teller, Unready, call, case, judged, lent, lent_mut, twice};
 use relay_destinations::{Destinations, Way};
 use relay_routes::{Route, Router, Transport, Unrouted, Via};
 use relay_text::Address;
@@ -59,7 +59,9 @@ fn leads_nowhere(way: &Result<Way, AllocError>, reasons: &[Unrouted]) -> Answer 
 /// Whether nothing is found before an address is sought.
 fn begins(alloc: Global, router: &Router, via: &Via) -> Answer {
     match Destinations::new(alloc, router, via, 0) {
-        Ok(found) => Answer::given(found.routes().is_empty() && found.reasons().is_empty()),
+        Ok(found) => judged(found, |found| {
+            found.routes().is_empty() && found.reasons().is_empty()
+        }),
         Err(_) => Answer::Refused,
     }
 }
@@ -67,52 +69,63 @@ fn begins(alloc: Global, router: &Router, via: &Via) -> Answer {
 fn makes_destinations(alloc: Global) -> Result<Answer, Unready> {
     let via = mailbox_transport(alloc)?;
     let router = router(alloc)?;
-    Ok(begins(alloc, &router, &via))
+    lent(router, |router| Ok(begins(alloc, router, &via)))
 }
 
-/// What is sought is borrowed in each case: a function that drops it at several places takes long to be proved.
+fn goes_to_hub(alloc: Global, address: &Address, found: &mut Destinations<'_>) -> Answer {
+    let way = found.find(alloc, address);
+    leads_to(
+        &way,
+        found.routes(),
+        Transport::Relay,
+        b"hub.a-department-with-a-long-name.example.com:2525",
+    )
+}
+
 fn finds_its_route(alloc: Global, sought: &Sought) -> Result<Seen, Unready> {
-    let mut found = Destinations::new(alloc, &sought.router, &sought.via, 0)?;
-    Ok(twice!({
-        let way = found.find(alloc, &sought.address);
-        leads_to(
-            &way,
-            found.routes(),
-            Transport::Relay,
-            b"hub.a-department-with-a-long-name.example.com:2525",
-        )
-    }))
+    let found = Destinations::new(alloc, &sought.router, &sought.via, 0)?;
+    lent_mut(found, |found| {
+        Ok(twice!(goes_to_hub(alloc, &sought.address, found)))
+    })
 }
 
 fn finds_a_route(alloc: Global) -> Result<Seen, Unready> {
     let sought = seek(alloc, b"u@a.b.example.net")?;
-    finds_its_route(alloc, &sought)
+    lent(sought, |sought| finds_its_route(alloc, sought))
+}
+
+fn goes_nowhere(alloc: Global, address: &Address, found: &mut Destinations<'_>) -> Answer {
+    let way = found.find(alloc, address);
+    leads_nowhere(&way, found.reasons())
 }
 
 fn finds_its_reason(alloc: Global, sought: &Sought) -> Result<Seen, Unready> {
-    let mut found = Destinations::new(alloc, &sought.router, &sought.via, 0)?;
-    Ok(twice!({
-        let way = found.find(alloc, &sought.address);
-        leads_nowhere(&way, found.reasons())
-    }))
+    let found = Destinations::new(alloc, &sought.router, &sought.via, 0)?;
+    lent_mut(found, |found| {
+        Ok(twice!(goes_nowhere(alloc, &sought.address, found)))
+    })
 }
 
 fn finds_a_reason(alloc: Global) -> Result<Seen, Unready> {
     let sought = seek(alloc, b"u@a-domain-that-nobody-knows.example")?;
-    finds_its_reason(alloc, &sought)
+    lent(sought, |sought| finds_its_reason(alloc, sought))
+}
+
+fn goes_to_socket(alloc: Global, address: &Address, found: &mut Destinations<'_>) -> Answer {
+    let way = found.find_mailbox(alloc, address);
+    leads_to(&way, found.routes(), Transport::Lmtp, b"unix:mbox")
 }
 
 fn finds_its_mailbox(alloc: Global, sought: &Sought) -> Result<Seen, Unready> {
-    let mut found = Destinations::new(alloc, &sought.router, &sought.via, 0)?;
-    Ok(twice!({
-        let way = found.find_mailbox(alloc, &sought.address);
-        leads_to(&way, found.routes(), Transport::Lmtp, b"unix:mbox")
-    }))
+    let found = Destinations::new(alloc, &sought.router, &sought.via, 0)?;
+    lent_mut(found, |found| {
+        Ok(twice!(goes_to_socket(alloc, &sought.address, found)))
+    })
 }
 
 fn finds_a_mailboxs_route(alloc: Global) -> Result<Seen, Unready> {
     let sought = seek(alloc, b"joe")?;
-    finds_its_mailbox(alloc, &sought)
+    lent(sought, |sought| finds_its_mailbox(alloc, sought))
 }
 
 pub(crate) fn tell<R: Print + AllocGlobal>(teller: &mut Teller<'_, R>) {

@@ -1,8 +1,8 @@
 //! The lines of tables that decide where an address goes.
 use growth_answers::inputs::address;
-use growth_answers::{Answer, Seen, Teller, Unready, case, twice};
+use growth_answers::{Answer, Seen, Teller, Unready, case, judged, twice};
 use relay_routes::{DecidingLine, ExchangerLine, Fate, deciding_line, exchanger_lines};
-use relay_text::Text;
+use relay_text::{Address, Text};
 use std::alloc::Global;
 
 const TRANSPORTS: &[u8] = b"# by hand\n.example.net relay:hub.example.com\nexample.net smtp:\n";
@@ -19,14 +19,16 @@ fn is_line(line: &Option<DecidingLine>) -> bool {
     })
 }
 
+fn is_decided(alloc: Global, address: &Address) -> Answer {
+    match deciding_line(alloc, TRANSPORTS, address, Some(b'+')) {
+        Ok(line) => judged(line, is_line),
+        Err(_) => Answer::Refused,
+    }
+}
+
 fn finds_the_line(alloc: Global) -> Result<Seen, Unready> {
     let address = address(alloc, b"u+x@a.b.example.net")?;
-    Ok(twice!(
-        match deciding_line(alloc, TRANSPORTS, &address, Some(b'+')) {
-            Ok(line) => Answer::given(is_line(&line)),
-            Err(_) => Answer::Refused,
-        }
-    ))
+    Ok(twice!(is_decided(alloc, &address)))
 }
 
 fn is_exchanger(line: &ExchangerLine, number: usize, host: &[u8], fate: Fate) -> bool {
@@ -44,14 +46,16 @@ fn are_exchangers(lines: &[ExchangerLine]) -> bool {
     }
 }
 
+fn are_told(alloc: Global, own_names: &[Text]) -> Answer {
+    match exchanger_lines(alloc, EXCHANGES, b"example.net", own_names) {
+        Ok(lines) => judged(lines, |lines| are_exchangers(lines)),
+        Err(_) => Answer::Refused,
+    }
+}
+
 fn tells_fates(alloc: Global) -> Result<Seen, Unready> {
     let own_names = [Text::copy_of(alloc, b"relay.example.org")?];
-    Ok(twice!(
-        match exchanger_lines(alloc, EXCHANGES, b"example.net", &own_names) {
-            Ok(lines) => Answer::given(are_exchangers(&lines)),
-            Err(_) => Answer::Refused,
-        }
-    ))
+    Ok(twice!(are_told(alloc, &own_names)))
 }
 
 pub(crate) fn tell<R: Print + AllocGlobal>(teller: &mut Teller<'_, R>) {

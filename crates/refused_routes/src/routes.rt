@@ -1,6 +1,6 @@
 //! Which transport, nexthop and hosts an address goes to.
 use growth_answers::inputs::{address, are_texts};
-use growth_answers::{Answer, Seen, Teller, Unready, call, case, twice};
+use growth_answers::{Answer, Seen, Teller, Unready, call, case, judged, lent, twice};
 use relay_routes::{
     Choice, Destination, FaultKind, Hosts, LineFault, MxTable, Route, RouteSettings, Router,
     Transport, TransportTable, Unrouted, Via,
@@ -60,14 +60,26 @@ fn finds_gateway(table: &TransportTable, alloc: Global, address: &Address) -> An
     }
 }
 
+/// The same of a table with two faults.
+fn finds_gateway_despite_faults(
+    table: &TransportTable,
+    alloc: Global,
+    address: &Address,
+) -> Answer {
+    let faults = [fault(1, FaultKind::BadLine), fault(3, FaultKind::Duplicate)];
+    if table.faults() == faults.as_slice() {
+        finds_gateway(table, alloc, address)
+    } else {
+        Answer::Wrong
+    }
+}
+
 fn reads_transports(alloc: Global) -> Result<Answer, Unready> {
     let address = address(alloc, b"u@example.net")?;
-    let faults = [fault(1, FaultKind::BadLine), fault(3, FaultKind::Duplicate)];
     match TransportTable::parse(alloc, FAULTY_TRANSPORTS) {
-        Ok(table) if table.faults() == faults.as_slice() => {
-            Ok(finds_gateway(&table, alloc, &address))
-        }
-        Ok(_) => Ok(Answer::Wrong),
+        Ok(table) => lent(table, |table| {
+            Ok(finds_gateway_despite_faults(table, alloc, &address))
+        }),
         Err(_) => Ok(Answer::Refused),
     }
 }
@@ -75,7 +87,10 @@ fn reads_transports(alloc: Global) -> Result<Answer, Unready> {
 fn finds_a_transport(alloc: Global) -> Result<Seen, Unready> {
     let address = address(alloc, b"u+x@example.net")?;
     let table = TransportTable::parse(alloc, TRANSPORTS)?;
-    Ok(twice!(finds_gateway(&table, alloc, &address)))
+    lent(
+        table,
+        |table| Ok(twice!(finds_gateway(table, alloc, &address))),
+    )
 }
 
 /// Whether the hosts of a domain are these.
@@ -87,7 +102,7 @@ fn finds_hosts(
     wanted: &[&[u8]],
 ) -> Answer {
     match table.hosts(alloc, domain, own_names, 0) {
-        Ok(hosts) => Answer::given(are_texts(hosts.as_slice(), wanted)),
+        Ok(hosts) => judged(hosts, |hosts| are_texts(hosts.as_slice(), wanted)),
         Err(Unrouted::Memory) => Answer::Refused,
         Err(_) => Answer::Wrong,
     }
@@ -99,17 +114,21 @@ fn own_names(alloc: Global) -> Result<Vec<Text>, AllocError> {
 
 const IN_ORDER: [&[u8]; 3] = [b"a.example.net", b"c.example.net", b"b.example.net"];
 
+/// Whether the hosts are in order, of a table with one fault.
+fn finds_hosts_despite_fault(table: &MxTable, alloc: Global, own_names: &[Text]) -> Answer {
+    if table.faults() == [fault(3, FaultKind::BadLine)].as_slice() {
+        finds_hosts(table, alloc, b"example.net", own_names, &IN_ORDER)
+    } else {
+        Answer::Wrong
+    }
+}
+
 fn reads_exchangers(alloc: Global) -> Result<Answer, Unready> {
     let names = own_names(alloc)?;
     match MxTable::parse(alloc, PREFERENCES) {
-        Ok(table) if table.faults() == [fault(3, FaultKind::BadLine)].as_slice() => Ok(finds_hosts(
-            &table,
-            alloc,
-            b"example.net",
-            &names,
-            &IN_ORDER,
-        )),
-        Ok(_) => Ok(Answer::Wrong),
+        Ok(table) => lent(table, |table| {
+            Ok(finds_hosts_despite_fault(table, alloc, &names))
+        }),
         Err(_) => Ok(Answer::Refused),
     }
 }
@@ -117,28 +136,31 @@ fn reads_exchangers(alloc: Global) -> Result<Answer, Unready> {
 fn finds_exchangers(alloc: Global) -> Result<Seen, Unready> {
     let names = own_names(alloc)?;
     let table = MxTable::parse(alloc, PREFERENCES)?;
-    Ok(twice!({ finds_hosts(&table, alloc, b"example.net", &names, &IN_ORDER) }))
+    lent(table, |table| {
+        Ok(twice!({ finds_hosts(table, alloc, b"example.net", &names, &IN_ORDER) }))
+    })
 }
 
 fn finds_an_address(alloc: Global) -> Result<Seen, Unready> {
     let names = own_names(alloc)?;
     let table = MxTable::parse(alloc, EXCHANGES)?;
-    let wanted: [&[u8]; 1] = [b"hub.a-department-with-a-long-name.example.com"];
-    Ok(twice!({
-        finds_hosts(
-            &table,
-            alloc,
-            b"hub.a-department-with-a-long-name.example.com",
-            &names,
-            &wanted
-        )
-    }))
+    lent(table, |table| {
+        Ok(twice!({
+            finds_hosts(
+                table,
+                alloc,
+                b"hub.a-department-with-a-long-name.example.com",
+                &names,
+                &[b"hub.a-department-with-a-long-name.example.com"],
+            )
+        }))
+    })
 }
 
 fn lists_one_host(alloc: Global) -> Result<Answer, Unready> {
     let host = Text::copy_of(alloc, b"h")?;
     match Hosts::one(alloc, host) {
-        Ok(hosts) => Ok(Answer::given(are_texts(hosts.as_slice(), &[b"h"]))),
+        Ok(hosts) => Ok(judged(hosts, |hosts| are_texts(hosts.as_slice(), &[b"h"]))),
         Err(_) => Ok(Answer::Refused),
     }
 }
@@ -156,7 +178,6 @@ fn routed(alloc: Global) -> Result<Result<Router, AllocError>, Unready> {
     Ok(Router::new(alloc, settings, transports, exchanges))
 }
 
-/// To be made last: each place where a router is dropped makes the proof of a case longer.
 pub(crate) fn router(alloc: Global) -> Result<Router, Unready> {
     let router = routed(alloc)??;
     Ok(router)
@@ -202,10 +223,17 @@ fn leads_to_socket(route: &Result<Route, Unrouted>) -> Answer {
     leads(route, Transport::Lmtp, b"unix:mbox", b"unix:mbox")
 }
 
+fn goes_to_gateway(alloc: Global, router: &Router, address: &Address) -> Answer {
+    leads_to_gateway(&router.route(alloc, address))
+}
+
 fn makes_a_router(alloc: Global) -> Result<Answer, Unready> {
     let address = address(alloc, b"u@example.net")?;
     match routed(alloc)? {
-        Ok(router) => Ok(leads_to_gateway(&router.route(alloc, &address))),
+        Ok(router) => lent(
+            router,
+            |router| Ok(goes_to_gateway(alloc, router, &address)),
+        ),
         Err(_) => Ok(Answer::Refused),
     }
 }
@@ -213,24 +241,36 @@ fn makes_a_router(alloc: Global) -> Result<Answer, Unready> {
 fn routes_to_a_host(alloc: Global) -> Result<Seen, Unready> {
     let address = address(alloc, b"u@example.net")?;
     let router = router(alloc)?;
-    Ok(twice!(leads_to_gateway(&router.route(alloc, &address))))
+    lent(
+        router,
+        |router| Ok(twice!(goes_to_gateway(alloc, router, &address))),
+    )
+}
+
+fn goes_to_hub(alloc: Global, router: &Router, address: &Address) -> Answer {
+    leads_to_hub(&router.route(alloc, address))
 }
 
 fn routes_to_exchangers(alloc: Global) -> Result<Seen, Unready> {
     let address = address(alloc, b"u@a.b.example.net")?;
     let router = router(alloc)?;
-    Ok(twice!(leads_to_hub(&router.route(alloc, &address))))
+    lent(
+        router,
+        |router| Ok(twice!(goes_to_hub(alloc, router, &address))),
+    )
+}
+
+fn goes_to_nexthop(alloc: Global, router: &Router) -> Answer {
+    leads_to_hub(&router.route_to(
+        alloc,
+        Transport::Relay,
+        b"HUB.a-department-with-a-long-name.example.com:2525",
+    ))
 }
 
 fn routes_to_a_nexthop(alloc: Global) -> Result<Seen, Unready> {
     let router = router(alloc)?;
-    Ok(twice!({
-        leads_to_hub(&router.route_to(
-            alloc,
-            Transport::Relay,
-            b"HUB.a-department-with-a-long-name.example.com:2525"
-        ))
-    }))
+    lent(router, |router| Ok(twice!(goes_to_nexthop(alloc, router))))
 }
 
 /// How mailboxes are reached: by LMTP at a socket.
@@ -238,11 +278,17 @@ pub(crate) fn mailbox_transport(alloc: Global) -> Result<Via, Unready> {
     Via::parse(alloc, b"lmtp:unix:mbox")?.ok_or(Unready::Wrong)
 }
 
+fn goes_to_socket(alloc: Global, router: &Router, via: &Via, address: &Address) -> Answer {
+    leads_to_socket(&router.route_via(alloc, via, address))
+}
+
 fn routes_a_mailbox(alloc: Global) -> Result<Seen, Unready> {
     let address = address(alloc, b"joe")?;
     let via = mailbox_transport(alloc)?;
     let router = router(alloc)?;
-    Ok(twice!({ leads_to_socket(&router.route_via(alloc, &via, &address)) }))
+    lent(router, |router| {
+        Ok(twice!(goes_to_socket(alloc, router, &via, &address)))
+    })
 }
 
 /// Whether a destination is this one.
@@ -260,27 +306,49 @@ fn is_destination(
     }
 }
 
+fn is_hub(alloc: Global, router: &Router, address: &Address) -> Answer {
+    is_destination(
+        &router.destination(alloc, address),
+        Transport::Relay,
+        b"hub.a-department-with-a-long-name.example.com:2525",
+    )
+}
+
 fn finds_a_destination(alloc: Global) -> Result<Seen, Unready> {
     let address = address(alloc, b"u@a.b.example.net")?;
     let router = router(alloc)?;
-    Ok(twice!({
-        let found = router.destination(alloc, &address);
-        is_destination(
-            &found,
-            Transport::Relay,
-            b"hub.a-department-with-a-long-name.example.com:2525"
-        )
-    }))
+    lent(router, |router| Ok(twice!(is_hub(alloc, router, &address))))
+}
+
+fn is_socket(alloc: Global, router: &Router, via: &Via, address: &Address) -> Answer {
+    is_destination(
+        &router.destination_via(alloc, via, address),
+        Transport::Lmtp,
+        b"unix:mbox",
+    )
 }
 
 fn finds_a_mailboxs_destination(alloc: Global) -> Result<Seen, Unready> {
     let address = address(alloc, b"joe")?;
     let via = mailbox_transport(alloc)?;
     let router = router(alloc)?;
-    Ok(twice!({
-        let found = router.destination_via(alloc, &via, &address);
-        is_destination(&found, Transport::Lmtp, b"unix:mbox")
-    }))
+    lent(router, |router| {
+        Ok(twice!(is_socket(alloc, router, &via, &address)))
+    })
+}
+
+/// Whether the name that a hub's exchangers are looked up by is the hub's.
+fn is_looked_up(alloc: Global, to: &Destination) -> Answer {
+    match to.looked_up_name(alloc) {
+        Ok(Some(name)) => judged(name, |name| {
+            is_text(
+                name,
+                b"hub.a-department-with-an-even-longer-name.example.com",
+            )
+        }),
+        Ok(None) => Answer::Wrong,
+        Err(_) => Answer::Refused,
+    }
 }
 
 fn finds_a_looked_up_name(alloc: Global) -> Result<Seen, Unready> {
@@ -291,16 +359,7 @@ fn finds_a_looked_up_name(alloc: Global) -> Result<Seen, Unready> {
             b"hub.a-department-with-an-even-longer-name.example.com:2525",
         )?,
     };
-    Ok(twice!({
-        match to.looked_up_name(alloc) {
-            Ok(Some(name)) => Answer::given(is_text(
-                &name,
-                b"hub.a-department-with-an-even-longer-name.example.com"
-            )),
-            Ok(None) => Answer::Wrong,
-            Err(_) => Answer::Refused,
-        }
-    }))
+    lent(to, |to| Ok(twice!(is_looked_up(alloc, to))))
 }
 
 fn tell_of_tables<R: Print + AllocGlobal>(teller: &mut Teller<'_, R>) {

@@ -4,10 +4,10 @@ ghost use Rattle.std.specs.List.{range_with_len};
 ghost use Rattle.relay_loops.specs.Loops.{IsClosedPart};
 
 use crate::tables::tables;
-use growth_answers::{Answer, Seen, Teller, Unready, case};
+use growth_answers::{Answer, Seen, Teller, Unready, case, lent, twice};
 use relay_loops::{on_loops, whole_graphs};
 use relay_rounds::NoGate;
-use relay_tables::Graph;
+use relay_tables::{Graph, Tables};
 use std::alloc::Global;
 use std::thread::Threads;
 
@@ -36,14 +36,28 @@ fn are_loops<R: Threads + Sync>(rt: &R, alloc: Global, graph: &Graph, nodes: &[u
     }
 }
 
-fn finds_loops<R: Threads + Sync>(rt: &R, alloc: Global) -> Result<Seen, Unready> {
+fn finds_its_loops<R: Threads + Sync>(
+    rt: &R,
+    alloc: Global,
+    graph: &Graph,
+) -> Result<Seen, Unready> {
+    let nodes = all_nodes(alloc, graph)?;
+    Ok(twice!(are_loops(rt, alloc, graph, &nodes)))
+}
+
+fn graph_of(alloc: Global, tables: &Tables) -> Result<Graph, Unready> {
+    let graph = Graph::build(alloc, tables, None, &[], 1000, 0)?;
+    Ok(graph)
+}
+
+fn graph(alloc: Global) -> Result<Graph, Unready> {
     let tables = tables(alloc, false, RINGS)?;
-    let graph = Graph::build(alloc, &tables, None, &[], 1000, 0)?;
-    let nodes = all_nodes(alloc, &graph)?;
-    Ok(match are_loops(rt, alloc, &graph, &nodes) {
-        Answer::Refused => Seen::at_last(are_loops(rt, alloc, &graph, &nodes)),
-        answer => Seen::at_once(answer),
-    })
+    lent(tables, |tables| graph_of(alloc, tables))
+}
+
+fn finds_loops<R: Threads + Sync>(rt: &R, alloc: Global) -> Result<Seen, Unready> {
+    let graph = graph(alloc)?;
+    lent(graph, |graph| finds_its_loops(rt, alloc, graph))
 }
 
 pub(crate) fn tell<R: Print + AllocGlobal + Threads + Sync>(teller: &mut Teller<'_, R>) {

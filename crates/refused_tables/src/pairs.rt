@@ -1,22 +1,31 @@
 //! Which senders and nodes a message reaches.
 ghost use Rattle.relay_pairs.specs.Pairs.{ArePairs};
 
-use crate::tables::{OWNED, tables};
-use growth_answers::inputs::address;
-use growth_answers::{Answer, Seen, Teller, Unready, case, twice};
+use crate::tables::{Message, OWNED, message_to, tables};
+use growth_answers::{Answer, Seen, Teller, Unready, case, lent, twice};
 use relay_pairs::{Reached, Search, reached_nodes, reached_pairs};
 use relay_rounds::{NoGate, ReachFault};
-use relay_tables::Graph;
+use relay_tables::{Graph, Tables};
 use std::alloc::Global;
 use std::thread::Threads;
 
+fn graph_of(alloc: Global, tables: &Tables, message: &Message) -> Result<Graph, Unready> {
+    let graph = Graph::build(
+        alloc,
+        tables,
+        Some(&message.sender),
+        &message.recipients,
+        1000,
+        10,
+    )?;
+    Ok(graph)
+}
+
 /// The graph of a message from `a@example.com` to the list `outer`.
 pub(crate) fn graph(alloc: Global) -> Result<Graph, Unready> {
+    let message = message_to(alloc, b"outer")?;
     let tables = tables(alloc, false, OWNED)?;
-    let sender = address(alloc, b"a@example.com")?;
-    let recipients = Vec::from_array(alloc, [address(alloc, b"outer")?])?;
-    let graph = Graph::build(alloc, &tables, Some(&sender), &recipients, 1000, 10)?;
-    Ok(graph)
+    lent(tables, |tables| graph_of(alloc, tables, &message))
 }
 
 const fn pair(sender: u32, node: u32) -> Reached {
@@ -39,10 +48,7 @@ fn are_reached<R: Threads + Sync>(rt: &R, alloc: Global, graph: &Graph) -> Answe
 
 fn reaches_pairs<R: Threads + Sync>(rt: &R, alloc: Global) -> Result<Seen, Unready> {
     let graph = graph(alloc)?;
-    Ok(match are_reached(rt, alloc, &graph) {
-        Answer::Refused => Seen::at_last(are_reached(rt, alloc, &graph)),
-        answer => Seen::at_once(answer),
-    })
+    lent(graph, |graph| Ok(twice!(are_reached(rt, alloc, graph))))
 }
 
 /// The list is the first node, and the only recipient's target.
@@ -57,17 +63,21 @@ fn are_from_list<R: Threads + Sync>(search: &Search<'_, NoGate, R>) -> Answer {
     }
 }
 
-fn reaches_pairs_of_a_recipient<R: Threads + Sync>(rt: &R, alloc: Global) -> Result<Seen, Unready> {
-    let graph = graph(alloc)?;
+fn are_reached_from_list<R: Threads + Sync>(rt: &R, alloc: Global, graph: &Graph) -> Seen {
     let search = Search {
         rt,
         alloc,
-        graph: &graph,
+        graph,
         workers: 2,
         cut: 1,
         gate: &NoGate,
     };
-    Ok(twice!(are_from_list(&search)))
+    twice!(are_from_list(&search))
+}
+
+fn reaches_pairs_of_a_recipient<R: Threads + Sync>(rt: &R, alloc: Global) -> Result<Seen, Unready> {
+    let graph = graph(alloc)?;
+    lent(graph, |graph| Ok(are_reached_from_list(rt, alloc, graph)))
 }
 
 fn are_nodes(alloc: Global, graph: &Graph, pairs: &[Reached]) -> Answer
@@ -79,13 +89,18 @@ fn are_nodes(alloc: Global, graph: &Graph, pairs: &[Reached]) -> Answer
     }
 }
 
+fn lists_its_nodes<R: Threads + Sync>(
+    rt: &R,
+    alloc: Global,
+    graph: &Graph,
+) -> Result<Seen, Unready> {
+    let pairs = reached_pairs(rt, alloc, graph, 2, 1, 100, &NoGate)?;
+    Ok(twice!(are_nodes(alloc, graph, &pairs)))
+}
+
 fn lists_nodes<R: Threads + Sync>(rt: &R, alloc: Global) -> Result<Seen, Unready> {
     let graph = graph(alloc)?;
-    let pairs = reached_pairs(rt, alloc, &graph, 2, 1, 100, &NoGate)?;
-    Ok(match are_nodes(alloc, &graph, &pairs) {
-        Answer::Refused => Seen::at_last(are_nodes(alloc, &graph, &pairs)),
-        answer => Seen::at_once(answer),
-    })
+    lent(graph, |graph| lists_its_nodes(rt, alloc, graph))
 }
 
 pub(crate) fn tell<R: Print + AllocGlobal + Threads + Sync>(teller: &mut Teller<'_, R>) {

@@ -1,13 +1,14 @@
 //! Names, owners, and the graph of what leads to what. The origin is `example.org`, names aren't split, and joe has a mailbox.
-ghost use Rattle.std.specs.Prelude.{◌≡◌, ◌≢◌, All, AllPairs, IsTrue, IfOk};
+ghost use Rattle.std.specs.Prelude.{◌≡◌, ◌≢◌, ◌<◌, ◌-◌, ◌^◌, length, All, AllPairs, IsTrue, IsSome, IfOk};
 ghost use Rattle.std.specs.List.{list_all};
 ghost use Rattle.relay_text.specs.Bytes.{folded};
 ghost use Rattle.relay_text.specs.Addresses.{is_origin};
-ghost use Rattle.relay_tables.specs.Parts.{is_good_include};
+ghost use Rattle.relay_tables.specs.Parts.{is_good_entry, is_good_include};
+ghost use Rattle.relay_tables.specs.Senders.{owner_number};
 
 use growth_answers::inputs::{address, is_address};
-use growth_answers::{Answer, Seen, Teller, Unready, call, case, twice};
-use relay_aliasfile::{parse_aliases, parse_include, parse_mailboxes};
+use growth_answers::{Answer, Seen, Teller, Unready, call, case, judged, lent, twice};
+use relay_aliasfile::{AliasFile, MailboxFile, parse_aliases, parse_include, parse_mailboxes};
 use relay_tables::{
     Graph, IncludeEntry, Local, Node, TableCounts, TableFault, Tables, parsed_files,
 };
@@ -35,34 +36,69 @@ fn local(alloc: Global, expand: bool) -> Result<Local, AllocError>
     })
 }
 
-/// What building the tables of an alias file and include files answers.
-fn built(
-    alloc: Global,
-    expand: bool,
-    aliases: &[u8],
-    includes: Vec<IncludeEntry>,
-) -> Result<Result<Tables, AllocError>, Unready>
-    requires distinct { AllPairs (λ a b. a.path ≢ b.path) includes.items }
-    requires items { IsTrue (list_all is_good_include includes.items) }
+/// An alias file, in which each name is good.
+fn alias_file(alloc: Global, text: &[u8]) -> Result<AliasFile, Unready>
+    ensures entries { IfOk result (λ file. IsTrue (list_all is_good_entry file.entries)) }
+    ensures few { IfOk result (λ file. length file.entries < 2 ^ 32 - 2) }
 {
     parsed_files();
-    let local = local(alloc, expand)?;
-    let aliases = parse_aliases(alloc, aliases)?;
-    let mailboxes = parse_mailboxes(alloc, b"joe\n")?;
-    if aliases.entries.len() > 1000 || includes.len() > 1000 || mailboxes.names.len() > 1000 {
+    let file = parse_aliases(alloc, text)?;
+    if file.entries.len() > 1000 {
         return Err(Unready::Wrong);
     }
-    Ok(Tables::build(alloc, local, aliases, includes, mailboxes))
+    Ok(file)
+}
+
+/// A mailbox file, which lists joe.
+fn mailbox_file(alloc: Global) -> Result<MailboxFile, Unready>
+    ensures few { IfOk result (λ file. length file.names < 2 ^ 32 - 2) }
+{
+    let file = parse_mailboxes(alloc, b"joe\n")?;
+    if file.names.len() > 1000 {
+        return Err(Unready::Wrong);
+    }
+    Ok(file)
+}
+
+/// What tables are built of beside include files.
+#[derive(Drop)]
+struct Sources {
+    local: Local,
+    aliases: AliasFile,
+    mailboxes: MailboxFile,
+}
+
+fn sources_of(alloc: Global, expand: bool, aliases: &[u8]) -> Result<Sources, Unready>
+    ensures origin { IfOk result (λ sources. IsTrue (is_origin sources.local.origin)) }
+    ensures domains { IfOk result (λ sources. All (λ domain. folded domain ≡ domain) sources.local.domains) }
+    ensures entries { IfOk result (λ sources. IsTrue (list_all is_good_entry sources.aliases.entries)) }
+    ensures few_entries { IfOk result (λ sources. length sources.aliases.entries < 2 ^ 32 - 2) }
+    ensures few_mailboxes { IfOk result (λ sources. length sources.mailboxes.names < 2 ^ 32 - 2) }
+{
+    let local = local(alloc, expand)?;
+    let mailboxes = mailbox_file(alloc)?;
+    let aliases = alias_file(alloc, aliases)?;
+    Ok(Sources {
+        local,
+        aliases,
+        mailboxes,
+    })
 }
 
 /// The tables of an alias file without include files.
 pub(crate) fn tables(alloc: Global, expand: bool, aliases: &[u8]) -> Result<Tables, Unready> {
-    let tables = built(alloc, expand, aliases, Vec::new(alloc))??;
+    let Sources {
+        local,
+        aliases,
+        mailboxes,
+    } = sources_of(alloc, expand, aliases)?;
+    let tables = Tables::build(alloc, local, aliases, Vec::new(alloc), mailboxes)?;
     Ok(tables)
 }
 
 /// One include file, `/l`, which lists joe.
 fn one_include(alloc: Global) -> Result<Vec<IncludeEntry>, AllocError>
+    ensures few { IfOk result (λ includes. length includes.items < 2 ^ 32 - 2) }
     ensures distinct { IfOk result (λ includes. AllPairs (λ a b. a.path ≢ b.path) includes.items) }
     ensures items { IfOk result (λ includes. IsTrue (list_all is_good_include includes.items)) }
 {
@@ -83,38 +119,51 @@ fn are_tables(tables: &Tables) -> bool {
 
 fn builds_tables(alloc: Global) -> Result<Answer, Unready> {
     let includes = one_include(alloc)?;
-    match built(alloc, false, OWNED, includes)? {
-        Ok(tables) => Ok(Answer::given(are_tables(&tables))),
+    let Sources {
+        local,
+        aliases,
+        mailboxes,
+    } = sources_of(alloc, false, OWNED)?;
+    match Tables::build(alloc, local, aliases, includes, mailboxes) {
+        Ok(tables) => Ok(judged(tables, are_tables)),
         Err(_) => Ok(Answer::Refused),
     }
 }
 
+/// What the sender of an alias with an owner answers.
+fn sent(alloc: Global, tables: &Tables, local: &[u8]) -> Answer
+    requires { IsSome (owner_number tables.now 1) }
+{
+    match tables.owner_sender(alloc, 1) {
+        Ok(sender) => Answer::given(is_address(&sender, local, b"example.org")),
+        Err(_) => Answer::Refused,
+    }
+}
+
 /// The sender of what the second of three aliases expands to.
-fn gives_a_sender(alloc: Global, expand: bool, local: &[u8]) -> Result<Seen, Unready> {
-    let tables = tables(alloc, expand, LONG_OWNED)?;
+fn sent_at_last(alloc: Global, tables: &Tables, local: &[u8]) -> Result<Seen, Unready> {
     if tables.aliases().len() != 3 || tables.owner_of(1).is_none() {
         return Err(Unready::Wrong);
     }
-    let sent = |sender: Result<Address, AllocError>| match sender {
-        Ok(sender) => Answer::given(is_address(&sender, local, b"example.org")),
-        Err(_) => Answer::Refused,
-    };
-    Ok(match sent(tables.owner_sender(alloc, 1)) {
-        Answer::Refused => Seen::at_last(sent(tables.owner_sender(alloc, 1))),
-        answer => Seen::at_once(answer),
-    })
+    Ok(twice!(sent(alloc, tables, local)))
 }
 
 fn gives_an_owners_sender(alloc: Global) -> Result<Seen, Unready> {
-    gives_a_sender(alloc, false, b"owner-inner-alias-with-a-long-name")
+    let tables = tables(alloc, false, LONG_OWNED)?;
+    lent(tables, |tables| {
+        sent_at_last(alloc, tables, b"owner-inner-alias-with-a-long-name")
+    })
 }
 
 fn gives_an_owners_address(alloc: Global) -> Result<Seen, Unready> {
-    gives_a_sender(
-        alloc,
-        true,
-        b"local-part-that-does-not-lie-in-the-value-itself",
-    )
+    let tables = tables(alloc, true, LONG_OWNED)?;
+    lent(tables, |tables| {
+        sent_at_last(
+            alloc,
+            tables,
+            b"local-part-that-does-not-lie-in-the-value-itself",
+        )
+    })
 }
 
 /// Whether these are the aliases of the long file, at the origin.
@@ -129,12 +178,16 @@ fn are_aliases(addresses: &[Address]) -> bool {
     }
 }
 
-fn lists_aliases(alloc: Global) -> Result<Seen, Unready> {
-    let tables = tables(alloc, false, LONG_OWNED)?;
-    Ok(twice!(match tables.alias_addresses(alloc) {
+fn listed(alloc: Global, tables: &Tables) -> Answer {
+    match tables.alias_addresses(alloc) {
         Ok(addresses) => Answer::given(are_aliases(&addresses)),
         Err(_) => Answer::Refused,
-    }))
+    }
+}
+
+fn lists_aliases(alloc: Global) -> Result<Seen, Unready> {
+    let tables = tables(alloc, false, LONG_OWNED)?;
+    lent(tables, |tables| Ok(twice!(listed(alloc, tables))))
 }
 
 fn is_remote(node: &Node, local: &[u8]) -> bool {
@@ -169,57 +222,100 @@ fn are_senders(graph: &Graph) -> bool {
         && graph.sender(1).is_some_and(|sender| is_address(sender, b"owner-inner", b"example.org"))
 }
 
-fn builds_a_graph(alloc: Global) -> Result<Seen, Unready> {
-    let tables = tables(alloc, false, OWNED)?;
+/// A message from `a@example.com`.
+#[derive(Drop)]
+pub(crate) struct Message {
+    pub sender: Address,
+    pub recipients: Vec<Address>,
+}
+
+fn recipients(alloc: Global, to: &[u8]) -> Result<Vec<Address>, Unready> {
+    let recipients = Vec::from_array(alloc, [address(alloc, to)?])?;
+    Ok(recipients)
+}
+
+/// A message to this local address.
+pub(crate) fn message_to(alloc: Global, to: &[u8]) -> Result<Message, Unready> {
     let sender = address(alloc, b"a@example.com")?;
-    let recipients = Vec::from_array(alloc, [address(alloc, b"outer")?])?;
-    Ok(twice!(
-        match Graph::build(alloc, &tables, Some(&sender), &recipients, 6, 1) {
-            Ok(graph) => {
-                Answer::given(are_nodes(&graph) && are_steps(&graph) && are_senders(&graph))
-            }
-            Err(TableFault::Memory) => Answer::Refused,
-            Err(_) => Answer::Wrong,
-        }
-    ))
+    let recipients = recipients(alloc, to)?;
+    Ok(Message { sender, recipients })
+}
+
+fn is_built(alloc: Global, tables: &Tables, message: &Message) -> Answer {
+    match Graph::build(
+        alloc,
+        tables,
+        Some(&message.sender),
+        &message.recipients,
+        6,
+        1,
+    ) {
+        Ok(graph) => judged(graph, |graph| {
+            are_nodes(graph) && are_steps(graph) && are_senders(graph)
+        }),
+        Err(TableFault::Memory) => Answer::Refused,
+        Err(_) => Answer::Wrong,
+    }
+}
+
+fn builds_a_graph(alloc: Global) -> Result<Seen, Unready> {
+    let message = message_to(alloc, b"outer")?;
+    let tables = tables(alloc, false, OWNED)?;
+    lent(
+        tables,
+        |tables| Ok(twice!(is_built(alloc, tables, &message))),
+    )
 }
 
 /// One node and one owner fewer than there are.
+fn is_too_large(alloc: Global, tables: &Tables, recipients: &[Address]) -> Answer {
+    match Graph::build(alloc, tables, None, recipients, 5, 1) {
+        Err(TableFault::TooManyNames) => Answer::Right,
+        Err(TableFault::Memory) => Answer::Refused,
+        _ => Answer::Wrong,
+    }
+}
+
 fn builds_no_larger_graph(alloc: Global) -> Result<Seen, Unready> {
+    let recipients = recipients(alloc, b"outer")?;
     let tables = tables(alloc, false, OWNED)?;
-    let recipients = Vec::from_array(alloc, [address(alloc, b"outer")?])?;
-    Ok(twice!(
-        match Graph::build(alloc, &tables, None, &recipients, 5, 1) {
-            Err(TableFault::TooManyNames) => Answer::Right,
-            Err(TableFault::Memory) => Answer::Refused,
-            _ => Answer::Wrong,
-        }
-    ))
+    lent(
+        tables,
+        |tables| Ok(twice!(is_too_large(alloc, tables, &recipients))),
+    )
 }
 
 /// The outer list, which nobody writes to here, is not there.
+fn is_reached(alloc: Global, tables: &Tables, message: &Message) -> Answer {
+    match Graph::reached(alloc, tables, Some(&message.sender), &message.recipients, 6) {
+        Ok(graph) => judged(graph, |graph| {
+            graph.nodes() == 3 && graph.roots().len() == 1 && are_senders(graph)
+        }),
+        Err(TableFault::Memory) => Answer::Refused,
+        Err(_) => Answer::Wrong,
+    }
+}
+
 fn builds_what_is_reached(alloc: Global) -> Result<Seen, Unready> {
+    let message = message_to(alloc, b"inner")?;
     let tables = tables(alloc, false, OWNED)?;
-    let sender = address(alloc, b"a@example.com")?;
-    let recipients = Vec::from_array(alloc, [address(alloc, b"inner")?])?;
-    Ok(twice!(
-        match Graph::reached(alloc, &tables, Some(&sender), &recipients, 6) {
-            Ok(graph) => Answer::given(
-                graph.nodes() == 3 && graph.roots().len() == 1 && are_senders(&graph)
-            ),
-            Err(TableFault::Memory) => Answer::Refused,
-            Err(_) => Answer::Wrong,
-        }
-    ))
+    lent(
+        tables,
+        |tables| Ok(twice!(is_reached(alloc, tables, &message))),
+    )
+}
+
+fn are_counted(alloc: Global, tables: &Tables) -> Answer {
+    match TableCounts::of(alloc, tables, 6, 1) {
+        Ok(counts) => Answer::given(counts.names == 6 && counts.owners == 1),
+        Err(TableFault::Memory) => Answer::Refused,
+        Err(_) => Answer::Wrong,
+    }
 }
 
 fn counts_names(alloc: Global) -> Result<Seen, Unready> {
     let tables = tables(alloc, false, OWNED)?;
-    Ok(twice!(match TableCounts::of(alloc, &tables, 6, 1) {
-        Ok(counts) => Answer::given(counts.names == 6 && counts.owners == 1),
-        Err(TableFault::Memory) => Answer::Refused,
-        Err(_) => Answer::Wrong,
-    }))
+    lent(tables, |tables| Ok(twice!(are_counted(alloc, tables))))
 }
 
 pub(crate) fn tell<R: Print + AllocGlobal>(teller: &mut Teller<'_, R>) {

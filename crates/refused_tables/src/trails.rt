@@ -3,7 +3,7 @@ ghost use Rattle.std.specs.Prelude.{◌<◌, length, All};
 ghost use Rattle.relay_pairs.specs.Pairs.{ArePairs};
 
 use crate::pairs::graph;
-use growth_answers::{Answer, Seen, Teller, Unready, case};
+use growth_answers::{Answer, Seen, Teller, Unready, case, lent, twice};
 use relay_pairs::{Reached, reached_pairs};
 use relay_rounds::NoGate;
 use relay_tables::Graph;
@@ -11,15 +11,18 @@ use relay_trails::{Found, best_trails};
 use std::alloc::Global;
 use std::thread::Threads;
 
+fn is_trail(found: &Found, sender: u32, items: &[usize], nodes: &[u32]) -> bool {
+    found.sender == sender
+        && found.recipient == 0
+        && found.items.as_slice() == items
+        && found.nodes.as_slice() == nodes
+}
+
 /// Whether kim is the second item of `outer`, under the envelope's sender, and is the owner's under the other.
 fn are_trails(found: &[Found]) -> bool {
     match found {
         [direct, nested] => {
-            direct.sender == 0
-                && direct.recipient == 0
-                && direct.items.as_slice() == [1].as_slice()
-                && nested.sender == 1
-                && nested.items.as_slice() == [0, 0].as_slice()
+            is_trail(direct, 0, &[1], &[0, 3]) && is_trail(nested, 1, &[0, 0], &[0, 1, 3])
         }
         _ => false,
     }
@@ -35,13 +38,18 @@ fn is_found(alloc: Global, graph: &Graph, pairs: &[Reached]) -> Answer
     }
 }
 
+fn finds_its_trails<R: Threads + Sync>(
+    rt: &R,
+    alloc: Global,
+    graph: &Graph,
+) -> Result<Seen, Unready> {
+    let pairs = reached_pairs(rt, alloc, graph, 2, 1, 100, &NoGate)?;
+    Ok(twice!(is_found(alloc, graph, &pairs)))
+}
+
 fn finds_trails<R: Threads + Sync>(rt: &R, alloc: Global) -> Result<Seen, Unready> {
     let graph = graph(alloc)?;
-    let pairs = reached_pairs(rt, alloc, &graph, 2, 1, 100, &NoGate)?;
-    Ok(match is_found(alloc, &graph, &pairs) {
-        Answer::Refused => Seen::at_last(is_found(alloc, &graph, &pairs)),
-        answer => Seen::at_once(answer),
-    })
+    lent(graph, |graph| finds_its_trails(rt, alloc, graph))
 }
 
 pub(crate) fn tell<R: Print + AllocGlobal + Threads + Sync>(teller: &mut Teller<'_, R>) {

@@ -1,8 +1,8 @@
 //! The files that administrators write.
 use growth_answers::inputs::are_texts;
-use growth_answers::{Answer, Seen, Teller, Unready, call, case, twice};
+use growth_answers::{Answer, Seen, Teller, Unready, call, case, judged, lent, lent_mut, twice};
 use relay_aliasfile::{
-    AliasFile, Entry, FaultKind, IncludeFile, Item, Items, LineFault, include_names,
+    AliasFile, Entry, FaultKind, IncludeFile, Item, Items, LineFault, MailboxFile, include_names,
     include_names_of, parse_aliases, parse_include, parse_mailboxes,
 };
 use relay_text::Text;
@@ -47,17 +47,21 @@ fn is_alias_file(file: &AliasFile) -> bool {
 
 fn reads_aliases(alloc: Global) -> Result<Answer, Unready> {
     match parse_aliases(alloc, ALIASES) {
-        Ok(file) => Ok(Answer::given(is_alias_file(&file))),
+        Ok(file) => Ok(judged(file, is_alias_file)),
         Err(_) => Ok(Answer::Refused),
+    }
+}
+
+fn are_included(alloc: Global, file: &AliasFile) -> Answer {
+    match include_names(alloc, file) {
+        Ok(names) => judged(names, |names| are_texts(names.as_slice(), &[b"/l", b"/m"])),
+        Err(_) => Answer::Refused,
     }
 }
 
 fn lists_includes_of_aliases(alloc: Global) -> Result<Seen, Unready> {
     let file = parse_aliases(alloc, b"list: :include:/l\nb: :include:/l, :include:/m\n")?;
-    Ok(twice!(match include_names(alloc, &file) {
-        Ok(names) => Answer::given(are_texts(names.as_slice(), &[b"/l", b"/m"])),
-        Err(_) => Answer::Refused,
-    }))
+    lent(file, |file| Ok(twice!(are_included(alloc, file))))
 }
 
 fn is_include_file(file: &IncludeFile) -> bool {
@@ -70,26 +74,31 @@ fn is_include_file(file: &IncludeFile) -> bool {
 
 fn reads_an_include_file(alloc: Global) -> Result<Answer, Unready> {
     match parse_include(alloc, b":include:/l, joe\n\"q\n") {
-        Ok(file) => Ok(Answer::given(is_include_file(&file))),
+        Ok(file) => Ok(judged(file, is_include_file)),
         Err(_) => Ok(Answer::Refused),
+    }
+}
+
+fn is_included(alloc: Global, file: &IncludeFile) -> Answer {
+    match include_names_of(alloc, file) {
+        Ok(names) => judged(names, |names| are_texts(names.as_slice(), &[b"/l"])),
+        Err(_) => Answer::Refused,
     }
 }
 
 fn lists_includes_of_an_include_file(alloc: Global) -> Result<Seen, Unready> {
     let file = parse_include(alloc, b":include:/l, joe\n:include:/l\n")?;
-    Ok(twice!(match include_names_of(alloc, &file) {
-        Ok(names) => Answer::given(are_texts(names.as_slice(), &[b"/l"])),
-        Err(_) => Answer::Refused,
-    }))
+    lent(file, |file| Ok(twice!(is_included(alloc, file))))
+}
+
+fn is_mailbox_file(file: &MailboxFile) -> bool {
+    are_texts(file.names.as_slice(), &[b"joe", b"kim"])
+        && file.faults.as_slice() == [fault(2, FaultKind::BadLine)].as_slice()
 }
 
 fn reads_mailboxes(alloc: Global) -> Result<Answer, Unready> {
     match parse_mailboxes(alloc, b"Joe\na b\nkim\njoe\n") {
-        Ok(file) => {
-            let are_right = are_texts(file.names.as_slice(), &[b"joe", b"kim"])
-                && file.faults.as_slice() == [fault(2, FaultKind::BadLine)].as_slice();
-            Ok(Answer::given(are_right))
-        }
+        Ok(file) => Ok(judged(file, is_mailbox_file)),
         Err(_) => Ok(Answer::Refused),
     }
 }
@@ -122,18 +131,27 @@ fn pushed(items: &mut Items, item: Item) -> Answer {
     }
 }
 
-/// Four items lie in the value itself, and a fifth doesn't.
-fn adds_to_items(alloc: Global) -> Result<Seen, Unready> {
+fn four_items(alloc: Global) -> Result<Items, Unready> {
     let mut items = Items::new(alloc);
     for _ in 0..4 {
         items.push(bare(alloc, b"a")?)?;
     }
+    Ok(items)
+}
+
+fn pushed_at_last(alloc: Global, items: &mut Items) -> Result<Seen, Unready> {
     let first = bare(alloc, b"b")?;
     let again = bare(alloc, b"b")?;
-    Ok(match pushed(&mut items, first) {
-        Answer::Refused => Seen::at_last(pushed(&mut items, again)),
+    Ok(match pushed(items, first) {
+        Answer::Refused => Seen::at_last(pushed(items, again)),
         answer => Seen::at_once(answer),
     })
+}
+
+/// Four items lie in the value itself, and a fifth doesn't.
+fn adds_to_items(alloc: Global) -> Result<Seen, Unready> {
+    let items = four_items(alloc)?;
+    lent_mut(items, |items| pushed_at_last(alloc, items))
 }
 
 pub(crate) fn tell<R: Print + AllocGlobal>(teller: &mut Teller<'_, R>) {

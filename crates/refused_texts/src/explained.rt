@@ -1,7 +1,7 @@
 //! What is asked for, and why kim is not reached: a list that would lead there is not.
 use crate::texts::LONG;
 use growth_answers::inputs::{address, is_address};
-use growth_answers::{Answer, Seen, Teller, Unready, call, case, twice};
+use growth_answers::{Answer, Seen, Teller, Unready, call, case, judged, lent, twice};
 use relay_explain::{Asked, Entry, Explanation, Listed, Target, explanation_text};
 use relay_text::{Seq, Text, TextFault};
 use std::alloc::{AllocError, Global};
@@ -20,18 +20,22 @@ fn is_long_at(asked: &Asked, domain: &[u8]) -> bool {
 
 fn reads_what_is_asked(alloc: Global) -> Result<Answer, Unready> {
     Ok(match Asked::parse(alloc, ASKED) {
-        Ok(asked) => Answer::given(is_long_at(&asked, b"example.net")),
+        Ok(asked) => judged(asked, |asked| is_long_at(asked, b"example.net")),
         Err(TextFault::Memory) => Answer::Refused,
         Err(_) => Answer::Wrong,
     })
 }
 
+fn is_copied(alloc: Global, asked: &Asked) -> Answer {
+    match asked.copy(alloc) {
+        Ok(copy) => judged(copy, |copy| is_long_at(copy, b"example.org")),
+        Err(_) => Answer::Refused,
+    }
+}
+
 fn copies_what_is_asked(alloc: Global) -> Result<Seen, Unready> {
     let asked = Asked::Address(address(alloc, LONG)?);
-    Ok(twice!(match asked.copy(alloc) {
-        Ok(copy) => Answer::given(is_long_at(&copy, b"example.org")),
-        Err(_) => Answer::Refused,
-    }))
+    lent(asked, |asked| Ok(twice!(is_copied(alloc, asked))))
 }
 
 fn kim(alloc: Global) -> Result<Text, AllocError> {
@@ -50,22 +54,33 @@ fn unreached(alloc: Global) -> Result<Seq<Listed>, AllocError> {
 }
 
 fn explanation(alloc: Global) -> Result<Explanation, Unready> {
+    let name = address(alloc, b"kim")?;
+    let target = kim(alloc)?;
+    let stands_for = kim(alloc)?;
+    let unreached = unreached(alloc)?;
     Ok(Explanation {
-        asked: Asked::Name(address(alloc, b"kim")?),
-        target: Target::Missing(kim(alloc)?),
+        asked: Asked::Name(name),
+        target: Target::Missing(target),
         decision: None,
         answers: Seq::of(Vec::new(alloc)),
-        stands_for: Target::Missing(kim(alloc)?),
-        unreached: unreached(alloc)?,
+        stands_for: Target::Missing(stands_for),
+        unreached,
     })
+}
+
+fn is_written(alloc: Global, explanation: &Explanation) -> Answer {
+    match explanation_text(alloc, explanation) {
+        Ok(text) => judged(text, |text| text.as_bytes() == EXPLANATION),
+        Err(_) => Answer::Refused,
+    }
 }
 
 fn writes_an_explanation(alloc: Global) -> Result<Seen, Unready> {
     let explanation = explanation(alloc)?;
-    Ok(twice!(match explanation_text(alloc, &explanation) {
-        Ok(text) => Answer::given(text.as_bytes() == EXPLANATION),
-        Err(_) => Answer::Refused,
-    }))
+    lent(
+        explanation,
+        |explanation| Ok(twice!(is_written(alloc, explanation))),
+    )
 }
 
 pub(crate) fn tell<R: Print + AllocGlobal>(teller: &mut Teller<'_, R>) {

@@ -8,6 +8,7 @@ mod places;
 mod returned;
 mod texts;
 mod wire;
+mod words;
 
 use growth_answers::{DONE, Teller};
 use std::env;
@@ -23,6 +24,7 @@ fn main(rt: HostRuntime) -> ExitCode {
     texts::tell(&mut teller);
     alias_files::tell(&mut teller);
     wire::tell(&mut teller);
+    words::tell(&mut teller);
     returned::tell(&mut teller);
     places::tell(&mut teller);
     explained::tell(&mut teller);

@@ -1,10 +1,11 @@
 //! What is returned behind a plan of one transaction: that kim, to whom `a@example.net` wrote too, isn't known.
 use crate::wire::{is_written, plan};
 use growth_answers::inputs::address;
-use growth_answers::{Answer, Seen, Teller, Unready, call, case, twice};
+use growth_answers::{Answer, Seen, Teller, Unready, call, case, judged, lent, twice};
 use relay_ordering::in_order;
 use relay_returns::{Return, return_line, returned_plan_text, returned_wire_text};
-use relay_text::{Seq, Text};
+use relay_text::{Address, Seq, Text};
+use relay_wire::Plan;
 use std::alloc::Global;
 
 const LINE: &[u8] = b"missing kim in envelope for <kim@example.org>";
@@ -45,14 +46,23 @@ fn blocks(alloc: Global) -> Result<Vec<Return>, Unready> {
     Ok(Vec::from_array(alloc, [block])?)
 }
 
+fn is_line(alloc: Global, recipient: &Address) -> Answer {
+    match return_line(alloc, b"finding missing kim in envelope", recipient) {
+        Ok(line) => Answer::given(line.as_slice() == LINE),
+        Err(_) => Answer::Refused,
+    }
+}
+
 fn writes_a_line(alloc: Global) -> Result<Seen, Unready> {
     let recipient = address(alloc, b"kim")?;
-    Ok(twice!({
-        match return_line(alloc, b"finding missing kim in envelope", &recipient) {
-            Ok(line) => Answer::given(line.as_slice() == LINE),
-            Err(_) => Answer::Refused,
-        }
-    }))
+    lent(recipient, |recipient| Ok(twice!(is_line(alloc, recipient))))
+}
+
+fn are_sorted(blocks: &[Return]) -> bool {
+    matches!(
+        blocks,
+        [block] if matches!(block.lines.as_slice(), [line] if line.as_bytes() == LINE)
+    )
 }
 
 fn sorts_blocks(alloc: Global) -> Result<Answer, Unready> {
@@ -61,24 +71,33 @@ fn sorts_blocks(alloc: Global) -> Result<Answer, Unready> {
         return Err(Unready::Wrong);
     }
     Ok(match in_order(alloc, blocks) {
-        Ok(sorted) => Answer::given(matches!(
-            sorted.as_slice(),
-            [block] if matches!(block.lines.as_slice(), [line] if line.as_bytes() == LINE)
-        )),
+        Ok(sorted) => judged(sorted, |sorted| are_sorted(sorted.as_slice())),
         Err(_) => Answer::Refused,
+    })
+}
+
+fn plan_is_written(alloc: Global, plan: &Plan) -> Result<Seen, Unready> {
+    let blocks = blocks(alloc)?;
+    lent(blocks, |blocks| {
+        Ok(twice!({ is_written(returned_plan_text(alloc, plan, blocks), PLAN) }))
     })
 }
 
 fn writes_a_plan(alloc: Global) -> Result<Seen, Unready> {
     let plan = plan(alloc)?;
+    lent(plan, |plan| plan_is_written(alloc, plan))
+}
+
+fn commands_are_written(alloc: Global, plan: &Plan) -> Result<Seen, Unready> {
     let blocks = blocks(alloc)?;
-    Ok(twice!({ is_written(returned_plan_text(alloc, &plan, &blocks), PLAN) }))
+    lent(blocks, |blocks| {
+        Ok(twice!({ is_written(returned_wire_text(alloc, plan, blocks), COMMANDS) }))
+    })
 }
 
 fn writes_commands(alloc: Global) -> Result<Seen, Unready> {
     let plan = plan(alloc)?;
-    let blocks = blocks(alloc)?;
-    Ok(twice!({ is_written(returned_wire_text(alloc, &plan, &blocks), COMMANDS) }))
+    lent(plan, |plan| commands_are_written(alloc, plan))
 }
 
 pub(crate) fn tell<R: Print + AllocGlobal>(teller: &mut Teller<'_, R>) {

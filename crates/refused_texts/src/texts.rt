@@ -1,6 +1,6 @@
 //! Addresses, names and lines of text.
 use growth_answers::inputs::{address, are_texts, is_address};
-use growth_answers::{Answer, Seen, Teller, Unready, call, case, twice};
+use growth_answers::{Answer, Seen, Teller, Unready, call, case, judged, lent, lent_mut, twice};
 use relay_text::{
     Address, FirstPlaces, Line, Text, TextFault, TextSet, logical_lines, parse_name, parse_path,
     quoted_content, write_local, write_path,
@@ -16,7 +16,7 @@ const DOTTED: &[u8] = b"a..local-part-that-does-not-lie-in-the-value-itself";
 /// What is read of this text, which spells an address.
 fn read_address(alloc: Global, text: &[u8], local: &[u8], domain: &[u8]) -> Answer {
     match address(alloc, text) {
-        Ok(address) => Answer::given(is_address(&address, local, domain)),
+        Ok(address) => judged(address, |address| is_address(address, local, domain)),
         Err(TextFault::Memory) => Answer::Refused,
         Err(_) => Answer::Wrong,
     }
@@ -30,14 +30,25 @@ fn reads_a_quoted_address(alloc: Global) -> Result<Answer, Unready> {
     Ok(read_address(alloc, b"\"a\\\"b\"@X.net", b"a\"b", b"x.net"))
 }
 
+fn is_made(alloc: Global, address: &Address) -> Answer {
+    match Address::new(alloc, address.local(), address.domain()) {
+        Ok(made) => judged(made, |made| is_address(made, DOTTED, b"x")),
+        Err(_) => Answer::Refused,
+    }
+}
+
 fn makes_an_address(alloc: Global) -> Result<Answer, Unready> {
     let address = address(
         alloc,
         b"a..local-part-that-does-not-lie-in-the-value-itself@x",
     )?;
-    match Address::new(alloc, address.local(), address.domain()) {
-        Ok(made) => Ok(Answer::given(is_address(&made, DOTTED, b"x"))),
-        Err(_) => Ok(Answer::Refused),
+    lent(address, |address| Ok(is_made(alloc, address)))
+}
+
+fn is_copied(alloc: Global, address: &Address) -> Answer {
+    match address.copy(alloc) {
+        Ok(copy) => judged(copy, |copy| is_address(copy, DOTTED, b"x")),
+        Err(_) => Answer::Refused,
     }
 }
 
@@ -46,10 +57,7 @@ fn copies_an_address(alloc: Global) -> Result<Seen, Unready> {
         alloc,
         b"a..local-part-that-does-not-lie-in-the-value-itself@x",
     )?;
-    Ok(twice!(match address.copy(alloc) {
-        Ok(copy) => Answer::given(is_address(&copy, DOTTED, b"x")),
-        Err(_) => Answer::Refused,
-    }))
+    lent(address, |address| Ok(twice!(is_copied(alloc, address))))
 }
 
 #[tactic(auto, unfolding(relay_text::specs::Addresses::is_origin, relay_text::specs::Addresses::is_domain))]
@@ -59,10 +67,9 @@ fn path(alloc: Global, text: &[u8]) -> Result<Option<Address>, TextFault> {
 
 fn reads_a_path(alloc: Global) -> Result<Answer, Unready> {
     match path(alloc, b"<local-part-that-does-not-lie-in-the-value-itself>") {
-        Ok(Some(address)) => {
-            let is_right = is_address(&address, LONG, b"example.org");
-            Ok(Answer::given(is_right))
-        }
+        Ok(Some(address)) => Ok(judged(address, |address| {
+            is_address(address, LONG, b"example.org")
+        })),
         Err(TextFault::Memory) => Ok(Answer::Refused),
         _ => Ok(Answer::Wrong),
     }
@@ -74,7 +81,7 @@ fn reads_the_null_path(alloc: Global) -> Result<Answer, Unready> {
 
 fn reads_a_name(alloc: Global) -> Result<Answer, Unready> {
     match parse_name(alloc, b"\"a @\\\\b\"") {
-        Ok(name) => Ok(Answer::given(name.as_bytes() == b"a @\\b".as_slice())),
+        Ok(name) => Ok(judged(name, |name| name.as_bytes() == b"a @\\b".as_slice())),
         Err(TextFault::Memory) => Ok(Answer::Refused),
         Err(_) => Ok(Answer::Wrong),
     }
@@ -82,50 +89,64 @@ fn reads_a_name(alloc: Global) -> Result<Answer, Unready> {
 
 fn reads_a_quoted_string(alloc: Global) -> Result<Answer, Unready> {
     match quoted_content(alloc, b"\"|p -x, y\"") {
-        Ok(Some(content)) => Ok(Answer::given(content.as_bytes() == b"|p -x, y".as_slice())),
+        Ok(Some(content)) => Ok(judged(content, |content| {
+            content.as_bytes() == b"|p -x, y".as_slice()
+        })),
         Ok(None) => Ok(Answer::Wrong),
         Err(_) => Ok(Answer::Refused),
     }
 }
 
 /// Behind an `x` that stands there already.
+fn path_is_written(address: &Address, out: &mut Vec<u8>) -> Answer {
+    match write_path(Some(address), out) {
+        Ok(()) => Answer::given(out.as_slice() == b"x<\"a\\\"b\"@x.net>".as_slice()),
+        Err(_) => Answer::refused(out.as_slice() == b"x".as_slice()),
+    }
+}
+
 fn writes_a_path(alloc: Global) -> Result<Seen, Unready> {
     let address = address(alloc, b"\"a\\\"b\"@X.net")?;
     let mut out = Vec::from_slice(alloc, b"x")?;
-    Ok(twice!(match write_path(Some(&address), &mut out) {
-        Ok(()) => Answer::given(out.as_slice() == b"x<\"a\\\"b\"@x.net>".as_slice()),
+    Ok(twice!(path_is_written(&address, &mut out)))
+}
+
+fn local_part_is_written(out: &mut Vec<u8>) -> Answer {
+    match write_local(b"a..b", out) {
+        Ok(()) => Answer::given(out.as_slice() == b"x\"a..b\"".as_slice()),
         Err(_) => Answer::refused(out.as_slice() == b"x".as_slice()),
-    }))
+    }
 }
 
 fn writes_a_local_part(alloc: Global) -> Result<Seen, Unready> {
     let mut out = Vec::from_slice(alloc, b"x")?;
-    Ok(twice!(match write_local(b"a..b", &mut out) {
-        Ok(()) => Answer::given(out.as_slice() == b"x\"a..b\"".as_slice()),
-        Err(_) => Answer::refused(out.as_slice() == b"x".as_slice()),
-    }))
+    Ok(twice!(local_part_is_written(&mut out)))
 }
 
 fn copies_a_text(alloc: Global) -> Result<Answer, Unready> {
     match Text::copy_of(alloc, LONG) {
-        Ok(text) => Ok(Answer::given(text.as_bytes() == LONG)),
+        Ok(text) => Ok(judged(text, |text| text.as_bytes() == LONG)),
         Err(_) => Ok(Answer::Refused),
     }
 }
 
 fn folds_a_text(alloc: Global) -> Result<Answer, Unready> {
     match Text::folded_copy_of(alloc, b"LOCAL-part-that-does-not-lie-in-the-value-itself") {
-        Ok(text) => Ok(Answer::given(text.as_bytes() == LONG)),
+        Ok(text) => Ok(judged(text, |text| text.as_bytes() == LONG)),
         Err(_) => Ok(Answer::Refused),
     }
 }
 
-fn appends_to_a_text(alloc: Global) -> Result<Seen, Unready> {
-    let mut text = Text::copy_of(alloc, b"a..")?;
-    Ok(twice!(match text.append(alloc, LONG) {
+fn appended(alloc: Global, text: &mut Text) -> Answer {
+    match text.append(alloc, LONG) {
         Ok(()) => Answer::given(text.as_bytes() == DOTTED),
         Err(_) => Answer::refused(text.as_bytes() == b"a..".as_slice()),
-    }))
+    }
+}
+
+fn appends_to_a_text(alloc: Global) -> Result<Seen, Unready> {
+    let text = Text::copy_of(alloc, b"a..")?;
+    lent_mut(text, |text| Ok(twice!(appended(alloc, text))))
 }
 
 fn are_lines(lines: &[Line]) -> bool {
@@ -142,30 +163,33 @@ fn are_lines(lines: &[Line]) -> bool {
 
 fn joins_lines(alloc: Global) -> Result<Answer, Unready> {
     match logical_lines(alloc, b" x\na: b\n# note\n  c\nd\n") {
-        Ok(lines) => {
-            let are_right = are_lines(lines.lines.as_slice())
-                && lines.orphans.as_slice() == [1].as_slice();
-            Ok(Answer::given(are_right))
-        }
+        Ok(lines) => Ok(judged(lines, |lines| {
+            are_lines(lines.lines.as_slice()) && lines.orphans.as_slice() == [1].as_slice()
+        })),
         Err(_) => Ok(Answer::Refused),
     }
 }
 
-fn puts_texts_in_order(alloc: Global) -> Result<Answer, Unready> {
-    let texts = Vec::from_array(
-        alloc,
-        [
-            Text::copy_of(alloc, b"b")?,
-            Text::copy_of(alloc, b"a")?,
-            Text::copy_of(alloc, b"b")?,
-        ],
-    )?;
-    match TextSet::of(alloc, &texts) {
-        Ok(set) => Ok(Answer::given(
-            set.contains(b"a") && set.contains(b"b") && !set.contains(b"c"),
-        )),
-        Err(_) => Ok(Answer::Refused),
+fn three_texts(alloc: Global) -> Result<Vec<Text>, Unready> {
+    let first = Text::copy_of(alloc, b"b")?;
+    let second = Text::copy_of(alloc, b"a")?;
+    let third = Text::copy_of(alloc, b"b")?;
+    let texts = Vec::from_array(alloc, [first, second, third])?;
+    Ok(texts)
+}
+
+fn are_in_order(alloc: Global, texts: &[Text]) -> Answer {
+    match TextSet::of(alloc, texts) {
+        Ok(set) => judged(set, |set| {
+            set.contains(b"a") && set.contains(b"b") && !set.contains(b"c")
+        }),
+        Err(_) => Answer::Refused,
     }
+}
+
+fn puts_texts_in_order(alloc: Global) -> Result<Answer, Unready> {
+    let texts = three_texts(alloc)?;
+    lent(texts, |texts| Ok(are_in_order(alloc, texts)))
 }
 
 /// What adding a text answers; where it's refused, the set doesn't have it.
@@ -187,11 +211,10 @@ fn added_at_last(alloc: Global, set: &mut TextSet, byte: u8) -> Result<Seen, Unr
 }
 
 /// So many texts that the tree grows by more than one node.
-fn adds_to_a_set(alloc: Global) -> Result<Seen, Unready> {
-    let mut set = TextSet::new(alloc);
+fn adds_texts(alloc: Global, set: &mut TextSet) -> Result<Seen, Unready> {
     let mut seen = Seen::Answered;
     for byte in b'a'..b'z' {
-        seen = seen.max(added_at_last(alloc, &mut set, byte)?);
+        seen = seen.max(added_at_last(alloc, set, byte)?);
         if !seen.is_answered() {
             return Ok(seen);
         }
@@ -200,14 +223,32 @@ fn adds_to_a_set(alloc: Global) -> Result<Seen, Unready> {
     Ok(seen.max(Seen::at_once(Answer::given(are_there && !set.contains(b"z")))))
 }
 
-fn lists_a_set(alloc: Global) -> Result<Answer, Unready> {
+fn adds_to_a_set(alloc: Global) -> Result<Seen, Unready> {
+    lent_mut(TextSet::new(alloc), |set| adds_texts(alloc, set))
+}
+
+fn set_of_two(alloc: Global) -> Result<TextSet, Unready> {
     let mut set = TextSet::new(alloc);
     set.insert(Vec::from_slice(alloc, b"b")?)?;
     set.insert(Vec::from_slice(alloc, b"a")?)?;
     set.insert(Vec::from_slice(alloc, b"b")?)?;
+    Ok(set)
+}
+
+fn lists_a_set(alloc: Global) -> Result<Answer, Unready> {
+    let set = set_of_two(alloc)?;
     match set.into_seq(alloc) {
-        Ok(texts) => Ok(Answer::given(are_texts(texts.as_slice(), &[b"a", b"b"]))),
+        Ok(texts) => Ok(judged(texts, |texts| {
+            are_texts(texts.as_slice(), &[b"a", b"b"])
+        })),
         Err(_) => Ok(Answer::Refused),
+    }
+}
+
+fn pushed(texts: &mut FirstPlaces) -> Answer {
+    match texts.push(b"b") {
+        Ok(()) => Answer::Right,
+        Err(_) => Answer::Refused,
     }
 }
 
@@ -217,10 +258,7 @@ fn adds_to_first_places(alloc: Global) -> Result<Seen, Unready> {
     for text in [b"a", b"b", b"a", b"c"] {
         texts.push(text)?;
     }
-    let seen = twice!(match texts.push(b"b") {
-        Ok(()) => Answer::Right,
-        Err(_) => Answer::Refused,
-    });
+    let seen = twice!(pushed(&mut texts));
     let places = texts.find(alloc)?;
     if seen.is_answered() && places.as_slice() != [0, 1, 0, 3, 1].as_slice() {
         return Ok(Seen::Wrong);

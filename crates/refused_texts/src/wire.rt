@@ -1,6 +1,6 @@
 //! The texts of a plan of one transaction, from `a@example.net` to joe's mailbox.
 use growth_answers::inputs::{address, is_address};
-use growth_answers::{Answer, Seen, Teller, Unready, call, case, twice};
+use growth_answers::{Answer, Seen, Teller, Unready, call, case, judged, lent, twice};
 use relay_routes::{Hosts, Transport};
 use relay_text::{Address, Seq, Text};
 use relay_wire::{
@@ -35,23 +35,40 @@ const SCRIPT: &[u8] = b"LHLO relay.example.org\r\n\
     RCPT TO:<joe@example.org>\r\n\
     DATA\r\n";
 
+fn to_joe(alloc: Global) -> Result<Vec<Address>, Unready> {
+    let to = Vec::from_array(alloc, [address(alloc, b"joe")?])?;
+    Ok(to)
+}
+
+fn hosts(alloc: Global) -> Result<Hosts, AllocError> {
+    let host = Text::copy_of(alloc, b"unix:mbox")?;
+    Hosts::one(alloc, host)
+}
+
 fn planned(alloc: Global) -> Result<Planned, Unready> {
-    let mut to = Vec::new(alloc);
-    to.push(address(alloc, b"joe")?)?;
+    let from = address(alloc, b"a@example.net")?;
+    let nexthop = Text::copy_of(alloc, b"unix:mbox")?;
+    let hosts = hosts(alloc)?;
+    let to = to_joe(alloc)?;
     Ok(Planned {
-        from: Some(address(alloc, b"a@example.net")?),
+        from: Some(from),
         transport: Transport::Lmtp,
-        nexthop: Text::copy_of(alloc, b"unix:mbox")?,
-        hosts: Hosts::one(alloc, Text::copy_of(alloc, b"unix:mbox")?)?,
+        nexthop,
+        hosts,
         to: Seq::of(to),
     })
 }
 
+fn transactions(alloc: Global) -> Result<Vec<Planned>, Unready> {
+    let transactions = Vec::from_array(alloc, [planned(alloc)?])?;
+    Ok(transactions)
+}
+
 pub(crate) fn plan(alloc: Global) -> Result<Plan, Unready> {
-    let mut transactions = Vec::new(alloc);
-    transactions.push(planned(alloc)?)?;
+    let hostname = Text::copy_of(alloc, HOSTNAME)?;
+    let transactions = transactions(alloc)?;
     Ok(Plan {
-        hostname: Text::copy_of(alloc, HOSTNAME)?,
+        hostname,
         transactions: Seq::of(transactions),
         findings: Seq::of(Vec::new(alloc)),
     })
@@ -60,31 +77,39 @@ pub(crate) fn plan(alloc: Global) -> Result<Plan, Unready> {
 /// Whether a text that was written is this one.
 pub(crate) fn is_written(text: Result<Text, AllocError>, wanted: &[u8]) -> Answer {
     match text {
-        Ok(text) => Answer::given(text.as_bytes() == wanted),
+        Ok(text) => judged(text, |text| text.as_bytes() == wanted),
         Err(_) => Answer::Refused,
     }
 }
 
 fn writes_a_plan(alloc: Global) -> Result<Seen, Unready> {
     let plan = plan(alloc)?;
-    Ok(twice!(is_written(plan_text(alloc, &plan), PLAN)))
+    lent(
+        plan,
+        |plan| Ok(twice!(is_written(plan_text(alloc, plan), PLAN))),
+    )
 }
 
 fn writes_commands(alloc: Global) -> Result<Seen, Unready> {
     let plan = plan(alloc)?;
-    Ok(twice!(is_written(wire_text(alloc, &plan), COMMANDS)))
+    lent(
+        plan,
+        |plan| Ok(twice!(is_written(wire_text(alloc, plan), COMMANDS))),
+    )
 }
 
 fn writes_a_finding(alloc: Global) -> Result<Seen, Unready> {
     let name = Text::copy_of(alloc, b"kim")?;
     let place = Place::Alias(Text::copy_of(alloc, b"a b")?);
     let finding = Finding::Missing(name, place);
-    Ok(twice!({
-        is_written(
-            finding_line(alloc, &finding),
-            b"finding missing kim in alias \"a b\"",
-        )
-    }))
+    lent(finding, |finding| {
+        Ok(twice!({
+            is_written(
+                finding_line(alloc, finding),
+                b"finding missing kim in alias \"a b\"",
+            )
+        }))
+    })
 }
 
 fn writes_a_check(alloc: Global) -> Result<Seen, Unready> {
@@ -98,19 +123,16 @@ fn writes_a_check(alloc: Global) -> Result<Seen, Unready> {
     }))
 }
 
-fn writes_a_script(alloc: Global) -> Result<Seen, Unready> {
-    let planned = planned(alloc)?;
+fn script_is_written(alloc: Global, planned: &Planned) -> Result<Seen, Unready> {
     if !is_hostname(HOSTNAME) {
         return Err(Unready::Wrong);
     }
-    Ok(
-        match is_written(script(alloc, &planned, HOSTNAME), SCRIPT) {
-            Answer::Refused => {
-                Seen::at_last(is_written(script(alloc, &planned, HOSTNAME), SCRIPT))
-            }
-            answer => Seen::at_once(answer),
-        },
-    )
+    Ok(twice!(is_written(script(alloc, planned, HOSTNAME), SCRIPT)))
+}
+
+fn writes_a_script(alloc: Global) -> Result<Seen, Unready> {
+    let planned = planned(alloc)?;
+    lent(planned, |planned| script_is_written(alloc, planned))
 }
 
 fn is_script(script: &Script) -> bool {
@@ -125,7 +147,7 @@ fn is_script(script: &Script) -> bool {
 
 fn reads_a_script(alloc: Global) -> Result<Answer, Unready> {
     match read_script(alloc, SCRIPT) {
-        Ok(Some(script)) => Ok(Answer::given(is_script(&script))),
+        Ok(Some(script)) => Ok(judged(script, is_script)),
         Ok(None) => Ok(Answer::Wrong),
         Err(_) => Ok(Answer::Refused),
     }

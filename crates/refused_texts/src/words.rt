@@ -1,0 +1,98 @@
+//! Words, lines and findings, as a plan's text has them, put behind an `x` that stands there already.
+use growth_answers::inputs::{address, are_texts};
+use growth_answers::{Answer, Teller, Unready, call, judged};
+use relay_text::Text;
+use relay_wire::{
+    Finding, FindingLines, LineWord, Reason, put_count, put_lines, put_name, put_number, put_path,
+    put_reason, put_word,
+};
+use std::alloc::{AllocError, Global};
+
+/// What a call answered that puts something at the end, and what stands there then.
+fn put(answer: Result<(), AllocError>, out: &[u8], wanted: &[u8]) -> Answer {
+    match answer {
+        Ok(()) => Answer::given(out == wanted),
+        Err(_) => Answer::Refused,
+    }
+}
+
+fn puts_a_word(alloc: Global) -> Result<Answer, Unready> {
+    let mut out = Vec::from_slice(alloc, b"x")?;
+    let answer = put_word(b"word", &mut out);
+    Ok(put(answer, &out, b"x word"))
+}
+
+fn puts_a_number(alloc: Global) -> Result<Answer, Unready> {
+    let mut out = Vec::from_slice(alloc, b"x")?;
+    let answer = put_number(120, &mut out);
+    Ok(put(answer, &out, b"x 120"))
+}
+
+fn puts_a_name(alloc: Global) -> Result<Answer, Unready> {
+    let mut out = Vec::from_slice(alloc, b"x")?;
+    let answer = put_name(b"a b", &mut out);
+    Ok(put(answer, &out, b"x \"a b\""))
+}
+
+fn puts_a_path(alloc: Global) -> Result<Answer, Unready> {
+    let joe = address(alloc, b"joe")?;
+    let mut out = Vec::from_slice(alloc, b"x")?;
+    let answer = put_path(Some(&joe), &mut out);
+    Ok(put(answer, &out, b"x <joe@example.org>"))
+}
+
+fn puts_a_count(alloc: Global) -> Result<Answer, Unready> {
+    let mut out = Vec::from_slice(alloc, b"x")?;
+    let answer = put_count(2, b"findings", &mut out);
+    Ok(put(answer, &out, b"x 2 findings"))
+}
+
+fn puts_lines(alloc: Global) -> Result<Answer, Unready> {
+    let lines = [Text::copy_of(alloc, b"a")?, Text::copy_of(alloc, b"b")?];
+    let mut out = Vec::from_slice(alloc, b"x")?;
+    let answer = put_lines(&lines, &mut out);
+    Ok(put(answer, &out, b"xa\nb\n"))
+}
+
+fn puts_a_reason(alloc: Global) -> Result<Answer, Unready> {
+    let reason = Reason::Refused(Text::copy_of(alloc, b"gone away")?);
+    let mut out = Vec::from_slice(alloc, b"x")?;
+    let answer = put_reason(&reason, &mut out);
+    Ok(put(answer, &out, b"x refused gone away"))
+}
+
+/// The lines of two findings, which are brought in the other order.
+fn added(alloc: Global) -> Result<FindingLines, AllocError> {
+    let mut lines = FindingLines::new(alloc);
+    lines.add(&Finding::Transport(2, LineWord::Duplicate))?;
+    lines.add(&Finding::Aliases(3, LineWord::BadLine))?;
+    Ok(lines)
+}
+
+fn gathers_findings(alloc: Global) -> Result<Answer, Unready> {
+    let lines = added(alloc)?;
+    match lines.into_seq(alloc) {
+        Ok(lines) => Ok(judged(lines, |lines| {
+            are_texts(
+                lines.as_slice(),
+                &[
+                    b"finding aliases line 3 badline",
+                    b"finding transport line 2 duplicate",
+                ],
+            )
+        })),
+        Err(_) => Ok(Answer::Refused),
+    }
+}
+
+pub(crate) fn tell<R: Print + AllocGlobal>(teller: &mut Teller<'_, R>) {
+    let alloc = teller.rt.alloc();
+    call!(teller, "put_word", puts_a_word(alloc));
+    call!(teller, "put_number", puts_a_number(alloc));
+    call!(teller, "put_name", puts_a_name(alloc));
+    call!(teller, "put_path", puts_a_path(alloc));
+    call!(teller, "put_count", puts_a_count(alloc));
+    call!(teller, "put_lines", puts_lines(alloc));
+    call!(teller, "put_reason", puts_a_reason(alloc));
+    call!(teller, "FindingLines::into_seq", gathers_findings(alloc));
+}
