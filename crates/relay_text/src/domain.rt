@@ -1,10 +1,11 @@
 //! Domains.
-ghost use Rattle.std.specs.Prelude.{◌≡◌, ◌==◌, ◌||◌, ◌&&◌, not, codes};
+ghost use Rattle.std.specs.Prelude.{◌≡◌, ◌==◌, ◌&&◌, not, codes};
 ghost use Rattle.std.specs.List.{list_all, list_any};
-ghost use Rattle.std.specs.Char.{is_ascii_alphanumeric, is_ascii_graphic};
+ghost use Rattle.std.specs.Char.{is_ascii_graphic};
 ghost use Rattle.relay_text.specs.Addresses.{is_domain, is_domain_name, is_literal, is_literal_content, is_run_of};
 
 use crate::inside::inside;
+use crate::run::{Part, run_at};
 
 /// Whether a text has the form of a domain: labels of letters, digits, hyphens and underscores joined by single dots, or an address
 /// literal in brackets (RFC 5321 sections 4.1.2 and 4.1.3). The length is not judged.
@@ -20,22 +21,8 @@ pub fn is_domain(bytes: &[u8]) -> bool
 pub fn is_domain_name(text: &[u8]) -> bool
     ensures { result ≡ is_domain_name text.now }
 {
-    text.split(|byte| *byte == b'.').all(is_label)
-}
-
-/// A run of at least one letter, digit, hyphen or underscore.
-#[tactic(auto, using(crate::proofs::Domains::is_run_of_some))]
-fn is_label(label: &[u8]) -> bool
-    ensures { result ≡ is_run_of (λ b. is_ascii_alphanumeric b || (b == 45) || (b == 95)) label.now }
-{
-    !label.is_empty() && all_label_bytes(label)
-}
-
-/// Whether every byte is a letter, digit, hyphen or underscore.
-fn all_label_bytes(text: &[u8]) -> bool
-    ensures { result ≡ list_all (λ b. is_ascii_alphanumeric b || (b == 45) || (b == 95)) text.now }
-{
-    text.iter().all(|byte| byte.is_ascii_alphanumeric() || *byte == b'-' || *byte == b'_')
+    let run = run_at(Part::Domain, text);
+    run.len == text.len() && run.is_joined
 }
 
 /// An address literal in its brackets (RFC 5321 section 4.1.3).
