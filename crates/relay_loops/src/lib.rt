@@ -24,6 +24,7 @@
 mod crew;
 mod direction;
 mod dividing;
+mod edges;
 mod laws;
 mod pivots;
 mod place;
@@ -37,6 +38,7 @@ ghost use Rattle.relay_loops.specs.Loops.{IsClosedPart, AreLoopsOf};
 ghost use Rattle.relay_loops.specs.Places.{HasPlaces, IsChangedAt};
 
 use crew::Crew;
+use edges::lead_on;
 pub use laws::whole_graphs;
 use pivots::pivot_order;
 use place::Place;
@@ -65,6 +67,9 @@ pub fn on_loops<G: Gate, R: Threads + Sync>(
     requires cut { 1 ≤ cut }
     ensures { IfOk result (λ loops. AreLoopsOf graph.now reached.now loops.items) }
 {
+    if !lead_on(graph, reached) {
+        return Ok(Vec::new(alloc));
+    }
     let crew = Crew {
         rt,
         alloc,
