@@ -42,18 +42,17 @@ module _ (job : Job) (q : List ℕ) where
   of_part part h = (h.0, h.2, h.3)
 
   -- the lines of what is reached, one part after another
-  pub own_lines : (first second third : List (List ℕ))
+  pub own_lines : (first second : List (List ℕ))
       → (IsTrue (has_text second q) ↔ (IsTrue (has_text first q) ⊎ IsLineOf job entries q))
-      → (IsTrue (has_text third q) ↔ (IsTrue (has_text second q) ⊎ IsLineOf job routes q))
-      → IsTrue (has_text third q) ↔ (IsTrue (has_text first q) ⊎ IsOwnFindingLine job q)
-  own_lines first second third more last = (
-    λ h. elim (last.0 h) [
+      → (IsTrue (has_text second q) ⊎ IsLineOf job routes q) ↔ (IsTrue (has_text first q) ⊎ IsOwnFindingLine job q)
+  own_lines first second more = (
+    λ either. elim either [
       | inl old ↦ elim (more.0 old) [ inl given ↦ inl given | inr entry ↦ inr (inl entry) ]
       | inr route ↦ inr (inr route)
     ],
     λ either. elim either [
-      | inl given ↦ last.1 (inl (more.1 (inl given)))
-      | inr own ↦ last.1 (elim own [ inl entry ↦ inl (more.1 (inr entry)) | inr route ↦ inr route ])
+      | inl given ↦ inl (more.1 (inl given))
+      | inr own ↦ elim own [ inl entry ↦ inl (more.1 (inr entry)) | inr route ↦ inr route ]
     ],
   )
 

@@ -12,7 +12,6 @@ ghost use Rattle.aliasplan.specs.Report.{routes, IsLineOf};
 
 use crate::gathering::{Gathering, gather_pairs};
 use crate::job_view::JobView;
-use crate::sources::Sources;
 use relay_delivery::{BatchLimits, transactions};
 use relay_destinations::Destinations;
 use relay_job::Settings;
@@ -48,15 +47,16 @@ fn senders_of<'a>(alloc: Global, graph: &'a Graph) -> Result<Vec<Option<&'a Addr
 
 /// The transactions of all addresses that are reached, each once under each of its senders, and a line for each address that has no
 /// route.
-pub fn plan_addresses(
+pub fn plan_addresses<'a>(
     alloc: Global,
     job: &JobView<'_>,
-    sources: &Sources,
-    graph: &Graph,
+    destinations: Destinations<'a>,
+    graph: &'a Graph,
     pairs: &[Reached],
     lines: &mut FindingLines,
 ) -> Result<Vec<Planned>, AllocError>
-    requires router { sources.now.router ≡ routing_of job.now }
+    requires routing { destinations.routing ≡ routing_of job.now }
+    requires via { destinations.via ≡ job.now.settings.mailbox_transport }
     requires graph { IsJobPart job.now graph.now }
     requires pairs { AreReachedPairs job.now graph.now pairs.now }
     requires few { length pairs.now ≤ 16777216 }
@@ -66,16 +66,15 @@ pub fn plan_addresses(
     ensures fewest { IfOk result (λ transactions. IsFewest job.now transactions.items) }
     ensures lines { OnOk result (Reports lines.old lines.new (IsLineOf job.now routes)) }
 {
-    let settings = job.settings();
-    let via = &settings.mailbox_transport;
-    let destinations = Destinations::new(alloc, &sources.router, via, sources.key)?;
     let gathering = gather_pairs(alloc, job, graph, destinations, pairs, lines)?;
     let Gathering {
         destinations,
         recipients,
         stops,
+        known,
         ..
     } = gathering;
+    drop(known);
     let senders = senders_of(alloc, graph)?;
     transactions(
         alloc,
@@ -83,6 +82,6 @@ pub fn plan_addresses(
         destinations.routes(),
         recipients.as_slice(),
         stops,
-        limits_of(settings),
+        limits_of(job.settings()),
     )
 }

@@ -34,7 +34,7 @@ fn answer_of(alloc: Global, form: Form, plan: &Plan) -> Result<Answer, RunFault>
 }
 
 /// What is written for a job.
-fn answer_parsed<G: Gate, R: Threads + Sync>(
+fn answer_job<G: Gate, R: Threads + Sync>(
     rt: &R,
     alloc: Global,
     job: &Job,
@@ -52,21 +52,29 @@ fn answer_parsed<G: Gate, R: Threads + Sync>(
     answer_of(alloc, options.form, &plan)
 }
 
+/// A job has copies of its sections, so the room of an input of more bytes is given back before its plan needs room. A smaller one's is
+/// kept to the end: glibc takes blocks of the size of one that was freed, up to 32 MiB, from its heap, where vectors that grow leave
+/// holes (mallopt(3), M_MMAP_THRESHOLD), and that would take more than it gives.
+const LARGE: usize = 16 << 20;
+
 /// What is written for a job's bytes.
-pub fn answer_job<G: Gate, R: Threads + Sync>(
+pub fn answer_input<G: Gate, R: Threads + Sync>(
     rt: &R,
     alloc: Global,
-    input: &[u8],
+    input: Text,
     options: Options,
     limits: Limits,
     gate: &G,
 ) -> Result<Answer, RunFault>
     requires options { AreOptions options }
     requires limits { AreLimits limits }
-    requires input { length input.now ≤ limits.bytes }
-    ensures answered { IfOk result (λ answer. IsAnswer limits options.form input.now answer.text answer.summary) }
-    ensures refused { IfErr result (RefusesBytes limits input.now) }
+    requires input { length input ≤ limits.bytes }
+    ensures answered { IfOk result (λ answer. IsAnswer limits options.form input answer.text answer.summary) }
+    ensures refused { IfErr result (RefusesBytes limits input) }
 {
-    let job = parse_job(alloc, input)?;
-    answer_parsed(rt, alloc, &job, options, limits, gate)
+    let job = parse_job(alloc, input.as_bytes())?;
+    if input.len() > LARGE {
+        drop(input);
+    }
+    answer_job(rt, alloc, &job, options, limits, gate)
 }

@@ -65,12 +65,12 @@ pub fn check_texts(alloc: Global, tables: &Job, limits: Limits) -> Result<Seq<Te
 fn findings_of<G: Gate, R: Threads + Sync>(
     crew: &Crew<G, R>,
     job: &Job,
-    sources: &Sources,
+    sources: Sources,
     lines: FindingLines,
 ) -> Result<Seq<Text>, RunFault>
     requires batches { (t : names.Transport) → 0 < limit_of job.now.settings t }
-    requires tables { sources.now.tables ≡ directory_of job.now }
-    requires router { sources.now.router ≡ routing_of job.now }
+    requires tables { sources.tables ≡ directory_of job.now }
+    requires router { sources.router ≡ routing_of job.now }
     requires lines { (q : List ℕ) → has_text lines q ≡ has_fault_line job.now q }
     ensures lines { IfOk result (AreLines (IsFindingLine job.now)) }
     ensures within { OnOk result (IsWithin crew.now.limits job.now) }
@@ -86,12 +86,12 @@ fn findings_of<G: Gate, R: Threads + Sync>(
 fn findings_of_aliases<G: Gate, R: Threads + Sync>(
     crew: &Crew<G, R>,
     tables: Job,
-    sources: &Sources,
+    sources: Sources,
     lines: FindingLines,
 ) -> Result<Seq<Text>, RunFault>
     requires batches { (t : names.Transport) → 0 < limit_of tables.settings t }
-    requires tables { sources.now.tables ≡ directory_of tables }
-    requires router { sources.now.router ≡ routing_of tables }
+    requires tables { sources.tables ≡ directory_of tables }
+    requires router { sources.router ≡ routing_of tables }
     requires lines { (q : List ℕ) → has_text lines q ≡ has_fault_line tables q }
     ensures lines { IfOk result (AreLines (IsFindingLine (to_each_alias tables))) }
     ensures within { OnOk result (IsWithin crew.now.limits (to_each_alias tables)) }
@@ -121,7 +121,7 @@ pub fn check_aliases<G: Gate, R: Threads + Sync>(
     file_counts();
     let mut lines = FindingLines::new(crew.alloc);
     match Sources::read(crew.alloc, &tables, &mut lines) {
-        Ok(sources) => findings_of_aliases(crew, tables, &sources, lines),
+        Ok(sources) => findings_of_aliases(crew, tables, sources, lines),
         Err(_) => Err(RunFault::Memory),
     }
 }

@@ -25,7 +25,7 @@ pub struct Gathering<'a> {
     pub recipients: Vec<Routed<'a>>,
     pub stops: Vec<Stop>,
     /// By node.
-    known: Vec<Known>,
+    pub known: Vec<Known>,
 }
 
 ghost use Rattle.std.specs.Prelude.{◌≡◌, ◌⊎◌, ◌↔◌, ◌<◌, ◌≤◌, ◌+◌, ◌-◌, ◌^◌, ◌++◌, ◌∷◌, ℕ, List, [], Some, Ok, Err, All, Result, length, slice_get, IfOk, OnOk};

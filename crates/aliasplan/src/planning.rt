@@ -9,7 +9,7 @@ ghost use Rattle.relay_pairs.specs.Pairs.{ArePairs};
 ghost use Rattle.aliasplan.specs.Delivery.{directory_of, routing_of, HasAtMostPairs, IsJobGraph, IsJobPart};
 ghost use Rattle.aliasplan.specs.Outcomes.{name_count, owned_count, AreOptions, AreLimits, IsWithin, IsRefused};
 ghost use Rattle.aliasplan.specs.Plans.{AreTransactionsOf, IsFewest, IsPlanOf, IsPlanWith, IsSoundFor};
-ghost use Rattle.aliasplan.specs.Report.{entries, IsLineOf, IsOwnFindingLine};
+ghost use Rattle.aliasplan.specs.Report.{entries, routes, IsLineOf, IsOwnFindingLine};
 ghost use Rattle.aliasplan.specs.Texts.{has_fault_line};
 ghost use Rattle.aliasplan.specs.Reaching.{AreReachedPairs, AreReachedNodes};
 
@@ -21,6 +21,7 @@ use crate::options::{Limits, Options};
 use crate::reach::Reach;
 use crate::sources::Sources;
 use relay_aliasfile::file_counts;
+use relay_destinations::Destinations;
 use relay_job::{Job, RunFault, parsed_jobs};
 use relay_loops::on_loops;
 use relay_pairs::{Reached, pairs_are_counted, pairs_by_numbers, reached_nodes, reached_pairs};
@@ -165,6 +166,30 @@ fn plan_of(
     })
 }
 
+/// The plan of a job that reaches these pairs, with the lines that are given and those of addresses without a route.
+fn plan_pairs<'a>(
+    alloc: Global,
+    job: &JobView<'_>,
+    destinations: Destinations<'a>,
+    graph: &'a Graph,
+    pairs: &[Reached],
+    lines: FindingLines,
+) -> Result<Plan, AllocError>
+    requires batches { (t : names.Transport) → 0 < limit_of job.now.settings t }
+    requires routing { destinations.routing ≡ routing_of job.now }
+    requires via { destinations.via ≡ job.now.settings.mailbox_transport }
+    requires graph { IsJobPart job.now graph.now }
+    requires reached { AreReachedPairs job.now graph.now pairs.now }
+    requires few { length pairs.now ≤ 16777216 }
+    ensures plan { IfOk result (IsPlanWith job.now (λ q. IsTrue (has_text lines q) ⊎ IsLineOf job.now routes q)) }
+    ensures sound { IfOk result (λ plan. IsSoundFor job.now plan.transactions) }
+    ensures fewest { IfOk result (λ plan. IsFewest job.now plan.transactions) }
+{
+    let mut lines = lines;
+    let transactions = plan_addresses(alloc, job, destinations, graph, pairs, &mut lines)?;
+    plan_of(alloc, job, transactions, lines)
+}
+
 /// The plan of a job that reaches these pairs, with the lines that are given and those of what is reached.
 pub(crate) fn plan_reached<G: Gate, R: Threads + Sync>(
     crew: &Crew<G, R>,
@@ -185,22 +210,78 @@ pub(crate) fn plan_reached<G: Gate, R: Threads + Sync>(
     ensures sound { IfOk result (λ plan. IsSoundFor job.now plan.transactions) }
     ensures fewest { IfOk result (λ plan. IsFewest job.now plan.transactions) }
 {
+    let alloc = crew.alloc;
     let mut lines = lines;
     report_reached(crew, job, &sources.tables, graph, pairs, &mut lines)?;
-    let transactions = plan_addresses(crew.alloc, job, sources, graph, pairs, &mut lines)?;
-    plan_of(crew.alloc, job, transactions, lines)
+    let via = &job.settings().mailbox_transport;
+    let destinations = Destinations::new(alloc, &sources.router, via, sources.key)?;
+    plan_pairs(alloc, job, destinations, graph, pairs, lines)
 }
 
-/// The plan of a job whose files and tables are read. Their lines that are at fault are given.
-pub(crate) fn plan_sources<G: Gate, R: Threads + Sync>(
+/// Adds the lines of what is reached to those that are given. Nobody needs the tables any more: their room is given back.
+fn lines_reached<G: Gate, R: Threads + Sync>(
     crew: &Crew<G, R>,
     job: &JobView<'_>,
-    sources: &Sources,
+    tables: Tables,
+    graph: &Graph,
+    pairs: &[Reached],
+    lines: FindingLines,
+) -> Result<FindingLines, AllocError>
+    requires tables { tables ≡ directory_of job.now }
+    requires graph { IsJobPart job.now graph.now }
+    requires pairs { ArePairs graph.now pairs.now }
+    ensures { IfOk result (λ reported. (q : List ℕ) → IsTrue (has_text reported q) ↔ (IsTrue (has_text lines q) ⊎ IsLineOf job.now entries q)) }
+{
+    let mut lines = lines;
+    report_reached(crew, job, &tables, graph, pairs, &mut lines)?;
+    Ok(lines)
+}
+
+/// The same as `plan_reached`, where nobody else needs what was read: the tables are dropped before the transactions need room.
+fn plan_once<G: Gate, R: Threads + Sync>(
+    crew: &Crew<G, R>,
+    job: &JobView<'_>,
+    sources: Sources,
+    graph: &Graph,
+    pairs: &[Reached],
+    lines: FindingLines,
+) -> Result<Plan, AllocError>
+    requires batches { (t : names.Transport) → 0 < limit_of job.now.settings t }
+    requires tables { sources.tables ≡ directory_of job.now }
+    requires router { sources.router ≡ routing_of job.now }
+    requires graph { IsJobPart job.now graph.now }
+    requires pairs { ArePairs graph.now pairs.now }
+    requires reached { AreReachedPairs job.now graph.now pairs.now }
+    requires few { length pairs.now ≤ 16777216 }
+    ensures plan { IfOk result (IsPlanWith job.now (λ q. IsTrue (has_text lines q) ⊎ IsOwnFindingLine job.now q)) }
+    ensures sound { IfOk result (λ plan. IsSoundFor job.now plan.transactions) }
+    ensures fewest { IfOk result (λ plan. IsFewest job.now plan.transactions) }
+{
+    let Sources {
+        tables,
+        router,
+        key,
+    } = sources;
+    let lines = lines_reached(crew, job, tables, graph, pairs, lines)?;
+    let via = &job.settings().mailbox_transport;
+    let destinations = Destinations::new(crew.alloc, &router, via, key)?;
+    plan_pairs(crew.alloc, job, destinations, graph, pairs, lines)
+}
+
+/// The plan of a job of this graph. The lines of files and tables that are at fault are given.
+fn plan_graph<G: Gate, R: Threads + Sync>(
+    crew: &Crew<G, R>,
+    job: &JobView<'_>,
+    sources: Sources,
+    graph: &Graph,
     lines: FindingLines,
 ) -> Result<Plan, RunFault>
     requires batches { (t : names.Transport) → 0 < limit_of job.now.settings t }
-    requires tables { sources.now.tables ≡ directory_of job.now }
-    requires router { sources.now.router ≡ routing_of job.now }
+    requires tables { sources.tables ≡ directory_of job.now }
+    requires router { sources.router ≡ routing_of job.now }
+    requires graph { IsJobPart job.now graph.now }
+    requires names { name_count job.now ≤ crew.now.limits.names }
+    requires owners { owned_count job.now ≤ crew.now.limits.owners }
     requires lines { (q : List ℕ) → has_text lines q ≡ has_fault_line job.now q }
     ensures plan { IfOk result (IsPlanOf job.now) }
     ensures sound { IfOk result (λ plan. IsSoundFor job.now plan.transactions) }
@@ -208,11 +289,32 @@ pub(crate) fn plan_sources<G: Gate, R: Threads + Sync>(
     ensures within { OnOk result (IsWithin crew.now.limits job.now) }
     ensures refused { IfErr result (IsRefused crew.now.limits job.now) }
 {
-    let graph = graph_of(crew.alloc, job, &sources.tables, crew.limits)?;
-    let pairs = pairs_of(crew, job, &graph)?;
-    match plan_reached(crew, job, sources, &graph, &pairs, lines) {
-        Ok(plan) => Ok(plan),
-        Err(_) => Err(RunFault::Memory),
+    match pairs_of(crew, job, graph) {
+        Ok(pairs) => Ok(plan_once(crew, job, sources, graph, &pairs, lines)?),
+        Err(fault) => Err(fault),
+    }
+}
+
+/// The plan of a job whose files and tables are read. Their lines that are at fault are given.
+pub(crate) fn plan_sources<G: Gate, R: Threads + Sync>(
+    crew: &Crew<G, R>,
+    job: &JobView<'_>,
+    sources: Sources,
+    lines: FindingLines,
+) -> Result<Plan, RunFault>
+    requires batches { (t : names.Transport) → 0 < limit_of job.now.settings t }
+    requires tables { sources.tables ≡ directory_of job.now }
+    requires router { sources.router ≡ routing_of job.now }
+    requires lines { (q : List ℕ) → has_text lines q ≡ has_fault_line job.now q }
+    ensures plan { IfOk result (IsPlanOf job.now) }
+    ensures sound { IfOk result (λ plan. IsSoundFor job.now plan.transactions) }
+    ensures fewest { IfOk result (λ plan. IsFewest job.now plan.transactions) }
+    ensures within { OnOk result (IsWithin crew.now.limits job.now) }
+    ensures refused { IfErr result (IsRefused crew.now.limits job.now) }
+{
+    match graph_of(crew.alloc, job, &sources.tables, crew.limits) {
+        Ok(graph) => plan_graph(crew, job, sources, &graph, lines),
+        Err(fault) => Err(fault),
     }
 }
 
@@ -252,5 +354,5 @@ pub fn plan_job<G: Gate, R: Threads + Sync>(
         limits,
         gate,
     };
-    plan_sources(&crew, &JobView::of(job), &sources, lines)
+    plan_sources(&crew, &JobView::of(job), sources, lines)
 }

@@ -3,7 +3,7 @@ ghost use Rattle.std.specs.Prelude.{◌≡◌, ◌≢◌, false, true, Err, IfOk
 ghost use Rattle.std.specs.Io.KnownBytes.{Keeps};
 ghost use Rattle.aliasplan.specs.Outcomes.{AreOptions, AreLimits, Plans, Refuses, WritesFront};
 
-use crate::answering::{Answer, answer_job};
+use crate::answering::{Answer, answer_input};
 use crate::device::{Feed, Sink};
 use crate::options::{Limits, Options};
 use crate::reading::read_job;
@@ -43,7 +43,7 @@ pub fn run<F: Feed, S: Sink, G: Gate, R: Threads + Sync>(
     ensures ended { (result ≢ Err RunFault.Read) → (result ≢ Err RunFault.TooLong) → (result ≢ Err RunFault.Memory) → F.has_ended reader.new ≡ true }
 {
     let input = read_job(alloc, reader, limits.bytes)?;
-    let Answer { text, summary } = answer_job(rt, alloc, input.as_bytes(), options, limits, gate)?;
+    let Answer { text, summary } = answer_input(rt, alloc, input, options, limits, gate)?;
     match write_text(writer, text.as_bytes()) {
         Ok(()) => Ok(summary),
         Err(_) => Err(RunFault::Write),

@@ -47,10 +47,7 @@ fn answer_of(alloc: Global, form: Form, returned: &Returned) -> Result<Answer, R
 }
 
 /// What is written for a job.
-fn answer_parsed<G: Gate, R: Threads + Sync>(
-    crew: &Crew<G, R>,
-    job: &Job,
-) -> Result<Answer, RunFault>
+fn answer_job<G: Gate, R: Threads + Sync>(crew: &Crew<G, R>, job: &Job) -> Result<Answer, RunFault>
     requires job { IsJobWithin crew.now.limits.bytes job.now }
     ensures answered { IfOk result (λ answer. IsReturnedWithin crew.now.limits job.now × ((plan : plans.Plan) × IsPlanOf job.now plan × IsFewest job.now plan.transactions × ((blocks : List returned.Return) × AreReturnsOf job.now blocks × (answer.text ≡ returned_text_in crew.now.options.form plan blocks) × (answer.summary ≡ summary_of plan)))) }
     ensures refused { IfErr result (IsUnreturned crew.now.limits job.now) }
@@ -60,7 +57,7 @@ fn answer_parsed<G: Gate, R: Threads + Sync>(
 }
 
 /// What is written for a job's bytes.
-fn answer_returns<G: Gate, R: Threads + Sync>(
+fn answer_input<G: Gate, R: Threads + Sync>(
     crew: &Crew<G, R>,
     input: &[u8],
 ) -> Result<Answer, RunFault>
@@ -69,7 +66,7 @@ fn answer_returns<G: Gate, R: Threads + Sync>(
     ensures refused { IfErr result (RefusesReturnBytes crew.now.limits input.now) }
 {
     let job = parse_job(crew.alloc, input)?;
-    answer_parsed(crew, &job)
+    answer_job(crew, &job)
 }
 
 /// Reads a job, plans it, and writes the plan's text with what is returned, and nothing else: after the transactions and before the
@@ -97,7 +94,7 @@ pub fn run_returns<F: Feed, S: Sink, G: Gate, R: Threads + Sync>(
     ensures ended { (result ≢ Err RunFault.Read) → (result ≢ Err RunFault.TooLong) → (result ≢ Err RunFault.Memory) → F.has_ended reader.new ≡ true }
 {
     let input = read_job(crew.alloc, reader, crew.limits.bytes)?;
-    let Answer { text, summary } = answer_returns(crew, input.as_bytes())?;
+    let Answer { text, summary } = answer_input(crew, input.as_bytes())?;
     match write_text(writer, text.as_bytes()) {
         Ok(()) => Ok(summary),
         Err(_) => Err(RunFault::Write),

@@ -40,7 +40,7 @@ returns c =
     let placed : (s : Sender) (r : Route) (a : AddressParts) → P s r a ↔ IsPlaced job s r a =
     λ s r a. rw (c.as_slice.ensures.value, c.in_ok-senders.ensures, c.routes.ensures.routes, c.as_slice-2.ensures.value)
     (let both = placed_by_numbers job c.args.graph.now c.args.pairs.now c.requires.pairs gathering.destinations.routes gathering.recipients.items gathering.known.items c.gather_pairs.new.lines gathering.stops.items h.known h.gathered s r a in (both.1, both.0)) in
-    let same_limit : limit_at c.limits_of.result ≡ limit = fun_ext c.limits_of.ensures ∙ ap limit_of c.settings-settings.ensures in
+    let same_limit : limit_at c.limits_of.result ≡ limit = fun_ext c.limits_of.ensures ∙ ap limit_of c.settings.ensures in
     let are = route_lines job c.args.graph.now c.args.pairs.now c.requires.pairs in
     let Q : Type 0 = (q : List ℕ) → IsTrue (has_text c.gather_pairs.new.lines q) ↔ (IsTrue (has_text c.args.lines.now q) ⊎ IsLineOf job routes q) in
     record {

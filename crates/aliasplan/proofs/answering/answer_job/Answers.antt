@@ -1,27 +1,7 @@
-use Rattle.std.proofs.lemmas.Result.{err_from_is_err_and, IfErr-weaker, IfOk-weaker}
-use Rattle.aliasplan.proofs.Faults.{refuses_text, refuses_job}
+use Rattle.std.proofs.lemmas.Result.{err_from_is_err_and}
 use Rattle.aliasplan.proofs.answering.answer_job.Goals as goal
 
-pub returns-in_err-job-clause-refused : goal.returns-in_err-job-clause-refused
-returns-in_err-job-clause-refused g c =
+pub returns-in_err-plan-clause-refused : goal.returns-in_err-plan-clause-refused
+returns-in_err-plan-clause-refused g c =
     let p = err_from_is_err_and c.from_residual.result c.from_residual.ensures.1 in
-    rw (p.1, p.2) (refuses_text c.args.limits c.args.input.now c.requires.input c.in_err-job.field-0.0 c.in_err-job.ensures)
-
-pub returns-clause-answered : goal.returns-clause-answered
-returns-clause-answered g c = IfOk-weaker c.answer_parsed.result _ _
-    (λ answer h. record {
-      size = c.requires.input;
-      job = c.in_ok-job.job;
-      read = c.in_ok-job.ensures;
-      within = h.0;
-      plan = h.1.0;
-      planned = h.1.1;
-      written = h.1.3;
-      summed = h.1.4;
-      fewest = h.1.2;
-    })
-    c.answer_parsed.ensures.answered
-
-pub returns-clause-refused : goal.returns-clause-refused
-returns-clause-refused g c =
-    IfErr-weaker c.answer_parsed.result _ _ (refuses_job c.args.limits c.args.input.now c.requires.input c.in_ok-job.job c.in_ok-job.ensures) c.answer_parsed.ensures.refused
+    rw (p.1, p.2) c.in_err-plan.ensures.refused

@@ -1,5 +1,5 @@
 use Rattle.std.proofs.lemmas.Result.{err_from_is_err_and}
-use Rattle.aliasplan.proofs.running_returns.answer_parsed.Goals as goal
+use Rattle.aliasplan.proofs.running_returns.answer_job.Goals as goal
 
 pub returns-in_err-returned-clause-refused : goal.returns-in_err-returned-clause-refused
 returns-in_err-returned-clause-refused g c =
