@@ -1,5 +1,5 @@
 //! Keys of 64 bits.
-ghost use Rattle.std.specs.Prelude.{◌<◌, max};
+ghost use Rattle.std.specs.Prelude.{◌-◌, ◌^◌, ◌<◌, ◌≤◌, max};
 
 use anyhow::Result;
 use bench_watch::{Counted, Watch};
@@ -93,31 +93,61 @@ fn follow_all(words: &[u32], count: u32) -> usize {
     followed
 }
 
-pub fn run<R: Clock + Print + AllocGlobal>(watch: &Watch<R>, count: u32) -> Result<()> {
+// What the machine's memory takes, by itself.
+fn time_words<R: Clock + Print + AllocGlobal>(
+    watch: &Watch<R>,
+    words: &mut [u32],
+    count: u32,
+) -> Result<()> {
     let calls = Counted::OfCalls(count);
-    let alloc = watch.rt.alloc();
-    let size = (count as usize).max(1).min(u32::MAX as usize - 1);
-    let mut words = vec![in alloc; 1u32; size]?;
     let start = watch.start()?;
-    let touched = touch_all(&mut words, count);
+    let touched = touch_all(words, count);
     watch.report("words touched", touched, calls, start)?;
     let start = watch.start()?;
-    let followed = follow_all(&words, count);
-    watch.report("words followed", followed, calls, start)?;
+    let followed = follow_all(words, count);
+    watch.report("words followed", followed, calls, start)
+}
 
-    let mut set = Chains::new(alloc, size, size)?;
+fn time_set<R: Clock + Print + AllocGlobal>(
+    watch: &Watch<R>,
+    set: &mut Chains,
+    count: u32,
+) -> Result<()> {
+    let calls = Counted::OfCalls(count);
     let start = watch.start()?;
-    let new = insert_all(&mut set, count)?;
+    let new = insert_all(set, count)?;
     watch.report("Chains, keys inserted", new, calls, start)?;
     let start = watch.start()?;
-    let found = find_all(&set, count);
-    watch.report("Chains, keys found", found, calls, start)?;
+    let found = find_all(set, count);
+    watch.report("Chains, keys found", found, calls, start)
+}
 
-    let mut map = HashMap::new(alloc);
+fn time_map<R: Clock + Print + AllocGlobal>(
+    watch: &Watch<R>,
+    map: &mut HashMap<u64, u32>,
+    count: u32,
+) -> Result<()> {
+    let calls = Counted::OfCalls(count);
     let start = watch.start()?;
-    let new = insert_all_in_map(&mut map, count)?;
+    let new = insert_all_in_map(map, count)?;
     watch.report("HashMap, keys inserted", new, calls, start)?;
     let start = watch.start()?;
-    let found = find_all_in_map(&map, count);
+    let found = find_all_in_map(map, count);
     watch.report("HashMap, keys found", found, calls, start)
+}
+
+/// The room for `count` keys or texts, within what a set may have.
+pub fn room(count: u32) -> usize
+    ensures least { 1 ≤ result }
+    ensures most { result ≤ 2 ^ 32 - 2 }
+{
+    (count as usize).max(1).min(u32::MAX as usize - 1)
+}
+
+pub fn run<R: Clock + Print + AllocGlobal>(watch: &Watch<R>, count: u32) -> Result<()> {
+    let alloc = watch.rt.alloc();
+    let room = room(count);
+    time_words(watch, &mut vec![in alloc; 1u32; room]?, count)?;
+    time_set(watch, &mut Chains::new(alloc, room, room)?, count)?;
+    time_map(watch, &mut HashMap::new(alloc), count)
 }

@@ -1,5 +1,5 @@
 //! Short texts that differ in their digits, as `u0000001@example.net`.
-use crate::keys::shuffled;
+use crate::keys::{room, shuffled};
 use anyhow::Result;
 use bench_watch::{Counted, Watch};
 use relay_chains::{ChainFault, Interner};
@@ -63,23 +63,37 @@ fn find_all_in_map(map: &HashMap<Vec<u8>, u32>, count: u32) -> usize {
     found
 }
 
-pub fn run<R: Clock + Print + AllocGlobal>(watch: &Watch<R>, count: u32) -> Result<()> {
+fn time_set<R: Clock + Print + AllocGlobal>(
+    watch: &Watch<R>,
+    set: &mut Interner,
+    count: u32,
+) -> Result<()> {
     let calls = Counted::OfCalls(count);
-    let alloc = watch.rt.alloc();
-    let size = (count as usize).max(1).min(u32::MAX as usize - 1);
-    let mut set = Interner::new(alloc, size, size)?;
     let start = watch.start()?;
-    let new = insert_all(&mut set, count)?;
+    let new = insert_all(set, count)?;
     watch.report("Interner, texts inserted", new, calls, start)?;
     let start = watch.start()?;
-    let found = find_all(&set, count);
-    watch.report("Interner, texts found", found, calls, start)?;
+    let found = find_all(set, count);
+    watch.report("Interner, texts found", found, calls, start)
+}
 
-    let mut map = HashMap::new(alloc);
+fn time_map<R: Clock + Print + AllocGlobal>(
+    watch: &Watch<R>,
+    map: &mut HashMap<Vec<u8>, u32>,
+    count: u32,
+) -> Result<()> {
+    let calls = Counted::OfCalls(count);
     let start = watch.start()?;
-    let new = insert_all_in_map(alloc, &mut map, count)?;
+    let new = insert_all_in_map(watch.rt.alloc(), map, count)?;
     watch.report("HashMap, texts inserted", new, calls, start)?;
     let start = watch.start()?;
-    let found = find_all_in_map(&map, count);
+    let found = find_all_in_map(map, count);
     watch.report("HashMap, texts found", found, calls, start)
+}
+
+pub fn run<R: Clock + Print + AllocGlobal>(watch: &Watch<R>, count: u32) -> Result<()> {
+    let alloc = watch.rt.alloc();
+    let room = room(count);
+    time_set(watch, &mut Interner::new(alloc, room, room)?, count)?;
+    time_map(watch, &mut HashMap::new(alloc), count)
 }

@@ -8,32 +8,42 @@ mod shape;
 
 use crate::measuring::measure;
 use crate::shape::Shape;
-use anyhow::{Context, Result};
-use bench_watch::Watch;
+use anyhow::Result;
+use bench_watch::{Asked, Watch};
 use std::env;
+use std::rt::Clock;
+use std::thread::Threads;
 
 const SMALL: u32 = 100;
 
 // More than a graph may have.
 const MOST: u32 = 10_000_000;
 
-fn main(rt: HostRuntime) -> Result<()> {
-    let mut words = env::args(&rt)?.skip(1);
-    let timed = words.next().is_some_and(|word| word.as_str() == "bench");
-    let aliases = match words.next() {
-        Some(word) if timed => word.as_str().parse::<u32>().context("reading N")?,
-        _ => SMALL,
-    };
-    let chosen = words.next();
-    let watch = Watch::new(&rt, timed);
+// Each shape is wanted where none is chosen.
+fn is_wanted(chosen: Option<&str>, shape: Shape) -> bool {
+    match chosen {
+        Some(name) => name == shape.name(),
+        None => true,
+    }
+}
+
+fn measure_all<R: Clock + Print + AllocGlobal + Threads + Sync>(
+    watch: &Watch<R>,
+    chosen: Option<&str>,
+    aliases: u32,
+) -> Result<()> {
     for shape in Shape::ALL {
-        let wanted = match &chosen {
-            Some(name) => name.as_str() == shape.name(),
-            None => true,
-        };
-        if wanted {
-            measure(&watch, shape, aliases.min(MOST))?;
+        if is_wanted(chosen, shape) {
+            measure(watch, shape, aliases.min(MOST))?;
         }
     }
     Ok(())
+}
+
+fn main(rt: HostRuntime) -> Result<()> {
+    let mut words = env::args(&rt)?.skip(1);
+    let asked = Asked::read(&mut words, SMALL)?;
+    let chosen = words.next();
+    let watch = Watch::new(&rt, asked.timed);
+    measure_all(&watch, chosen.as_deref(), asked.count)
 }

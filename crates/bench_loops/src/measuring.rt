@@ -1,14 +1,15 @@
 //! The steps from an alias file to its loops.
 ghost use Rattle.std.specs.Prelude.{◌≡◌, ◌≤◌, All, IsTrue, IfOk, length};
-ghost use Rattle.std.specs.List.{range_with_len};
+ghost use Rattle.std.specs.List.{list_all, range_with_len};
 ghost use Rattle.relay_text.specs.Bytes.{folded};
 ghost use Rattle.relay_text.specs.Addresses.{is_origin};
+ghost use Rattle.relay_tables.specs.Parts.{is_good_entry};
 ghost use Rattle.relay_loops.specs.Loops.{IsClosedPart};
 
 use crate::shape::Shape;
 use anyhow::{Result, ensure};
 use bench_watch::{Counted, Watch};
-use relay_aliasfile::{AliasFile, parse_aliases, parse_mailboxes};
+use relay_aliasfile::{AliasFile, MailboxFile, parse_aliases};
 use relay_loops::{on_loops, whole_graphs};
 use relay_rounds::NoGate;
 use relay_tables::{Graph, Local, Tables, parsed_files};
@@ -16,6 +17,7 @@ use relay_text::{Seq, Text};
 use std::alloc::{AllocError, Global};
 use std::rt::Clock;
 use std::thread::Threads;
+use std::time::Instant;
 
 // As many nodes as a graph may have.
 const NODES: usize = 16777216;
@@ -36,30 +38,16 @@ fn local(alloc: Global) -> Result<Local, AllocError>
 }
 
 // The tables of an alias file alone.
-fn tables<R: Clock + Print + AllocGlobal>(watch: &Watch<R>, text: &[u8]) -> Result<Tables> {
-    let alloc = watch.rt.alloc();
-    parsed_files();
-    let start = watch.start()?;
-    let file = parse_aliases(alloc, text)?;
-    let entries = file.entries.len();
-    watch.report(
-        "  parse_aliases",
-        entries,
-        Counted::Things("entries"),
-        start,
-    )?;
-    ensure!(entries <= NODES, "too many entries");
-    let mailboxes = parse_mailboxes(alloc, b"")?;
-    ensure!(mailboxes.names.is_empty(), "a mailbox of nothing");
-    let start = watch.start()?;
-    let tables = Tables::build(alloc, local(alloc)?, file, Vec::new(alloc), mailboxes)?;
-    watch.report(
-        "  Tables::build",
-        entries,
-        Counted::Things("aliases"),
-        start,
-    )?;
-    Ok(tables)
+fn build_tables(alloc: Global, file: AliasFile) -> Result<Tables, AllocError>
+    requires entries { IsTrue (list_all is_good_entry file.entries) }
+    requires few { length file.entries ≤ 16777216 }
+{
+    let local = local(alloc)?;
+    let mailboxes = MailboxFile {
+        names: Seq::of(Vec::new(alloc)),
+        faults: Seq::of(Vec::new(alloc)),
+    };
+    Tables::build(alloc, local, file, Vec::new(alloc), mailboxes)
 }
 
 // The numbers of all nodes, which are a closed part.
@@ -104,22 +92,71 @@ fn find_loops<R: Clock + Print + AllocGlobal + Threads + Sync>(
     Ok(())
 }
 
-// The graph of the tables, and its loops.
-fn search<R: Clock + Print + AllocGlobal + Threads + Sync>(
+// What it took to build a graph since `start`, and the steps from it.
+fn measure_graph<R: Clock + Print + AllocGlobal + Threads + Sync>(
     watch: &Watch<R>,
-    tables: &Tables,
+    graph: &Graph,
+    start: Option<Instant>,
 ) -> Result<()> {
-    let alloc = watch.rt.alloc();
-    let start = watch.start()?;
-    let graph = Graph::build(alloc, tables, None, &[], NODES, 0)?;
     watch.report(
         "  Graph::build",
-        edges(&graph),
+        edges(graph),
         Counted::Things("edges"),
         start,
     )?;
-    let nodes = all_nodes(alloc, &graph)?;
-    find_loops(watch, &graph, &nodes)
+    let nodes = all_nodes(watch.rt.alloc(), graph)?;
+    find_loops(watch, graph, &nodes)
+}
+
+// What it took to build tables of so many aliases since `start`, and the steps from them.
+fn measure_tables<R: Clock + Print + AllocGlobal + Threads + Sync>(
+    watch: &Watch<R>,
+    tables: &Tables,
+    aliases: usize,
+    start: Option<Instant>,
+) -> Result<()> {
+    watch.report(
+        "  Tables::build",
+        aliases,
+        Counted::Things("aliases"),
+        start,
+    )?;
+    let start = watch.start()?;
+    let graph = Graph::build(watch.rt.alloc(), tables, None, &[], NODES, 0)?;
+    measure_graph(watch, &graph, start)
+}
+
+// The steps from an alias file that is parsed.
+fn measure_file<R: Clock + Print + AllocGlobal + Threads + Sync>(
+    watch: &Watch<R>,
+    file: AliasFile,
+) -> Result<()>
+    requires entries { IsTrue (list_all is_good_entry file.entries) }
+    requires few { length file.entries ≤ 16777216 }
+{
+    let aliases = file.entries.len();
+    let start = watch.start()?;
+    let tables = build_tables(watch.rt.alloc(), file)?;
+    measure_tables(watch, &tables, aliases, start)
+}
+
+// The steps from the text of an alias file.
+fn measure_text<R: Clock + Print + AllocGlobal + Threads + Sync>(
+    watch: &Watch<R>,
+    text: &[u8],
+) -> Result<()> {
+    parsed_files();
+    let start = watch.start()?;
+    let file = parse_aliases(watch.rt.alloc(), text)?;
+    let entries = file.entries.len();
+    watch.report(
+        "  parse_aliases",
+        entries,
+        Counted::Things("entries"),
+        start,
+    )?;
+    ensure!(entries <= NODES, "too many entries");
+    measure_file(watch, file)
 }
 
 /// Prints what each step took and gave, for an alias file of this shape.
@@ -133,6 +170,5 @@ pub fn measure<R: Clock + Print + AllocGlobal + Threads + Sync>(
     let name = shape.name();
     println!(watch.rt; "{name}")?;
     let text = shape.text(watch.rt.alloc(), aliases)?;
-    let tables = tables(watch, text.as_str().as_bytes())?;
-    search(watch, &tables)
+    measure_text(watch, text.as_str().as_bytes())
 }

@@ -61,37 +61,44 @@ impl Shape {
     pub fn text(self, alloc: Global, aliases: u32) -> Result<String, AllocError>
         requires { aliases ≤ 10000000 }
     {
+        let mut text = String::new(alloc);
+        self.put(alloc, &mut text, aliases)?;
+        Ok(text)
+    }
+
+    fn put(self, alloc: Global, text: &mut String, aliases: u32) -> Result<(), AllocError>
+        requires { aliases ≤ 10000000 }
+    {
+        let pairs = aliases / 10;
         match self {
-            Shape::Ring => ring(alloc, aliases),
-            Shape::Pairs => pairs(alloc, aliases / 10),
-            Shape::LineUp => line(alloc, aliases / 10, &upward(alloc, aliases / 10)?),
-            Shape::LineDown => line(alloc, aliases / 10, &downward(alloc, aliases / 10)?),
-            Shape::LineScattered => line(alloc, aliases / 10, &scattered(alloc, aliases / 10, 1)?),
-            Shape::Tree => tree(alloc, aliases),
-            Shape::Complete => complete(alloc, aliases.min(2000)),
-            Shape::Star => star(alloc, aliases),
-            Shape::Random => random(alloc, aliases),
+            Shape::Ring => put_ring(text, aliases),
+            Shape::Pairs => put_pairs(text, pairs),
+            Shape::LineUp => put_line(text, pairs, &upward(alloc, pairs)?),
+            Shape::LineDown => put_line(text, pairs, &downward(alloc, pairs)?),
+            Shape::LineScattered => put_line(text, pairs, &scattered(alloc, pairs, 1)?),
+            Shape::Tree => put_tree(text, aliases),
+            Shape::Complete => put_complete(text, aliases.min(2000)),
+            Shape::Star => put_star(text, aliases),
+            Shape::Random => put_random(alloc, text, aliases),
         }
     }
 }
 
-fn ring(alloc: Global, aliases: u32) -> Result<String, AllocError>
+fn put_ring(text: &mut String, aliases: u32) -> Result<(), AllocError>
     requires { aliases ≤ 10000000 }
 {
-    let mut text = String::new(alloc);
     for k in 0..aliases {
         let next = (k + 1) % aliases;
         writeln!(text, "a{k}: a{next}")?;
     }
-    Ok(text)
+    Ok(())
 }
 
-fn pairs(alloc: Global, pairs: u32) -> Result<String, AllocError> {
-    let mut text = String::new(alloc);
+fn put_pairs(text: &mut String, pairs: u32) -> Result<(), AllocError> {
     for k in 0..pairs {
         writeln!(text, "a{k}: b{k}\nb{k}: a{k}")?;
     }
-    Ok(text)
+    Ok(())
 }
 
 // The numbers of the pairs of a line, in their order.
@@ -110,36 +117,45 @@ fn scattered(alloc: Global, pairs: u32, seed: u64) -> Result<Vec<u32>, AllocErro
     Ok(order)
 }
 
-// The pairs of a line in this order. The last one leads to no other.
-fn line(alloc: Global, pairs: u32, order: &[u32]) -> Result<String, AllocError> {
-    let mut text = String::new(alloc);
+// The pairs of a line in this order.
+fn put_line(text: &mut String, pairs: u32, order: &[u32]) -> Result<(), AllocError> {
     for k in order {
-        writeln!(text, "a{k}: b{k}")?;
-        match k.checked_add(1) {
-            Some(next) if next < pairs => writeln!(text, "b{k}: a{k}, a{next}")?,
-            _ => writeln!(text, "b{k}: a{k}")?,
-        }
+        put_pair(text, pairs, *k)?;
     }
-    Ok(text)
+    Ok(())
 }
 
-// A leaf leads to a remote address.
-fn tree(alloc: Global, aliases: u32) -> Result<String, AllocError>
+// A pair of a line of so many. The last one leads to no other.
+fn put_pair(text: &mut String, pairs: u32, k: u32) -> Result<(), AllocError> {
+    writeln!(text, "a{k}: b{k}")?;
+    match k.checked_add(1) {
+        Some(next) if next < pairs => writeln!(text, "b{k}: a{k}, a{next}"),
+        _ => writeln!(text, "b{k}: a{k}"),
+    }
+}
+
+fn put_tree(text: &mut String, aliases: u32) -> Result<(), AllocError>
     requires { aliases ≤ 10000000 }
 {
-    let mut text = String::new(alloc);
     for k in 0..aliases {
-        let left = 2 * k + 1;
-        let right = left + 1;
-        if right < aliases {
-            writeln!(text, "a{k}: a{left}, a{right}")?;
-        } else if left < aliases {
-            writeln!(text, "a{k}: a{left}")?;
-        } else {
-            writeln!(text, "a{k}: joe@example.net")?;
-        }
+        put_branch(text, aliases, k)?;
     }
-    Ok(text)
+    Ok(())
+}
+
+// An alias of a tree of so many. A leaf leads to a remote address.
+fn put_branch(text: &mut String, aliases: u32, k: u32) -> Result<(), AllocError>
+    requires { k < 10000000 }
+{
+    let left = 2 * k + 1;
+    let right = left + 1;
+    if right < aliases {
+        writeln!(text, "a{k}: a{left}, a{right}")
+    } else if left < aliases {
+        writeln!(text, "a{k}: a{left}")
+    } else {
+        writeln!(text, "a{k}: joe@example.net")
+    }
 }
 
 // A list of all aliases but one.
@@ -152,33 +168,35 @@ fn put_others(text: &mut String, aliases: u32, one: u32) -> Result<(), AllocErro
     Ok(())
 }
 
-fn complete(alloc: Global, aliases: u32) -> Result<String, AllocError> {
-    let mut text = String::new(alloc);
+fn put_complete(text: &mut String, aliases: u32) -> Result<(), AllocError> {
     for k in 0..aliases {
         write!(text, "a{k}: ")?;
-        put_others(&mut text, aliases, k)?;
+        put_others(text, aliases, k)?;
         text.push('\n')?;
     }
-    Ok(text)
+    Ok(())
 }
 
-fn star(alloc: Global, aliases: u32) -> Result<String, AllocError> {
-    let mut text = String::new(alloc);
+fn put_star(text: &mut String, aliases: u32) -> Result<(), AllocError> {
     write!(text, "a0: ")?;
-    put_others(&mut text, aliases, 0)?;
+    put_others(text, aliases, 0)?;
     text.push('\n')?;
     for k in 1..aliases {
         writeln!(text, "a{k}: a0")?;
     }
-    Ok(text)
+    Ok(())
 }
 
-fn random(alloc: Global, aliases: u32) -> Result<String, AllocError> {
+fn put_random(alloc: Global, text: &mut String, aliases: u32) -> Result<(), AllocError> {
     let first = scattered(alloc, aliases, 1)?;
     let second = scattered(alloc, aliases, 2)?;
-    let mut text = String::new(alloc);
+    put_targets(text, &first, &second)
+}
+
+// Each alias's two targets.
+fn put_targets(text: &mut String, first: &[u32], second: &[u32]) -> Result<(), AllocError> {
     for (k, (one, other)) in first.iter().zip(second.iter()).enumerate() {
         writeln!(text, "a{k}: a{one}, a{other}")?;
     }
-    Ok(text)
+    Ok(())
 }

@@ -10,13 +10,13 @@ ghost use Rattle.std.specs.Prelude.{◌<◌, ◌≤◌};
 
 use crate::graphs::{Path, Wide};
 use crate::plain::plain;
-use anyhow::{Context, Result};
-use bench_watch::{Counted, Watch};
+use anyhow::Result;
+use bench_watch::{Asked, Counted, Watch};
 use relay_rounds::{NoGate, Steps, reach};
-use std::alloc::{AllocError, Global};
 use std::env;
 use std::rt::Clock;
 use std::thread::Threads;
+use std::time::Instant;
 
 const SMALL: u32 = 1000;
 
@@ -24,9 +24,16 @@ const LIMIT: usize = 16777216;
 
 const CUT: usize = 1024;
 
-// What is printed of a search by so many workers; 0 for the plain one.
-fn step(alloc: Global, what: &str, workers: usize) -> Result<String, AllocError> {
-    format!(in alloc; "{what}, {workers} workers")
+// Prints how many keys a search by so many workers found; 0 stands for the plain one.
+fn report<R: Clock + Print + AllocGlobal>(
+    watch: &Watch<R>,
+    what: &str,
+    workers: usize,
+    keys: usize,
+    start: Option<Instant>,
+) -> Result<()> {
+    let step = format!(in watch.rt.alloc(); "{what}, {workers} workers")?;
+    watch.report(step.as_str(), keys, Counted::Things("keys"), start)
 }
 
 // Searches a graph from 0 by so many workers.
@@ -40,10 +47,9 @@ fn search<S: Steps, R: Clock + Print + AllocGlobal + Threads + Sync>(
     requires workers { 1 ≤ workers }
 {
     let alloc = watch.rt.alloc();
-    let step = step(alloc, what, workers)?;
     let start = watch.start()?;
-    let keys = reach(watch.rt, alloc, steps, &[0], workers, CUT, LIMIT, &NoGate)?;
-    watch.report(step.as_str(), keys.len(), Counted::Things("keys"), start)
+    let keys = reach(watch.rt, alloc, steps, &[0], workers, CUT, LIMIT, &NoGate)?.len();
+    report(watch, what, workers, keys, start)
 }
 
 // By a plain search, and by 1, 2 and 4 workers.
@@ -54,27 +60,21 @@ fn compare<S: Steps, R: Clock + Print + AllocGlobal + Threads + Sync>(
 ) -> Result<()>
     requires { 0 < S.key_bound steps.now }
 {
-    let alloc = watch.rt.alloc();
-    let step = step(alloc, what, 0)?;
     let start = watch.start()?;
-    let keys = plain(alloc, steps)?;
-    watch.report(step.as_str(), keys, Counted::Things("keys"), start)?;
+    let keys = plain(watch.rt.alloc(), steps)?;
+    report(watch, what, 0, keys, start)?;
     search(watch, what, steps, 1)?;
     search(watch, what, steps, 2)?;
     search(watch, what, steps, 4)
 }
 
 fn main(rt: HostRuntime) -> Result<()> {
-    let mut words = env::args(&rt)?.skip(1);
-    let timed = words.next().is_some_and(|word| word.as_str() == "bench");
-    let keys = match words.next() {
-        Some(word) if timed => word.as_str().parse::<u32>().context("reading N")?,
-        _ => SMALL,
-    };
+    let asked = Asked::read(&mut env::args(&rt)?.skip(1), SMALL)?;
+    let keys = asked.count;
     if keys == 0 {
         return Ok(());
     }
-    let watch = Watch::new(&rt, timed);
+    let watch = Watch::new(&rt, asked.timed);
     compare(&watch, "path", &Path { keys, apart: 1 })?;
     compare(&watch, "path, 64 apart", &Path { keys, apart: 64 })?;
     compare(&watch, "wide", &Wide { keys })

@@ -6,19 +6,14 @@
 mod routing;
 mod texts;
 
-use anyhow::{Context, Result};
-use bench_watch::Watch;
+use anyhow::Result;
+use bench_watch::{Asked, Watch};
 use std::env;
 
 const SMALL: u32 = 1000;
 
 fn main(rt: HostRuntime) -> Result<()> {
-    let mut words = env::args(&rt)?.skip(1);
-    let timed = words.next().is_some_and(|word| word.as_str() == "bench");
-    let count = match words.next() {
-        Some(word) if timed => word.as_str().parse::<u32>().context("reading N")?,
-        _ => SMALL,
-    };
-    let watch = Watch::new(&rt, timed);
-    routing::run(&watch, count)
+    let asked = Asked::read(&mut env::args(&rt)?.skip(1), SMALL)?;
+    let watch = Watch::new(&rt, asked.timed);
+    routing::run(&watch, asked.count)
 }

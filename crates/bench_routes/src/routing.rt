@@ -6,7 +6,7 @@ use anyhow::Result;
 use bench_watch::{Counted, Watch};
 use relay_routes::{MxTable, RouteSettings, Router, Transport, TransportTable};
 use relay_text::{Address, Seq};
-use std::alloc::{AllocError, Global};
+use std::alloc::Global;
 use std::rt::Clock;
 
 // How many lines are at no fault.
@@ -19,11 +19,10 @@ fn good_lines(count: u32, faults: usize) -> usize
 fn read_transports<R: Clock + Print + AllocGlobal>(
     watch: &Watch<R>,
     count: u32,
+    text: &[u8],
 ) -> Result<TransportTable> {
-    let alloc = watch.rt.alloc();
-    let text = patterns(alloc, count)?;
     let start = watch.start()?;
-    let table = TransportTable::parse(alloc, &text)?;
+    let table = TransportTable::parse(watch.rt.alloc(), text)?;
     let good = good_lines(count, table.faults().len());
     watch.report("patterns read", good, Counted::OfCalls(count), start)?;
     Ok(table)
@@ -42,18 +41,26 @@ fn read_exchanges<R: Clock + Print + AllocGlobal>(
     Ok(table)
 }
 
-fn router_of(
-    alloc: Global,
-    transports: TransportTable,
-    exchanges: MxTable,
-) -> Result<Router, AllocError> {
-    let settings = RouteSettings {
+fn settings(alloc: Global) -> RouteSettings {
+    RouteSettings {
         own_names: Seq::of(Vec::new(alloc)),
         delimiter: Some(b'+'),
         default_transport: Transport::Smtp,
         seed: 1,
-    };
-    Router::new(alloc, settings, transports, exchanges)
+    }
+}
+
+fn read_router<R: Clock + Print + AllocGlobal>(
+    watch: &Watch<R>,
+    count: u32,
+    patterns: &[u8],
+    records: &[u8],
+) -> Result<Router> {
+    let alloc = watch.rt.alloc();
+    let transports = read_transports(watch, count, patterns)?;
+    let exchanges = read_exchanges(watch, "records read", count, records)?;
+    let router = Router::new(alloc, settings(alloc), transports, exchanges)?;
+    Ok(router)
 }
 
 // How many addresses have a route by two hosts, or one where their number is odd.
@@ -84,14 +91,14 @@ fn look_up<R: Clock + Print + AllocGlobal>(
     watch: &Watch<R>,
     count: u32,
     router: &Router,
+    addresses: &[Address],
 ) -> Result<()> {
     let alloc = watch.rt.alloc();
-    let addresses = addresses(alloc, count)?;
     let start = watch.start()?;
-    let found = find_all(alloc, router, &addresses);
+    let found = find_all(alloc, router, addresses);
     watch.report("destinations found", found, Counted::OfCalls(count), start)?;
     let start = watch.start()?;
-    let routed = route_all(alloc, router, &addresses);
+    let routed = route_all(alloc, router, addresses);
     watch.report("routes found", routed, Counted::OfCalls(count), start)
 }
 
@@ -109,14 +116,33 @@ fn look_up_one<R: Clock + Print + AllocGlobal>(
     watch.report("hosts of one domain", hosts, Counted::OfCalls(count), start)
 }
 
-pub fn run<R: Clock + Print + AllocGlobal>(watch: &Watch<R>, count: u32) -> Result<()> {
+// The routes of addresses by a router that is read from two texts.
+fn route<R: Clock + Print + AllocGlobal>(
+    watch: &Watch<R>,
+    count: u32,
+    patterns: &[u8],
+    records: &[u8],
+    addresses: &[Address],
+) -> Result<()> {
+    let router = read_router(watch, count, patterns, records)?;
+    look_up(watch, count, &router, addresses)
+}
+
+fn run_router<R: Clock + Print + AllocGlobal>(watch: &Watch<R>, count: u32) -> Result<()> {
     let alloc = watch.rt.alloc();
-    let transports = read_transports(watch, count)?;
-    let text = records(alloc, count)?;
-    let exchanges = read_exchanges(watch, "records read", count, &text)?;
-    let router = router_of(alloc, transports, exchanges)?;
-    look_up(watch, count, &router)?;
-    let text = records_of_one(alloc, count)?;
-    let exchanges = read_exchanges(watch, "records of one domain read", count, &text)?;
+    let patterns = patterns(alloc, count)?;
+    let records = records(alloc, count)?;
+    let addresses = addresses(alloc, count)?;
+    route(watch, count, &patterns, &records, &addresses)
+}
+
+fn run_one_domain<R: Clock + Print + AllocGlobal>(watch: &Watch<R>, count: u32) -> Result<()> {
+    let records = records_of_one(watch.rt.alloc(), count)?;
+    let exchanges = read_exchanges(watch, "records of one domain read", count, &records)?;
     look_up_one(watch, count, &exchanges)
+}
+
+pub fn run<R: Clock + Print + AllocGlobal>(watch: &Watch<R>, count: u32) -> Result<()> {
+    run_router(watch, count)?;
+    run_one_domain(watch, count)
 }

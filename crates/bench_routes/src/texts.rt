@@ -58,16 +58,23 @@ fn address(alloc: Global, text: &[u8]) -> Result<Address, TextFault> {
     parse_address(alloc, text, b"example.org")
 }
 
+// The address of this number, of so many.
+fn numbered_address(alloc: Global, number: u32, count: u32) -> Result<Address>
+    requires { number < count }
+{
+    let pattern = shuffled(count - 1 - number, count);
+    let text = format!(in alloc; "u{number}@a.b.p{pattern}.example.net")?;
+    let address = address(alloc, text.as_bytes());
+    address.ok().context("reading an address")
+}
+
 /// An address below each parent domain, two labels deeper.
 pub fn addresses(alloc: Global, count: u32) -> Result<Vec<Address>>
     ensures { IfOk result (λ addresses. vec_len addresses ≡ count) }
 {
     let mut addresses = Vec::new(alloc);
     for number in 0..count {
-        let pattern = shuffled(count - 1 - number, count);
-        let text = format!(in alloc; "u{number}@a.b.p{pattern}.example.net")?;
-        let address = address(alloc, text.as_bytes());
-        addresses.push(address.ok().context("reading an address")?)?;
+        addresses.push(numbered_address(alloc, number, count)?)?;
     }
     Ok(addresses)
 }

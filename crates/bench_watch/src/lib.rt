@@ -1,10 +1,13 @@
-//! What the programs that time a crate print: a line for each step, and how long it took where times are wanted.
+//! What the programs that time a crate share: the words that they take, and what they print, a line for each step with how long it
+//! took where times are wanted.
 //!
 //! Without times a program prints only what it counted, which is the same each time.
 #![tactic(auto)]
 
+pub mod asked;
 pub mod counted;
 pub mod watch;
 
+pub use asked::Asked;
 pub use counted::Counted;
 pub use watch::Watch;

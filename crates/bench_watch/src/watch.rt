@@ -3,8 +3,9 @@ ghost use Rattle.std.specs.Prelude.{◌≡◌, IfOk, is_some};
 
 use crate::counted::Counted;
 use anyhow::Result;
+use std::io;
 use std::rt::Clock;
-use std::time::Instant;
+use std::time::{Duration, Instant};
 
 #[derive(Drop)]
 pub struct Watch<'a, R: Clock + Print + AllocGlobal> {
@@ -44,23 +45,31 @@ impl<'a, R: Clock + Print + AllocGlobal> Watch<'a, R> {
             Some(start) => Some(start.elapsed(self.rt)?),
             None => None,
         };
+        self.print_count(step, count, counted)?;
+        self.print_time(elapsed, counted)?;
+        Ok(())
+    }
+
+    // The front of a line.
+    fn print_count(&self, step: &str, count: usize, counted: Counted) -> io::Result<()> {
         match counted {
-            Counted::OfCalls(calls) => {
-                print!(self.rt; "{step}: {count} of {calls}")?;
-                if let Some(elapsed) = elapsed {
-                    let each = elapsed.as_nanos() / u128::from(calls.max(1));
-                    print!(self.rt; ", {each} ns each")?;
-                }
+            Counted::OfCalls(calls) => print!(self.rt; "{step}: {count} of {calls}"),
+            Counted::Things(name) => print!(self.rt; "{step}: {count} {name}"),
+        }
+    }
+
+    // The end of a line.
+    fn print_time(&self, elapsed: Option<Duration>, counted: Counted) -> io::Result<()> {
+        match (elapsed, counted) {
+            (None, _) => println!(self.rt),
+            (Some(elapsed), Counted::OfCalls(calls)) => {
+                let each = elapsed.as_nanos() / u128::from(calls.max(1));
+                println!(self.rt; ", {each} ns each")
             }
-            Counted::Things(name) => {
-                print!(self.rt; "{step}: {count} {name}")?;
-                if let Some(elapsed) = elapsed {
-                    let millis = elapsed.as_millis();
-                    print!(self.rt; ", {millis} ms")?;
-                }
+            (Some(elapsed), Counted::Things(_)) => {
+                let millis = elapsed.as_millis();
+                println!(self.rt; ", {millis} ms")
             }
         }
-        println!(self.rt)?;
-        Ok(())
     }
 }
