@@ -9,6 +9,17 @@ pub(crate) struct Counts {
     pub(crate) entered: [AtomicUsize; 3],
 }
 
+impl Counts {
+    /// How often each of the three was entered so far.
+    pub(crate) fn counts(&self) -> [usize; 3] {
+        [
+            self.entered[0].load(Ordering::SeqCst),
+            self.entered[1].load(Ordering::SeqCst),
+            self.entered[2].load(Ordering::SeqCst),
+        ]
+    }
+}
+
 impl Gate for Counts {
     fn enter(&self, piece: usize) {
         if piece < 3 {
