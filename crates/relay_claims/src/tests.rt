@@ -1,13 +1,14 @@
 mod workers;
 
-ghost use Rattle.std.specs.Prelude.{◌≡◌};
+ghost use Rattle.std.specs.Prelude.{◌≡◌, ◌-◌, ◌∷◌, [], ◌++◌};
 ghost use Rattle.std.specs.Thread.{IsSync};
-ghost use Rattle.relay_claims.specs.Counting.{times, IsIn};
+ghost use Rattle.relay_claims.specs.Counting.{times, span, IsIn};
 ghost use Rattle.relay_claims.specs.Settled.{places_of};
 ghost use Rattle.relay_claims.specs.Seat.{IsSeatOf};
 
 use super::*;
 use std::alloc::{AllocError, Global};
+use std::process::Abort;
 use std::test::Fail;
 use std::thread::{Threads, join, join_mut};
 
@@ -22,22 +23,106 @@ fn closed(alloc: Global, round: Round, seat: Seat) -> Result<Vec<usize>, AllocEr
     round.close(alloc, seat).map_err(|_| AllocError)
 }
 
+// Closes a round, which has to give these places.
+fn expect_closed(
+    rt: &(impl Abort + AllocGlobal),
+    round: Round,
+    seat: Seat,
+    wanted: &[usize],
+) -> Result<(), AllocError>
+    requires { IsSeatOf round seat }
+{
+    let places = closed(rt.alloc(), round, seat)?;
+    assert_eq!(rt; places.as_slice(), wanted);
+    Ok(())
+}
+
+// The next draw has to give the places from start up to end.
+fn expect_piece(rt: &impl Abort, round: &Round, seat: &mut Seat, start: usize, end: usize)
+    requires { IsSeatOf round.now seat.old }
+    ensures own { IsSeatOf round.now seat.new }
+    ensures position { seat.new.position ≡ seat.old.position }
+    ensures settled { seat.new.settled ≡ seat.old.settled }
+    ensures drawn { seat.new.drawn ≡ seat.old.drawn ++ span start (end - start) }
+{
+    let piece = round.draw(seat);
+    assert_eq!(rt; piece, Some(start..end));
+}
+
+// No piece is left to draw.
+fn expect_none(rt: &impl Abort, round: &Round, seat: &mut Seat)
+    requires { IsSeatOf round.now seat.old }
+    ensures own { IsSeatOf round.now seat.new }
+    ensures settled { seat.new.settled ≡ seat.old.settled }
+    ensures drawn { seat.new.drawn ≡ seat.old.drawn }
+{
+    let piece = round.draw(seat);
+    assert_eq!(rt; piece, None);
+}
+
+// Draws four places, one at a time.
+fn draw_four(rt: &impl Abort, round: &Round, seat: &mut Seat)
+    requires { IsSeatOf round.now seat.old }
+    ensures own { IsSeatOf round.now seat.new }
+    ensures settled { seat.new.settled ≡ seat.old.settled }
+    ensures drawn { seat.new.drawn ≡ seat.old.drawn ++ (0 ∷ 1 ∷ 2 ∷ 3 ∷ []) }
+{
+    expect_piece(rt, round, seat, 0, 1);
+    expect_piece(rt, round, seat, 1, 2);
+    expect_piece(rt, round, seat, 2, 3);
+    expect_piece(rt, round, seat, 3, 4);
+    expect_none(rt, round, seat);
+}
+
+// Claims four drawn places, of which two have one key.
+fn claim_four(rt: &impl Abort, round: &Round, seat: &mut Seat)
+    requires own { IsSeatOf round.now seat.old }
+    requires drawn { seat.old.drawn ≡ (0 ∷ 1 ∷ 2 ∷ 3 ∷ []) }
+    requires settled { seat.old.settled ≡ [] }
+    ensures { IsSeatOf round.now seat.new }
+{
+    let claims = [
+        round.claim(seat, 0),
+        round.claim(seat, 1),
+        round.claim(seat, 2),
+        round.claim(seat, 3),
+    ];
+    assert_eq!(rt;
+        claims,
+        [Claim::Won, Claim::Won, Claim::Held(0), Claim::Won]
+    );
+}
+
 #[test]
 fn one_seat_claims_in_order(rt: HostRuntime) -> Result<(), Fail> {
     let keys = [5, 9, 5, 7];
     let (round, mut seat) = Round::open(rt.alloc(), &keys, 2, 1)?;
-    assert_eq!(rt; round.draw(&mut seat), Some(0..1));
-    assert_eq!(rt; round.draw(&mut seat), Some(1..2));
-    assert_eq!(rt; round.draw(&mut seat), Some(2..3));
-    assert_eq!(rt; round.draw(&mut seat), Some(3..4));
-    assert_eq!(rt; round.draw(&mut seat), None);
-    assert_eq!(rt; round.claim(&mut seat, 0), Claim::Won);
-    assert_eq!(rt; round.claim(&mut seat, 1), Claim::Won);
-    assert_eq!(rt; round.claim(&mut seat, 2), Claim::Held(0));
-    assert_eq!(rt; round.claim(&mut seat, 3), Claim::Won);
-    let places = closed(rt.alloc(), round, seat)?;
-    assert_eq!(rt; places.as_slice(), [0, 1, 3].as_slice());
+    draw_four(&rt, &round, &mut seat);
+    claim_four(&rt, &round, &mut seat);
+    expect_closed(&rt, round, seat, &[0, 1, 3])?;
     Ok(())
+}
+
+// The first seat draws the place 0, the second the places 1 and 2.
+fn draw_both(rt: &impl Abort, round: &Round, one: &mut Seat, two: &mut Seat)
+    requires own { IsSeatOf round.now one.old × IsSeatOf round.now two.old }
+    requires idle { (one.old.drawn ≡ []) × (two.old.drawn ≡ []) }
+    ensures own { IsSeatOf round.now one.new × IsSeatOf round.now two.new }
+    ensures position { (one.new.position ≡ one.old.position) × (two.new.position ≡ two.old.position) }
+    ensures settled { (one.new.settled ≡ one.old.settled) × (two.new.settled ≡ two.old.settled) }
+    ensures drawn { (one.new.drawn ≡ (0 ∷ [])) × (two.new.drawn ≡ (1 ∷ 2 ∷ [])) }
+{
+    expect_piece(rt, round, one, 0, 1);
+    expect_piece(rt, round, two, 1, 2);
+    expect_piece(rt, round, two, 2, 3);
+}
+
+// The place that was won, of the places 0 and 2: it holds the key of both.
+fn winner(rt: &impl Abort, a: Claim, b: Claim) -> usize {
+    assert!(rt;
+        (a == Claim::Won && b == Claim::Held(0)) || (a == Claim::Held(2) && b == Claim::Won)
+    );
+    if a == Claim::Won { 0 } else { 2 }
 }
 
 #[test]
@@ -45,36 +130,35 @@ fn two_seats_cross(rt: HostRuntime) -> Result<(), Fail> {
     let keys = [5, 9, 5, 7];
     let (round, seat) = Round::open(rt.alloc(), &keys, 2, 1)?;
     let (mut one, mut two) = round.split(seat);
-    assert_eq!(rt; round.draw(&mut one), Some(0..1));
-    assert_eq!(rt; round.draw(&mut two), Some(1..2));
-    assert_eq!(rt; round.draw(&mut two), Some(2..3));
+    draw_both(&rt, &round, &mut one, &mut two);
     let (a, b) = join_mut(
         &rt,
         &mut || round.claim(&mut one, 0),
         &mut || round.claim(&mut two, 2),
     );
-    assert!(rt;
-        (a == Claim::Won && b == Claim::Held(0)) || (a == Claim::Held(2) && b == Claim::Won)
-    );
+    let won = winner(&rt, a, b);
     let seat = round.join(one, two);
-    let places = closed(rt.alloc(), round, seat)?;
-    assert_eq!(rt;
-        places.as_slice(),
-        [if a == Claim::Won { 0 } else { 2 }].as_slice()
-    );
+    expect_closed(&rt, round, seat, &[won])?;
     Ok(())
+}
+
+// Draws seven places in pieces of three.
+fn draw_three(rt: &impl Abort, round: &Round, seat: &mut Seat)
+    requires { IsSeatOf round.now seat.old }
+{
+    assert_eq!(rt; round.pieces(), 3);
+    expect_piece(rt, round, seat, 0, 3);
+    expect_piece(rt, round, seat, 3, 6);
+    expect_piece(rt, round, seat, 6, 7);
+    expect_none(rt, round, seat);
+    expect_none(rt, round, seat);
 }
 
 #[test]
 fn one_seat_draws_all(rt: HostRuntime) -> Result<(), Fail> {
     let keys = [1, 2, 3, 4, 5, 6, 7];
     let (round, mut seat) = Round::open(rt.alloc(), &keys, 2, 3)?;
-    assert_eq!(rt; round.pieces(), 3);
-    assert_eq!(rt; round.draw(&mut seat), Some(0..3));
-    assert_eq!(rt; round.draw(&mut seat), Some(3..6));
-    assert_eq!(rt; round.draw(&mut seat), Some(6..7));
-    assert_eq!(rt; round.draw(&mut seat), None);
-    assert_eq!(rt; round.draw(&mut seat), None);
+    draw_three(&rt, &round, &mut seat);
     Ok(())
 }
 
@@ -91,6 +175,14 @@ fn draws(round: &Round, seat: &mut Seat) -> [(usize, usize); 4]
     pieces
 }
 
+// Two seats' draws have to give three pieces in all, and none at last.
+fn expect_all_drawn(rt: &impl Abort, a: [(usize, usize); 4], b: [(usize, usize); 4]) {
+    let mut drawn = [a[0], a[1], a[2], b[0], b[1], b[2]];
+    drawn.as_mut_slice().sort_unstable();
+    assert_eq!(rt; drawn, [(0, 0), (0, 0), (0, 0), (0, 3), (3, 6), (6, 7)]);
+    assert_eq!(rt; [a[3], b[3]], [(0, 0); 2]);
+}
+
 #[test]
 fn two_seats_draw_all(rt: HostRuntime) -> Result<(), Fail> {
     let keys = [1, 2, 3, 4, 5, 6, 7];
@@ -105,23 +197,15 @@ fn two_seats_draw_all(rt: HostRuntime) -> Result<(), Fail> {
             requires { IsSeatOf round two }
         { draws(&round, &mut two) },
     );
-    let mut drawn = [a[0], a[1], a[2], b[0], b[1], b[2]];
-    drawn.as_mut_slice().sort_unstable();
-    assert_eq!(rt;
-        drawn.as_slice(),
-        [(0, 0), (0, 0), (0, 0), (0, 3), (3, 6), (6, 7)].as_slice()
-    );
-    assert_eq!(rt; a[3], (0, 0));
-    assert_eq!(rt; b[3], (0, 0));
+    expect_all_drawn(&rt, a, b);
     Ok(())
 }
 
 #[test]
 fn no_key(rt: HostRuntime) -> Result<(), Fail> {
     let (round, mut seat) = Round::open(rt.alloc(), &[], 2, 3)?;
-    assert_eq!(rt; round.draw(&mut seat), None);
-    let places = closed(rt.alloc(), round, seat)?;
-    assert_eq!(rt; places.len(), 0);
+    expect_none(&rt, &round, &mut seat);
+    expect_closed(&rt, round, seat, &[])?;
     Ok(())
 }
 
@@ -135,17 +219,29 @@ fn claim_in_both(first: &Round, one: &mut Seat, second: &Round, two: &mut Seat) 
     (first.claim(one, 0), second.claim(two, 1))
 }
 
+// Both rounds have one key at two places, of which each seat draws both and wins one.
+fn win_in_both(rt: &impl Abort, first: &Round, one: &mut Seat, second: &Round, two: &mut Seat)
+    requires first { IsSeatOf first.now one.old × (one.old.drawn ≡ []) × (one.old.settled ≡ []) }
+    requires second { IsSeatOf second.now two.old × (two.old.drawn ≡ []) × (two.old.settled ≡ []) }
+    ensures first { IsSeatOf first.now one.new }
+    ensures second { IsSeatOf second.now two.new }
+{
+    expect_piece(rt, first, one, 0, 2);
+    expect_piece(rt, second, two, 0, 2);
+    let claims = claim_in_both(first, one, second, two);
+    assert_eq!(rt; claims, (Claim::Won, Claim::Won));
+}
+
 #[test]
 fn two_rounds_at_once(rt: HostRuntime) -> Result<(), Fail> {
     let keys = [5, 5];
     let (first, mut one) = Round::open(rt.alloc(), &keys, 1, 2)?;
     let (second, mut two) = Round::open(rt.alloc(), &keys, 1, 2)?;
-    assert_eq!(rt; first.draw(&mut one), Some(0..2));
-    assert_eq!(rt; second.draw(&mut two), Some(0..2));
-    let claims = claim_in_both(&first, &mut one, &second, &mut two);
-    assert_eq!(rt; claims, (Claim::Won, Claim::Won));
-    assert_eq!(rt; closed(rt.alloc(), first, one)?.as_slice(), [0].as_slice());
-    assert_eq!(rt; closed(rt.alloc(), second, two)?.as_slice(), [1].as_slice());
+    win_in_both(&rt, &first, &mut one, &second, &mut two);
+    // The first one's error waits, so that no round is held where the test may end.
+    let left = expect_closed(&rt, first, one, &[0]);
+    expect_closed(&rt, second, two, &[1])?;
+    left?;
     Ok(())
 }
 
