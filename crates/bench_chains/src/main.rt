@@ -7,14 +7,14 @@ mod keys;
 mod texts;
 
 use anyhow::Result;
-use bench_watch::{Asked, Watch};
+use bench_watch::{BenchWords, Watch};
 use std::env;
 
 const SMALL: u32 = 1000;
 
 fn main(rt: HostRuntime) -> Result<()> {
-    let asked = Asked::read(&mut env::args(&rt)?.skip(1), SMALL)?;
-    let watch = Watch::new(&rt, asked.timed);
-    keys::run(&watch, asked.count)?;
-    texts::run(&watch, asked.count)
+    let given = BenchWords::read(&mut env::args(&rt)?.skip(1), SMALL)?;
+    let watch = Watch::new(&rt, given.timed);
+    keys::run(&watch, given.count)?;
+    texts::run(&watch, given.count)
 }

@@ -9,7 +9,7 @@ mod shape;
 use crate::measuring::measure;
 use crate::shape::Shape;
 use anyhow::Result;
-use bench_watch::{Asked, Watch};
+use bench_watch::{BenchWords, Watch};
 use std::env;
 use std::rt::Clock;
 use std::thread::Threads;
@@ -42,8 +42,8 @@ fn measure_all<R: Clock + Print + AllocGlobal + Threads + Sync>(
 
 fn main(rt: HostRuntime) -> Result<()> {
     let mut words = env::args(&rt)?.skip(1);
-    let asked = Asked::read(&mut words, SMALL)?;
+    let given = BenchWords::read(&mut words, SMALL)?;
     let chosen = words.next();
-    let watch = Watch::new(&rt, asked.timed);
-    measure_all(&watch, chosen.as_deref(), asked.count)
+    let watch = Watch::new(&rt, given.timed);
+    measure_all(&watch, chosen.as_deref(), given.count)
 }

@@ -11,7 +11,7 @@ ghost use Rattle.std.specs.Prelude.{◌<◌, ◌≤◌};
 use crate::graphs::{Path, Wide};
 use crate::plain::plain;
 use anyhow::Result;
-use bench_watch::{Asked, Counted, Watch};
+use bench_watch::{BenchWords, Counted, Watch};
 use relay_rounds::{NoGate, Steps, reach};
 use std::env;
 use std::rt::Clock;
@@ -69,12 +69,12 @@ fn compare<S: Steps, R: Clock + Print + AllocGlobal + Threads + Sync>(
 }
 
 fn main(rt: HostRuntime) -> Result<()> {
-    let asked = Asked::read(&mut env::args(&rt)?.skip(1), SMALL)?;
-    let keys = asked.count;
+    let given = BenchWords::read(&mut env::args(&rt)?.skip(1), SMALL)?;
+    let keys = given.count;
     if keys == 0 {
         return Ok(());
     }
-    let watch = Watch::new(&rt, asked.timed);
+    let watch = Watch::new(&rt, given.timed);
     compare(&watch, "path", &Path { keys, apart: 1 })?;
     compare(&watch, "path, 64 apart", &Path { keys, apart: 64 })?;
     compare(&watch, "wide", &Wide { keys })

@@ -4,10 +4,10 @@
 //! Without times a program prints only what it counted, which is the same each time.
 #![tactic(auto)]
 
-pub mod asked;
+pub mod bench_words;
 pub mod counted;
 pub mod watch;
 
-pub use asked::Asked;
+pub use bench_words::BenchWords;
 pub use counted::Counted;
 pub use watch::Watch;

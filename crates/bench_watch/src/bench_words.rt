@@ -1,4 +1,4 @@
-//! What the programs are asked for by their words.
+//! The words by which the programs are asked for times.
 ghost use Rattle.std.specs.Prelude.{◌≡◌, false, IfOk};
 
 use anyhow::{Context, Result};
@@ -7,23 +7,23 @@ use std::iter::Skip;
 
 /// What the words `bench N` ask for.
 #[derive(Clone, Copy)]
-pub struct Asked {
+pub struct BenchWords {
     /// Whether times are wanted: the first word is `bench`.
     pub timed: bool,
     /// How many things are to be timed.
     pub count: u32,
 }
 
-impl Asked {
+impl BenchWords {
     /// Reads a program's first two words. Where no N stands behind `bench`, the count is `small`.
-    pub fn read(words: &mut Skip<Args>, small: u32) -> Result<Asked>
-        ensures { IfOk result (λ asked. asked.timed ≡ false → asked.count ≡ small) }
+    pub fn read(words: &mut Skip<Args>, small: u32) -> Result<BenchWords>
+        ensures { IfOk result (λ given. given.timed ≡ false → given.count ≡ small) }
     {
         let timed = words.next().is_some_and(|word| word.as_str() == "bench");
         let count = match words.next() {
             Some(word) if timed => word.as_str().parse::<u32>().context("reading N")?,
             _ => small,
         };
-        Ok(Asked { timed, count })
+        Ok(BenchWords { timed, count })
     }
 }
