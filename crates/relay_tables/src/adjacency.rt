@@ -1,29 +1,37 @@
 //! Rows of numbers, one row after another in one vector.
-ghost use Rattle.std.specs.Prelude.{◌≡◌, ◌<◌, ◌++◌, ◌∷◌, [], length, slice_index, slice_get, Some, IfOk, OnOk, OnErr};
+ghost use Rattle.std.specs.Prelude.{◌≡◌, ◌<◌, ◌++◌, ◌∷◌, [], length, map, slice_index, slice_get, Some, IfOk, OnOk, OnErr};
 ghost use Rattle.std.specs.List.{concat};
 ghost use Rattle.relay_chains.specs.Interner.{AreCut};
-ghost use Rattle.relay_tables.specs.Adjacency.{lists_of, row_of};
+ghost use Rattle.relay_tables.specs.Adjacency.{lists_of, only_of, row_of};
 
 use std::alloc::{AllocError, Global};
 use std::marker::Model;
+use std::slice;
 
-/// Rows of numbers, numbered from 0 up: 4 bytes for each number, and 8 for each row.
+/// Rows of numbers, numbered from 0 up: 4 bytes for each number, and 12 for each row.
+///
+/// Most rows have one number. It's kept by the row as well, where it takes one read of memory: by the row's ends it takes two, one after
+/// the other.
 #[derive(Drop)]
 pub(crate) struct Adjacency {
     numbers: Vec<u32>,
     ends: Vec<usize>,
+    /// By row: its number where it has exactly one, or else `MANY`.
+    only: Vec<u32>,
 }
+
+/// A row that has not exactly one number, or has this one, is read by its ends.
+const MANY: u32 = u32::MAX;
 
 impl Model for Adjacency {
     ghost use Rattle.std.specs.Prelude.{ℕ, List};
-    ghost use Rattle.relay_chains.specs.Interner.{AreCut};
-    ghost use Rattle.relay_tables.specs.Adjacency.{lists_of};
+    ghost use Rattle.relay_tables.specs.Adjacency.{IsAdjacency, lists_of};
 
     ghost Value = { List (List ℕ) };
 
     ghost view = { λ a. lists_of a.numbers.items a.ends.items };
 
-    ghost invariant = { λ a. AreCut a.numbers.items a.ends.items };
+    ghost invariant = { λ a. IsAdjacency a.numbers.items a.ends.items a.only.items };
 }
 
 impl Adjacency {
@@ -38,15 +46,25 @@ impl Adjacency {
         Ok(Adjacency {
             numbers: Vec::with_capacity(alloc, numbers)?,
             ends: Vec::with_capacity(alloc, rows)?,
+            only: Vec::with_capacity(alloc, rows)?,
         })
     }
 
-    /// The rows that these ends cut the numbers into, without taking memory.
-    pub(crate) fn from_parts(numbers: Vec<u32>, ends: Vec<usize>) -> Adjacency
+    /// The rows that these ends cut the numbers into. `Err` where memory runs out.
+    pub(crate) fn from_parts(
+        alloc: Global,
+        numbers: Vec<u32>,
+        ends: Vec<usize>,
+    ) -> Result<Adjacency, AllocError>
         requires { AreCut numbers.items ends.items }
-        ensures { result ≡ lists_of numbers.items ends.items }
+        ensures { IfOk result (λ made. made ≡ lists_of numbers.items ends.items) }
     {
-        Adjacency { numbers, ends }
+        let only = only_numbers(alloc, &numbers, &ends)?;
+        Ok(Adjacency {
+            numbers,
+            ends,
+            only,
+        })
     }
 
     /// Puts a row at the end. `Err` where memory runs out.
@@ -55,9 +73,11 @@ impl Adjacency {
         ensures err { OnErr result (self.new ≡ self.old) }
     {
         self.ends.reserve(1)?;
+        self.only.reserve(1)?;
         append(row, &mut self.numbers)?;
         let end = self.numbers.len();
         self.ends.push_reserved(end);
+        self.only.push_reserved(only_of(row));
         Ok(())
     }
 
@@ -72,10 +92,10 @@ impl Adjacency {
     pub(crate) fn row(&self, number: usize) -> &[u32]
         ensures { result.now ≡ row_of self.now number }
     {
-        if number < self.ends.len() {
-            row_at(&self.numbers, &self.ends, number)
-        } else {
-            &[]
+        match self.only.get(number) {
+            Some(only) if *only != MANY => slice::from_ref(only),
+            Some(_) => row_at(&self.numbers, &self.ends, number),
+            None => &[],
         }
     }
 
@@ -85,6 +105,28 @@ impl Adjacency {
     {
         self.numbers.as_slice()
     }
+}
+
+// What is kept by a row.
+fn only_of(row: &[u32]) -> u32
+    ensures { result ≡ only_of row.now }
+{
+    match row {
+        [number] => *number,
+        _ => MANY,
+    }
+}
+
+// What is kept by each of the rows that these ends cut the numbers into.
+fn only_numbers(alloc: Global, numbers: &[u32], ends: &[usize]) -> Result<Vec<u32>, AllocError>
+    requires { AreCut numbers.now ends.now }
+    ensures { IfOk result (λ only. only.items ≡ map only_of (lists_of numbers.now ends.now)) }
+{
+    let mut only = Vec::with_capacity(alloc, ends.len())?;
+    for number in 0..ends.len() {
+        only.push(only_of(row_at(numbers, ends, number)))?;
+    }
+    Ok(only)
 }
 
 // Puts a row behind these numbers. Most rows have one number, for which a push is less work than a copy.
