@@ -17,7 +17,7 @@ use std::marker::Model;
 /// The aliases of the tables, the include files and the targets of items and recipients as numbered nodes, and which leads to which; and
 /// the senders that owners give, numbered too. `build` takes all of them, and `reached` what the recipients lead to.
 ///
-/// Children and parents lie in one vector each: 4 bytes for an item, and 8 for a node.
+/// Children and parents lie in one vector each: 4 bytes for an item, and 12 for a node.
 #[derive(Drop)]
 pub struct Graph {
     nodes: Vec<Node>,
