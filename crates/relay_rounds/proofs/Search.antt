@@ -1,12 +1,13 @@
 -- What a round does for a search, and what a search without offers has found.
-use Rattle.std.proofs.Common.{◌≡◌, ◌≢◌, ℕ, ◌+◌, ◌<◌, ◌≤◌, List, [], ◌∷◌, ◌++◌, length, get_or, arith, sym, refl, subst, inl, inr, ⊎_elim}
+use Rattle.std.proofs.Common.{◌≡◌, ◌≢◌, ℕ, ◌+◌, ◌<◌, ◌≤◌, List, [], ◌∷◌, ◌++◌, length, get_or, drop, arith, ap, sym, ◌∙◌, refl, subst, inl, inr, ⊎_elim, Result, Ok, Err}
 use Rattle.std.specs.Prelude.{All, AllPairs, Contains, flat_map, ◌⊎◌, ◌↔◌}
-use Rattle.std.proofs.lemmas.List.{length-append, append-nil}
+use Rattle.std.proofs.lemmas.List.{length-append, append-nil, drop_all, drop_more}
 use Rattle.std.proofs.lemmas.List.Elements.{All-nil, All-cons, All-append, All-contains, Contains-append_left, Contains-append_right, Contains-append_cases, Contains-push, Contains-push_cases}
 use Rattle.std.specs.List.Sorted.{IsStrictlyIncreasing}
+use Rattle.relay_rounds.specs.declared.fault.ReachFault.{ReachFault}
 use Rattle.relay_rounds.specs.Walks.{IsWalk}
 use Rattle.relay_rounds.specs.Closures.{IsReachedKey, IsClosureOf, HasMoreReached}
-use Rattle.relay_rounds.specs.Searches.{IsSearch, AreNewOf, Advances, Settles, IsTooFar}
+use Rattle.relay_rounds.specs.Searches.{IsSearch, AreNewOf, Advances, GoesOn, IsMet, Settles, IsTooFar}
 use Rattle.relay_rounds.specs.Shards.{AreBothOf}
 use Rattle.relay_rounds.proofs.Keys.{nowhere, in_head, in_tail, cons_cases, present, in_flat_map, from_flat_map, all_of, distinct_both}
 use Rattle.relay_rounds.proofs.Rising.{rising_of}
@@ -221,28 +222,72 @@ module _ (next : ℕ → List ℕ) (bound limit : ℕ) (settled won now : List �
   pub too_many_won : limit < length settled + length won → IsTooFar next settled won limit
   too_many_won more roots s = too_many next roots settled won won limit s (all_new settled won distinct fresh) more
 
--- the one key of a round was new
-pub settles_new : (next : ℕ → List ℕ) (bound limit key : ℕ) (settled now : List ℕ) → AllPairs (λ a b. a ≢ b) settled → (Contains settled key → ⊥) → AreBothOf settled (key ∷ []) now
-    → length settled < limit → All (λ k. k < bound) (next key) → Settles next bound limit settled (key ∷ []) now (next key)
-settles_new next bound limit key settled now apart none b room below =
-    let only : (k : ℕ) → Contains (key ∷ []) k → Contains settled k → ⊥ = λ k one old. ⊎_elim (λ e. none (subst (λ (z : ℕ). Contains settled z) (sym e) old)) (λ no. nowhere k no) (cons_cases key [] k one) in
-    subst (λ (xs : List ℕ). Settles next bound limit settled (key ∷ []) now xs) (append-nil (next key))
-    (settles_all next bound limit settled (key ∷ []) now apart (one_apart key) only b (omega arith) (subst (All (λ k. k < bound)) (sym (append-nil (next key))) below))
+-- a new key makes the settled keys one more
+pub one_longer : (settled now : List ℕ) (key : ℕ) → AllPairs (λ a b. a ≢ b) settled → (Contains settled key → ⊥) → AreBothOf settled (key ∷ []) now → length now ≡ length settled + 1
+one_longer settled now key apart fresh b =
+    both_len settled (key ∷ []) now b apart (one_apart key) (λ k one old. ⊎_elim (λ e. fresh (subst (λ (z : ℕ). Contains settled z) (sym e) old)) (λ none. nowhere k none) (cons_cases key [] k one))
 
--- the one key of a round was settled already
-pub settles_old : (next : ℕ → List ℕ) (bound limit key : ℕ) (settled : List ℕ) → Contains settled key → length settled ≤ limit → Settles next bound limit settled (key ∷ []) settled []
-settles_old next bound limit key settled there room = record {
-  within = room;
-  below = All-nil (λ k. k < bound);
-  advances = inr (refl, refl);
-  search = λ roots s. known_key next roots settled [] key s there;
-}
+-- so many keys of a round are met, and what is left of them is offered before the next keys of those
+pub record IsPartly (next : ℕ → List ℕ) (bound limit : ℕ) (before keys settled offered : List ℕ) (met : ℕ) : Type 0 where
+  pub within : length settled ≤ limit
+  pub below : All (λ key. key < bound) offered
+  pub advances : Advances before settled offered
+  pub search : GoesOn next before keys settled (drop met keys ++ offered)
 
--- a lone key
-pub lone : (xs : List ℕ) → length xs ≡ 1 → xs ≡ get_or xs 0 0 ∷ []
-lone [] e = absurd (omega arith)
-lone (x ∷ []) e = refl
-lone (x ∷ y ∷ ys) e = absurd (omega arith)
+module _ (next : ℕ → List ℕ) (bound limit : ℕ) (before keys : List ℕ) where
+  pub partly_none : length before ≤ limit → IsPartly next bound limit before keys before [] 0
+  partly_none room = record {
+    within = room;
+    below = All-nil (λ k. k < bound);
+    advances = inr (refl, refl);
+    search = λ roots s. subst (λ (xs : List ℕ). IsSearch next roots before xs) (sym (append-nil keys)) s;
+  }
+
+  -- what is left begins with the next key
+  left_is : (roots settled offered : List ℕ) (met key : ℕ) → met < length keys → key ≡ get_or keys met key → IsSearch next roots settled (drop met keys ++ offered) → IsSearch next roots settled (key ∷ (drop (met + 1) keys ++ offered))
+  left_is roots settled offered met key short is s =
+      let left : drop met keys ≡ key ∷ drop (met + 1) keys = drop_more keys met key short ∙ ap (λ (k : ℕ). k ∷ drop (met + 1) keys) (sym is) in
+      subst (λ (xs : List ℕ). IsSearch next roots settled (xs ++ offered)) left s
+
+  module _ (settled offered : List ℕ) (met key : ℕ) (short : met < length keys) (is : key ≡ get_or keys met key) (p : IsPartly next bound limit before keys settled offered met) where
+    longer : (now : List ℕ) → length now ≡ length settled + 1 → Advances before now (offered ++ next key)
+    longer now long = inl (⊎_elim (λ more. omega arith) (λ same. let e = same.0 in omega arith) p.advances)
+
+    met_new : (now : List ℕ) → (Contains settled key → ⊥) → AreBothOf settled (key ∷ []) now → length now ≡ length settled + 1 → length settled < limit → All (λ k. k < bound) (next key)
+        → IsPartly next bound limit before keys now (offered ++ next key) (met + 1)
+    met_new now fresh b long room below = record {
+      within = omega arith;
+      below = All-append (λ k. k < bound) offered (next key) p.below below;
+      advances = longer now long;
+      search = λ roots s. other_order next roots (settled ++ key ∷ []) now (drop (met + 1) keys ++ (offered ++ next key))
+          (new_key next roots settled (drop (met + 1) keys) offered key (left_is roots settled offered met key short is (p.search roots s)) fresh)
+          b.distinct (both_same settled (key ∷ []) now b);
+    }
+
+    met_old : Contains settled key → IsPartly next bound limit before keys settled offered (met + 1)
+    met_old there = record {
+      within = p.within;
+      below = p.below;
+      advances = p.advances;
+      search = λ roots s. known_key next roots settled (drop (met + 1) keys ++ offered) key (left_is roots settled offered met key short is (p.search roots s)) there;
+    }
+
+    pub partly_more : (now offered_now : List ℕ) → IsMet next limit key settled now offered offered_now → All (λ k. k < bound) (next key) → IsPartly next bound limit before keys now offered_now (met + 1)
+    partly_more now offered_now m below = ⊎_elim
+        (λ old. rw (old.1, old.2) (met_old old.0))
+        (λ new. rw new.4 (met_new now new.0 new.1 new.2 new.3 below))
+        m
+
+    pub partly_full : (Contains settled key → ⊥) → length settled ≡ limit → IsTooFar next before keys limit
+    partly_full fresh full roots s = one_too_many next roots settled (drop (met + 1) keys) offered key limit (left_is roots settled offered met key short is (p.search roots s)) fresh full
+
+  pub partly_all : (settled offered : List ℕ) (met : ℕ) → length keys ≤ met → IsPartly next bound limit before keys settled offered met → Settles next bound limit before keys settled offered
+  partly_all settled offered met all p = record {
+    within = p.within;
+    below = p.below;
+    advances = p.advances;
+    search = λ roots s. subst (λ (xs : List ℕ). IsSearch next roots settled (xs ++ offered)) (drop_all met keys all) (p.search roots s);
+  }
 
 -- new keys were offered
 pub new_all : (P : ℕ → Type 0) (settled offered new : List ℕ) → AreNewOf settled offered new → All P offered → All P new
@@ -259,3 +304,11 @@ closes next roots settled sorted s rising same = record {
   ascending = rising;
   members = λ key. let e = search_ends next roots settled s key in let m = same key in ((λ on. e.0 (m.0 on)), (λ r. m.1 (e.1 r)));
 }
+
+-- the fault of an answer of another type
+abbrev fault_or : {A : Type 0} → ReachFault → Result A ReachFault → ReachFault
+fault_or fault (Ok answer) = fault
+fault_or fault (Err other) = other
+
+pub same_fault : {A B : Type 0} (x y : ReachFault) → ◌≡◌ {A = Result A ReachFault} (Err x) (Err y) → ◌≡◌ {A = Result B ReachFault} (Err x) (Err y)
+same_fault x y e = ap Err (ap (fault_or x) e)

@@ -1,6 +1,7 @@
 -- A search in rounds: the keys that are settled, and those that are offered to the next round.
-use Rattle.std.specs.Prelude.{◌≡◌, ◌≢◌, ℕ, ◌<◌, ◌≤◌, List, [], length, All, AllPairs, Contains, ◌↔◌, ◌⊎◌}
+use Rattle.std.specs.Prelude.{◌≡◌, ◌≢◌, ℕ, ◌<◌, ◌≤◌, ◌+◌, List, [], ◌∷◌, ◌++◌, length, All, AllPairs, Contains, ◌↔◌, ◌⊎◌}
 use Rattle.relay_rounds.specs.Closures.{IsReachedKey, HasMoreReached}
+use Rattle.relay_rounds.specs.Shards.{AreBothOf}
 
 -- settled are keys that are reached, each once; what they and the roots lead to is settled or offered
 pub record IsSearch (next : ℕ → List ℕ) (roots settled offered : List ℕ) : Type 0 where
@@ -26,6 +27,12 @@ IsTooFar next settled offered limit = (roots : List ℕ) → IsSearch next roots
 -- keys were settled, or none is offered
 abbrev pub Advances : List ℕ → List ℕ → List ℕ → Type 0
 Advances settled settled_now offered_now = (length settled < length settled_now) ⊎ ((length settled_now ≡ length settled) × (offered_now ≡ []))
+
+-- a key was settled already; or it is now, and what it leads to is offered behind the rest
+abbrev pub IsMet : (ℕ → List ℕ) → ℕ → ℕ → List ℕ → List ℕ → List ℕ → List ℕ → Type 0
+IsMet next limit key settled settled_now offered offered_now =
+    (Contains settled key × (settled_now ≡ settled) × (offered_now ≡ offered))
+    ⊎ ((Contains settled key → ⊥) × AreBothOf settled (key ∷ []) settled_now × (length settled_now ≡ length settled + 1) × (length settled < limit) × (offered_now ≡ offered ++ next key))
 
 -- the keys of a round were settled, and what they lead to is offered
 pub record Settles (next : ℕ → List ℕ) (bound limit : ℕ) (settled won settled_now offered_now : List ℕ) : Type 0 where

@@ -1,9 +1,16 @@
 //! All keys that can be reached, in rounds, by several threads.
 //!
 //! A [`Steps`] names for each key the list of its next keys. [`reach`] gives all keys that some chain of steps from a root ends in.
-//! A round offers the next keys of all keys that were new in the round before, with their repeats. Threads claim those that aren't settled yet, so that each new key is won once (`relay_claims`). New keys are settled, as bits.
+//! A round offers the next keys of all keys that were new in the round before, with their repeats. Threads claim those that aren't settled
+//! yet, so that each new key is won once (`relay_claims`). New keys are settled, as bits. Where one thread would work alone, since there is
+//! one worker or one piece, it settles each key as it comes to it, and nothing is claimed.
+//!
+//! The way through the modules: `reaching` has the rounds. `alone` is a round of one thread. One of several is `winning`, whose threads
+//! (`workers`, each a `worker`) win keys, and then `settling`, which settles these (`settled`, in `part`s of `shard`s) and looks for
+//! their next keys (`expanding`).
 #![tactic(auto)]
 
+mod alone;
 mod bits;
 mod block;
 mod expanding;

@@ -2,24 +2,32 @@
 ghost use Rattle.std.specs.Prelude.{◌≡◌, ◌<◌, ◌≤◌, ◌-◌, ◌^◌, length, All, IfOk, Err};
 ghost use Rattle.relay_rounds.specs.Closures.{IsClosureOf, HasMoreReached};
 
+use crate::alone::Alone;
 use crate::fault::ReachFault;
 use crate::gate::Gate;
 use crate::kept::Kept;
 use crate::offers::Offers;
 use crate::settled::Settled;
-use crate::settling::{settle, settle_one};
+use crate::settling::settle;
 use crate::steps::Steps;
 use crate::winning::winners;
 use relay_chains::Key;
 use std::alloc::Global;
+use std::mem;
 use std::thread::Threads;
+
+// Whether one thread alone would work on so many keys.
+fn is_for_one(workers: usize, keys: usize, cut: usize) -> bool {
+    workers == 1 || keys <= cut
+}
 
 /// All keys that some chain of steps from a root ends in, ascending, each once. A root is reached by a chain of no steps.
 ///
 /// `workers` threads take part, the calling one among them, but no more than a round has pieces; a piece is `cut` offered
 /// keys, which one worker claims. Neither they nor the gate change the answer. `roots` may name a key more than once.
 /// Time of a round grows with the keys that it offers, and not with the bound of the steps. 64 keys one after another take
-/// about 40 bytes once one of them is settled, and no more where all are. A round of one key takes no table and no thread.
+/// about 40 bytes once one of them is settled, and no more where all are. A round of one piece, or of one worker, takes no table
+/// and no thread.
 ///
 /// `TooManyPairs` comes exactly where more than `limit` keys are reached, however often each is offered. `Memory` comes
 /// only where a growth was refused, once all threads have ended.
@@ -44,13 +52,18 @@ pub fn reach<S: Steps, G: Gate, R: Threads + Sync>(
     let mut settled = Settled::new(alloc, workers)?;
     let mut offered = Vec::from_slice(alloc, roots)?;
     let mut kept = Kept::new(alloc);
+    let mut next = Vec::new(alloc);
+    let alone = Alone {
+        steps,
+        gate,
+        cut,
+        limit,
+    };
     'rounds: while !offered.is_empty() {
-        if offered.len() == 1 {
-            // Nothing can repeat, so nothing is claimed.
-            let key = offered[0];
-            gate.enter(0);
-            offered.clear();
-            settle_one(steps, key, limit, &mut settled, &mut offered)?;
+        if is_for_one(workers, offered.len(), cut) {
+            next.clear();
+            alone.round(offered.as_slice(), &mut settled, &mut next)?;
+            mem::swap(&mut offered, &mut next);
             continue;
         }
         let offers = Offers {

@@ -14,33 +14,6 @@ use std::thread::Threads;
 // From so many keys on it pays to start threads.
 const MANY_KEYS: usize = 8192;
 
-/// Settles a key, and puts its next keys behind those that are offered, where it is new.
-pub(crate) fn settle_one<S: Steps>(
-    steps: &S,
-    key: Key,
-    limit: usize,
-    settled: &mut Settled,
-    offered: &mut Vec<Key>,
-) -> Result<(), ReachFault>
-    requires key { key < S.key_bound steps.now }
-    requires within { length settled.old ≤ limit }
-    requires limit { limit ≤ 2 ^ 32 - 2 }
-    requires none { offered.old.items ≡ [] }
-    ensures settles { OnOk result (Settles (S.next_keys steps.now) (S.key_bound steps.now) limit settled.old (key ∷ []) settled.new offered.new.items) }
-    ensures refused { result ≡ Err ReachFault.TooManyPairs → IsTooFar (S.next_keys steps.now) settled.old (key ∷ []) limit }
-{
-    if settled.len() == limit {
-        if settled.contains(key) {
-            return Ok(());
-        }
-        return Err(ReachFault::TooManyPairs);
-    }
-    if settled.insert(key)? {
-        steps.append(key, offered)?;
-    }
-    Ok(())
-}
-
 // Settles the keys, and expands them, in this thread.
 fn settle_few<S: Steps>(
     steps: &S,
@@ -80,7 +53,7 @@ fn settle_many<S: Steps, R: Threads + Sync>(
     Ok(settled)
 }
 
-/// Settles the new keys of a round, by several threads where there are many keys and workers.
+/// Settles the new keys of a round, by several threads where there are many keys.
 pub(crate) fn settle<S: Steps, R: Threads + Sync>(
     rt: &R,
     alloc: Global,
@@ -102,7 +75,7 @@ pub(crate) fn settle<S: Steps, R: Threads + Sync>(
     if new.len() > limit - settled.len() {
         return Err(ReachFault::TooManyPairs);
     }
-    if settled.is_one_part() || new.len() < MANY_KEYS {
+    if new.len() < MANY_KEYS {
         let now = settle_few(steps, new, settled, offered)?;
         return Ok(now);
     }

@@ -1,9 +1,7 @@
-use Rattle.std.proofs.Common.{rules, ◌≡◌, ℕ, ◌<◌, length, get_or, arith, sym, refl, ap, ◌∙◌, subst, List, [], ◌∷◌, Result, Ok, Err}
-use Rattle.std.proofs.lemmas.List.{get_or_default}
+use Rattle.std.proofs.Common.{rules, ◌≡◌, ℕ, ◌<◌, length, arith, sym, refl, subst, List, [], ◌∷◌}
 use Rattle.std.proofs.lemmas.Result.{err_from_is_err_and}
-use Rattle.relay_rounds.specs.declared.fault.ReachFault.{ReachFault}
 use Rattle.relay_rounds.specs.Searches.{IsSearch, AreNewOf}
-use Rattle.relay_rounds.proofs.Search.{search_begins, new_won, new_all, lone, closes}
+use Rattle.relay_rounds.proofs.Search.{search_begins, new_won, new_all, same_fault, closes}
 use Rattle.relay_rounds.proofs.reaching.reach.Goals as goal
 
 pub rounds-init : goal.rounds-init
@@ -17,41 +15,6 @@ rounds-init g c =
       within = rw keys (omega arith);
     }
 
--- the lone offer
-one_offer : (offered : List ℕ) (key : ℕ) → length offered ≡ 1 → key ≡ get_or offered 0 key → offered ≡ key ∷ []
-one_offer offered key one is = lone offered one ∙ ap (λ (k : ℕ). k ∷ []) (get_or_default offered 0 0 key (omega arith) ∙ sym is)
-
--- the fault of an answer of another type
-abbrev fault_or : {A : Type 0} → ReachFault → Result A ReachFault → ReachFault
-fault_or fault (Ok answer) = fault
-fault_or fault (Err other) = other
-
-same_fault : {A B : Type 0} (x y : ReachFault) → ◌≡◌ {A = Result A ReachFault} (Err x) (Err y) → ◌≡◌ {A = Result B ReachFault} (Err x) (Err y)
-same_fault x y e = ap Err (ap (fault_or x) e)
-
-pub returns-in_err-settle_one-clause-refused : goal.returns-in_err-settle_one-clause-refused
-returns-in_err-settle_one-clause-refused g c =
-    let offered = c.rounds.offered.items in
-    let one : length offered ≡ 1 = (let size : c.len.result ≡ length offered = search rules in let test = c.if-len-eq1.true in omega arith) in
-    let p = err_from_is_err_and c.from_residual-in_err-settle_one.result c.from_residual-in_err-settle_one.ensures.1 in
-    rw (p.1, p.2)
-    (λ e. c.in_err-settle_one.ensures.refused (same_fault _ _ e) c.args.roots.now
-    (subst (λ (xs : List ℕ). IsSearch (g.S.Steps.next_keys c.args.steps.now) c.args.roots.now c.rounds.settled xs)
-    (one_offer offered c.index-key.result.now one c.index-key.ensures) c.rounds.invariant.search))
-
-pub rounds-preserved-then-len-eq1 : goal.rounds-preserved-then-len-eq1
-rounds-preserved-then-len-eq1 g c =
-    let offered = c.rounds.offered.items in
-    let one : length offered ≡ 1 = (let size : c.len.result ≡ length offered = search rules in let test = c.if-len-eq1.true in omega arith) in
-    let e = c.in_ok-settle_one.ensures.settles in
-    record {
-      search = e.search c.args.roots.now
-          (subst (λ (xs : List ℕ). IsSearch (g.S.Steps.next_keys c.args.steps.now) c.args.roots.now c.rounds.settled xs)
-          (one_offer offered c.index-key.result.now one c.index-key.ensures) c.rounds.invariant.search);
-      below = e.below;
-      within = e.within;
-    }
-
 -- the new keys of a round, where it hands on its lists by slices
 new_here : (settled offered shown won won_shown : List ℕ) → shown ≡ offered → won_shown ≡ won → AreNewOf settled shown won → AreNewOf settled offered won_shown
 new_here settled offered shown won won_shown a b n = subst (λ (xs : List ℕ). AreNewOf settled offered xs) (sym b) (subst (λ (xs : List ℕ). AreNewOf settled xs won) a n)
@@ -61,7 +24,7 @@ settle-requires-clause-below g c κs within =
     let settled = c.rounds.settled in
     let new = c.as_slice-new.result.now in
     let n : AreNewOf settled c.rounds.offered.items new =
-    new_here settled c.rounds.offered.items c.as_slice.result.now c.winners.new.kept.won.items new c.as_slice.ensures.value c.as_slice-new.ensures.value c.in_ok-winners.ensures in
+    new_here settled c.rounds.offered.items c.as_slice-in-rounds.result.now c.winners.new.kept.won.items new c.as_slice-in-rounds.ensures.value c.as_slice-new.ensures.value c.in_ok-winners.ensures in
     new_all (λ key. key < g.S.Steps.key_bound c.args.steps.now) settled c.rounds.offered.items new n c.rounds.invariant.below
 
 pub settle-requires-clause-fresh : goal.settle-requires-clause-fresh
@@ -69,7 +32,7 @@ settle-requires-clause-fresh g c κs within =
     let settled = c.rounds.settled in
     let new = c.as_slice-new.result.now in
     let n : AreNewOf settled c.rounds.offered.items new =
-    new_here settled c.rounds.offered.items c.as_slice.result.now c.winners.new.kept.won.items new c.as_slice.ensures.value c.as_slice-new.ensures.value c.in_ok-winners.ensures in
+    new_here settled c.rounds.offered.items c.as_slice-in-rounds.result.now c.winners.new.kept.won.items new c.as_slice-in-rounds.ensures.value c.as_slice-new.ensures.value c.in_ok-winners.ensures in
     λ key on old. ((n.members key).0 on).1 old
 
 pub returns-in_err-settled-2-clause-refused : goal.returns-in_err-settled-2-clause-refused
@@ -77,7 +40,7 @@ returns-in_err-settled-2-clause-refused g c =
     let settled = c.rounds.settled in
     let new = c.as_slice-new.result.now in
     let n : AreNewOf settled c.rounds.offered.items new =
-    new_here settled c.rounds.offered.items c.as_slice.result.now c.winners.new.kept.won.items new c.as_slice.ensures.value c.as_slice-new.ensures.value c.in_ok-winners.ensures in
+    new_here settled c.rounds.offered.items c.as_slice-in-rounds.result.now c.winners.new.kept.won.items new c.as_slice-in-rounds.ensures.value c.as_slice-new.ensures.value c.in_ok-winners.ensures in
     let p = err_from_is_err_and c.from_residual-in_err-settled-2.result c.from_residual-in_err-settled-2.ensures.1 in
     rw (p.1, p.2)
     (λ e. c.in_err-settled-2.ensures.refused (same_fault _ _ e) c.args.roots.now
@@ -88,7 +51,7 @@ rounds-preserved g c =
     let settled = c.rounds.settled in
     let new = c.as_slice-new.result.now in
     let n : AreNewOf settled c.rounds.offered.items new =
-    new_here settled c.rounds.offered.items c.as_slice.result.now c.winners.new.kept.won.items new c.as_slice.ensures.value c.as_slice-new.ensures.value c.in_ok-winners.ensures in
+    new_here settled c.rounds.offered.items c.as_slice-in-rounds.result.now c.winners.new.kept.won.items new c.as_slice-in-rounds.ensures.value c.as_slice-new.ensures.value c.in_ok-winners.ensures in
     let e = c.in_ok-settled-2.ensures.settles in
     record {
       search = e.search c.args.roots.now (new_won (g.S.Steps.next_keys c.args.steps.now) c.args.roots.now settled c.rounds.offered.items new n c.rounds.invariant.search);
@@ -109,3 +72,10 @@ returns-clause-closure g c =
     closes next c.args.roots.now settled c.in_ok-keys.keys.items
     (subst (λ (xs : List ℕ). IsSearch next c.args.roots.now settled xs) none c.rounds.invariant.search)
     c.in_ok-keys.ensures.ascending c.in_ok-keys.ensures.members
+
+pub rounds-preserved-then-is_for_one : goal.rounds-preserved-then-is_for_one
+rounds-preserved-then-is_for_one g c =
+    let settled = c.rounds.settled in
+    let search = subst (λ (xs : List ℕ). IsSearch (g.S.Steps.next_keys c.args.steps.now) c.args.roots.now settled xs) (sym c.as_slice.ensures.value) c.rounds.invariant.search in
+    let e = c.in_ok-round.ensures.settles in
+    rw c.swap.ensures.x_after (record { search = e.search c.args.roots.now search; below = e.below; within = e.within })

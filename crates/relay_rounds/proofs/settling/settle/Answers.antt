@@ -8,8 +8,8 @@ returns-then-new-limit-clause-refused g c _ roots s =
     let more : c.args.limit < length c.args.settled + length c.args.new.now = (let t = c.if-new-limit.true in let e = c.len.ensures.count in omega arith) in
     too_many_won (g.S.Steps.next_keys c.args.steps.now) 0 c.args.limit c.args.settled c.args.new.now [] c.len.ensures.distinct c.requires.distinct c.requires.fresh more roots s
 
-pub returns-then-is_one_part-clause-settles : goal.returns-then-is_one_part-clause-settles
-returns-then-is_one_part-clause-settles g c =
+pub returns-then-new-lt-MANY_KEYS-clause-settles : goal.returns-then-new-lt-MANY_KEYS-clause-settles
+returns-then-new-lt-MANY_KEYS-clause-settles g c =
     let here = g.met.S.Steps g.world.𝓛 g.world.𝓜 g.world.𝓡 ((λ s x. x), (λ x. x), (λ x. x), λ x. x) in
     let next = g.S.Steps.next_keys c.args.steps.now in
     let bound : ℕ = g.S.Steps.key_bound c.args.steps.now in
