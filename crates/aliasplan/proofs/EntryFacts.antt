@@ -1,9 +1,14 @@
 -- The lines that are gathered: what one more number adds, and three parts one after another.
-use Rattle.std.proofs.Common.{◌⊎◌, ℕ, ◌+◌, ◌<◌, ◌≤◌, List, [], ◌∷◌, ◌++◌, length, get_or, take, sym, subst, inl, inr, arith}
-use Rattle.std.specs.Prelude.{◌↔◌, Result, Ok, Err, OnOk}
+use Rattle.std.proofs.Common.{◌⊎◌, ℕ, ◌+◌, ◌<◌, ◌≤◌, ◌==◌, false, true≢false, List, [], ◌∷◌, ◌++◌, length, get_or, take, ap, ◌∙◌, sym, subst, inl, inr, arith}
+use Rattle.std.specs.Prelude.{◌≡◌, ◌↔◌, Result, Ok, Err, OnOk, Option, Some, None, slice_get, option_and_then}
 use Rattle.std.proofs.lemmas.List.{take_more, take_all}
 use Rattle.std.proofs.lemmas.List.Elements.{Contains-push, Contains-push_cases, Contains-append_left}
-use Rattle.aliasplan.specs.Entries.{HaveLine}
+use Rattle.relay_tables.specs.declared.node.Node.{Node}
+use Rattle.relay_tables.specs.GraphParts.{GraphParts}
+use Rattle.relay_wire.specs.declared.finding.Place.{Place}
+use Rattle.relay_wire.specs.declared.finding.Finding.{Finding}
+use Rattle.aliasplan.specs.Listing.{target_finding}
+use Rattle.aliasplan.specs.Entries.{HaveLine, IsLineIn, IsListLine, IsTargetLine}
 
 -- ---- one more number
 module _ (gives : ℕ → List ℕ → Type 0) (q : List ℕ) where
@@ -38,6 +43,22 @@ module _ (gives : ℕ → List ℕ → Type 0) (q : List ℕ) where
   at_end ns i A O past old =
       let R : List ℕ → Type 0 = λ ms. O ↔ (A ⊎ HaveLine gives ms q) in
       subst R (take_all i ns past) old
+
+-- ---- targets of which nothing is reported
+module _ (g : GraphParts) where
+  pub no_target_line : (place : Place) (n : ℕ) (node : Node) → slice_get g.nodes n ≡ Some node → target_finding place node ≡ None → (q : List ℕ) → IsTargetLine g place n q → ⊥
+  no_target_line place n node is none q h = subst (λ (f : Option Finding). IsLineIn f q) (ap (option_and_then (target_finding place)) is ∙ none) h
+
+  module _ (place : Place) where
+    pub none_more : (targets : List ℕ) (i : ℕ) → i < length targets → ((q : List ℕ) → HaveLine (IsTargetLine g place) (take i targets) q → ⊥) → ((q : List ℕ) → IsTargetLine g place (get_or targets i 0) q → ⊥)
+        → (q : List ℕ) → HaveLine (IsTargetLine g place) (take (i + 1) targets) q → ⊥
+    none_more targets i inside front here q h =
+        let pushed = subst (λ (ms : List ℕ). HaveLine (IsTargetLine g place) ms q) (take_more targets i 0 inside) h in
+        elim (line_from_push (IsTargetLine g place) q (take i targets) (get_or targets i 0) pushed) [ inl old ↦ front q old | inr new ↦ here q new ]
+
+    pub none_of_list : (targets : List ℕ) → (length targets == 0) ≡ false → ((q : List ℕ) → HaveLine (IsTargetLine g place) targets q → ⊥) → (q : List ℕ) → IsListLine g place targets q → ⊥
+    none_of_list [] full none q h = absurd (true≢false full)
+    none_of_list (n ∷ ns) full none q h = none q h
 
 -- ---- three parts, one after another
 both : (O A N X Y : Type 0) → (A ↔ (O ⊎ X)) → (N ↔ (A ⊎ Y)) → N ↔ (O ⊎ (X ⊎ Y))

@@ -1,5 +1,5 @@
 //! The lines of what entries and recipients lead to and shouldn't.
-ghost use Rattle.std.specs.Prelude.{◌≡◌, ◌<◌, None, length, All, IsTrue, OnOk};
+ghost use Rattle.std.specs.Prelude.{◌≡◌, ◌<◌, ℕ, List, None, length, All, IsTrue, OnOk};
 ghost use Rattle.relay_tables.specs.Graphs.{child_numbers};
 ghost use Rattle.relay_loops.specs.Loops.{AreLoopsOf};
 ghost use Rattle.aliasplan.specs.Delivery.{directory_of, IsJobPart};
@@ -40,6 +40,20 @@ fn is_reachable(node: &Node) -> bool
         Node::Alias(_) | Node::Include(_) | Node::Mailbox(_) | Node::Remote(_) => true,
         Node::Missing(_) | Node::NoInclude(_) | Node::Command(_) | Node::File(_) => false,
     }
+}
+
+/// Whether there are targets, and mail can go to each or on from it: then nothing is reported of what lists them, and nobody has to look
+/// for its name.
+fn are_reachable(graph: &Graph, targets: &[u32]) -> bool
+    requires { All (λ n. n < length graph.now.nodes) targets.now }
+    ensures { IsTrue result → (place : places.Place) (q : List ℕ) → IsListLine graph.now place targets.now q → ⊥ }
+{
+    for target in targets {
+        if !is_reachable(graph.node(*target)) {
+            return false;
+        }
+    }
+    !targets.is_empty()
 }
 
 /// Adds the line of one target of a listing.
@@ -108,8 +122,12 @@ pub(crate) fn report_node(
     requires children { All (λ c. c < length graph.now.nodes) (child_numbers graph.now node) }
     ensures { OnOk result (Reports lines.old lines.new (IsNodeLine graph.now tables.now node)) }
 {
+    let targets = graph.children(node);
+    if are_reachable(graph, targets) {
+        return Ok(());
+    }
     match Listing::of(tables, graph.node(node)) {
-        Some(listing) => report_list(alloc, graph, listing, graph.children(node), lines),
+        Some(listing) => report_list(alloc, graph, listing, targets, lines),
         None => Ok(()),
     }
 }
