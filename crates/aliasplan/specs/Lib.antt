@@ -15,3 +15,4 @@ pub mod Checks
 pub mod Planners
 pub mod Returns
 pub mod ReturnLines
+pub mod Parsed

@@ -120,7 +120,7 @@ pub fn check_aliases<G: Gate, R: Threads + Sync>(
     parsed_tables();
     file_counts();
     let mut lines = FindingLines::new(crew.alloc);
-    match Sources::read(crew.alloc, &tables, &mut lines) {
+    match Sources::read_by(crew, &tables, &mut lines) {
         Ok(sources) => findings_of_aliases(crew, tables, sources, lines),
         Err(_) => Err(RunFault::Memory),
     }

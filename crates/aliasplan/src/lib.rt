@@ -16,6 +16,7 @@ mod job_view;
 mod listing;
 mod listing_domains;
 pub mod options;
+mod parsed;
 pub mod planner;
 pub mod planning;
 mod reach;

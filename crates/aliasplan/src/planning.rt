@@ -343,16 +343,16 @@ pub fn plan_job<G: Gate, R: Threads + Sync>(
 {
     parsed_jobs();
     file_counts();
-    let mut lines = FindingLines::new(alloc);
-    let Ok(sources) = Sources::read(alloc, job, &mut lines) else {
-        return Err(RunFault::Memory);
-    };
     let crew = Crew {
         rt,
         alloc,
         options,
         limits,
         gate,
+    };
+    let mut lines = FindingLines::new(alloc);
+    let Ok(sources) = Sources::read_by(&crew, job, &mut lines) else {
+        return Err(RunFault::Memory);
     };
     plan_sources(&crew, &JobView::of(job), sources, lines)
 }

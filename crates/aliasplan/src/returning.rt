@@ -218,7 +218,7 @@ pub fn returns<G: Gate, R: Threads + Sync>(
     parsed_jobs();
     file_counts();
     let mut lines = FindingLines::new(crew.alloc);
-    let Ok(sources) = Sources::read(crew.alloc, job, &mut lines) else {
+    let Ok(sources) = Sources::read_by(crew, job, &mut lines) else {
         return Err(RunFault::Memory);
     };
     returned_sources(crew, &JobView::of(job), &sources, lines)

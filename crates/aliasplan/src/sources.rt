@@ -21,20 +21,25 @@ ghost use Rattle.relay_routes.specs.Transports.{transport_table_of};
 ghost use Rattle.relay_routes.specs.Exchanges.{mx_table_of};
 ghost use Rattle.aliasplan.specs.Delivery.{directory_of, local_of, routing_of};
 ghost use Rattle.aliasplan.specs.Findings.{ReportsWhere};
+ghost use Rattle.aliasplan.specs.Parsed.{AreParsed};
 ghost use Rattle.aliasplan.specs.Texts.{is_name_line, is_route_line, has_fault_line};
 
+use crate::crew::Crew;
+use crate::parsed::{Parsed, pays};
 use crate::routing::{push_copies, router_of};
 use crate::source::Source;
 use crate::table::Table;
 use crate::texts::{read_includes, report_file, report_table};
-use relay_aliasfile::{parse_aliases, parse_mailboxes};
+use relay_aliasfile::{AliasFile, MailboxFile};
 use relay_chains::hash_text;
 use relay_job::{Job, Settings};
+use relay_rounds::Gate;
 use relay_routes::{MxTable, TransportTable};
 use relay_tables::{Local, parsed_files};
 use relay_text::{Seq, Text};
 use relay_wire::FindingLines;
 use std::alloc::{AllocError, Global};
+use std::thread::Threads;
 
 // An odd number whose bits look drawn at random: the first 64 bits of the root of 5.
 const MULTIPLIER: u64 = 0x3c6e_f372_fe94_f82b;
@@ -63,20 +68,26 @@ fn local_of(alloc: Global, settings: &Settings) -> Result<Local, AllocError>
 }
 
 /// What names stand for. Adds the lines of the files that are at fault.
-fn read_tables(alloc: Global, job: &Job, lines: &mut FindingLines) -> Result<Tables, AllocError>
+fn read_tables(
+    alloc: Global,
+    job: &Job,
+    aliases: AliasFile,
+    mailboxes: MailboxFile,
+    lines: &mut FindingLines,
+) -> Result<Tables, AllocError>
     requires origin { IsTrue (is_origin job.now.settings.origin) }
     requires domains { All (λ domain. folded domain ≡ domain) job.now.settings.destinations }
     requires paths { AllPairs (λ a b. a.path ≢ b.path) job.now.includes }
-    requires few_entries { length (alias_file_of job.now.aliases).entries < 2 ^ 32 - 2 }
+    requires aliases { aliases ≡ alias_file_of job.now.aliases }
+    requires mailboxes { mailboxes ≡ mailbox_file_of job.now.mailboxes }
+    requires few_entries { length aliases.entries < 2 ^ 32 - 2 }
     requires few_includes { length job.now.includes < 2 ^ 32 - 2 }
-    requires few_mailboxes { length (mailbox_file_of job.now.mailboxes).names < 2 ^ 32 - 2 }
+    requires few_mailboxes { length mailboxes.names < 2 ^ 32 - 2 }
     ensures tables { IfOk result (λ tables. tables ≡ directory_of job.now) }
-    ensures lines { OnOk result (ReportsWhere lines.old lines.new (is_name_line (alias_file_of job.now.aliases).faults (mailbox_file_of job.now.mailboxes).faults job.now.includes)) }
+    ensures lines { OnOk result (ReportsWhere lines.old lines.new (is_name_line aliases.faults mailboxes.faults job.now.includes)) }
 {
     parsed_files();
-    let aliases = parse_aliases(alloc, job.aliases.as_bytes())?;
     report_file(alloc, Source::Aliases, aliases.faults.as_slice(), lines)?;
-    let mailboxes = parse_mailboxes(alloc, job.mailboxes.as_bytes())?;
     report_file(alloc, Source::Mailboxes, mailboxes.faults.as_slice(), lines)?;
     let includes = read_includes(alloc, job.includes.as_slice(), lines)?;
     let local = local_of(alloc, &job.settings)?;
@@ -84,18 +95,57 @@ fn read_tables(alloc: Global, job: &Job, lines: &mut FindingLines) -> Result<Tab
 }
 
 /// What routes addresses. Adds the lines of the tables that are at fault.
-fn read_router(alloc: Global, job: &Job, lines: &mut FindingLines) -> Result<Router, AllocError>
+fn read_router(
+    alloc: Global,
+    job: &Job,
+    transports: TransportTable,
+    exchanges: MxTable,
+    lines: &mut FindingLines,
+) -> Result<Router, AllocError>
+    requires transports { transports ≡ transport_table_of job.now.transport }
+    requires exchanges { exchanges ≡ mx_table_of job.now.mx }
     ensures router { IfOk result (λ router. router ≡ routing_of job.now) }
-    ensures lines { OnOk result (ReportsWhere lines.old lines.new (is_route_line (transport_table_of job.now.transport).faults (mx_table_of job.now.mx).faults)) }
+    ensures lines { OnOk result (ReportsWhere lines.old lines.new (is_route_line transports.faults exchanges.faults)) }
 {
-    let transports = TransportTable::parse(alloc, job.transport.as_bytes())?;
     report_table(alloc, Table::Transport, transports.faults(), lines)?;
-    let exchanges = MxTable::parse(alloc, job.mx.as_bytes())?;
     report_table(alloc, Table::Mx, exchanges.faults(), lines)?;
     router_of(alloc, job, transports, exchanges)
 }
 
 impl Sources {
+    /// What the files and tables of a job say, which are parsed. Adds the lines of those that are at fault. `Err` where memory runs out.
+    pub(crate) fn of(
+        alloc: Global,
+        job: &Job,
+        parsed: Parsed,
+        lines: &mut FindingLines,
+    ) -> Result<Sources, AllocError>
+        requires origin { IsTrue (is_origin job.now.settings.origin) }
+        requires domains { All (λ domain. folded domain ≡ domain) job.now.settings.destinations }
+        requires paths { AllPairs (λ a b. a.path ≢ b.path) job.now.includes }
+        requires few_entries { length (alias_file_of job.now.aliases).entries < 2 ^ 32 - 2 }
+        requires few_includes { length job.now.includes < 2 ^ 32 - 2 }
+        requires few_mailboxes { length (mailbox_file_of job.now.mailboxes).names < 2 ^ 32 - 2 }
+        requires parsed { AreParsed job.now parsed }
+        ensures tables { IfOk result (λ sources. sources.tables ≡ directory_of job.now) }
+        ensures router { IfOk result (λ sources. sources.router ≡ routing_of job.now) }
+        ensures lines { OnOk result (ReportsWhere lines.old lines.new (has_fault_line job.now)) }
+    {
+        let Parsed {
+            aliases,
+            mailboxes,
+            transports,
+            exchanges,
+        } = parsed;
+        let tables = read_tables(alloc, job, aliases, mailboxes, lines)?;
+        let router = read_router(alloc, job, transports, exchanges, lines)?;
+        Ok(Sources {
+            tables,
+            router,
+            key: key_of(job),
+        })
+    }
+
     /// What the files and tables of a job say. Adds the lines of those that are at fault. `Err` where memory runs out.
     pub fn read(alloc: Global, job: &Job, lines: &mut FindingLines) -> Result<Sources, AllocError>
         requires origin { IsTrue (is_origin job.now.settings.origin) }
@@ -108,12 +158,31 @@ impl Sources {
         ensures router { IfOk result (λ sources. sources.router ≡ routing_of job.now) }
         ensures lines { OnOk result (ReportsWhere lines.old lines.new (has_fault_line job.now)) }
     {
-        let tables = read_tables(alloc, job, lines)?;
-        let router = read_router(alloc, job, lines)?;
-        Ok(Sources {
-            tables,
-            router,
-            key: key_of(job),
-        })
+        let parsed = Parsed::one_by_one(alloc, job)?;
+        Sources::of(alloc, job, parsed, lines)
+    }
+
+    /// The same by a crew, which parses the files and tables side by side where that pays.
+    pub fn read_by<G: Gate, R: Threads + Sync>(
+        crew: &Crew<G, R>,
+        job: &Job,
+        lines: &mut FindingLines,
+    ) -> Result<Sources, AllocError>
+        requires origin { IsTrue (is_origin job.now.settings.origin) }
+        requires domains { All (λ domain. folded domain ≡ domain) job.now.settings.destinations }
+        requires paths { AllPairs (λ a b. a.path ≢ b.path) job.now.includes }
+        requires few_entries { length (alias_file_of job.now.aliases).entries < 2 ^ 32 - 2 }
+        requires few_includes { length job.now.includes < 2 ^ 32 - 2 }
+        requires few_mailboxes { length (mailbox_file_of job.now.mailboxes).names < 2 ^ 32 - 2 }
+        ensures tables { IfOk result (λ sources. sources.tables ≡ directory_of job.now) }
+        ensures router { IfOk result (λ sources. sources.router ≡ routing_of job.now) }
+        ensures lines { OnOk result (ReportsWhere lines.old lines.new (has_fault_line job.now)) }
+    {
+        let parsed = if pays(job, crew.options.workers) {
+            Parsed::side_by_side(crew.rt, crew.alloc, job)?
+        } else {
+            Parsed::one_by_one(crew.alloc, job)?
+        };
+        Sources::of(crew.alloc, job, parsed, lines)
     }
 }

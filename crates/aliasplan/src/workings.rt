@@ -147,7 +147,7 @@ pub fn plan_with_workings<G: Gate, R: Threads + Sync>(
     parsed_jobs();
     file_counts();
     let mut lines = FindingLines::new(crew.alloc);
-    let Ok(sources) = Sources::read(crew.alloc, job, &mut lines) else {
+    let Ok(sources) = Sources::read_by(crew, job, &mut lines) else {
         return Err(RunFault::Memory);
     };
     workings_of(crew, &JobView::of(job), sources, lines)

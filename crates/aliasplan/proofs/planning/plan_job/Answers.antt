@@ -1,25 +1,25 @@
 use Rattle.std.proofs.Common.{arith}
 use Rattle.aliasplan.proofs.planning.plan_job.Goals as goal
 
-pub read-requires-clause-origin : goal.read-requires-clause-origin
-read-requires-clause-origin g c = c.parsed_jobs.ensures.origin c.requires.job.0 c.args.job.now c.requires.job.2
+pub read_by-requires-clause-origin : goal.read_by-requires-clause-origin
+read_by-requires-clause-origin g c = λ l m. c.parsed_jobs.ensures.origin c.requires.job.0 c.args.job.now c.requires.job.2
 
-pub read-requires-clause-domains : goal.read-requires-clause-domains
-read-requires-clause-domains g c = c.parsed_jobs.ensures.destinations c.requires.job.0 c.args.job.now c.requires.job.2
+pub read_by-requires-clause-domains : goal.read_by-requires-clause-domains
+read_by-requires-clause-domains g c = λ l m. c.parsed_jobs.ensures.destinations c.requires.job.0 c.args.job.now c.requires.job.2
 
-pub read-requires-clause-paths : goal.read-requires-clause-paths
-read-requires-clause-paths g c = c.parsed_jobs.ensures.paths c.requires.job.0 c.args.job.now c.requires.job.2
+pub read_by-requires-clause-paths : goal.read_by-requires-clause-paths
+read_by-requires-clause-paths g c = λ l m. c.parsed_jobs.ensures.paths c.requires.job.0 c.args.job.now c.requires.job.2
 
-pub read-requires-clause-few_entries : goal.read-requires-clause-few_entries
-read-requires-clause-few_entries g c =
+pub read_by-requires-clause-few_entries : goal.read_by-requires-clause-few_entries
+read_by-requires-clause-few_entries g c =
     omega (arith, c.file_counts.ensures.entries c.args.job.now.aliases, c.parsed_jobs.ensures.sizes c.requires.job.0 c.args.job.now c.requires.job.2, c.requires.job.1, c.requires.limits.bytes)
 
-pub read-requires-clause-few_includes : goal.read-requires-clause-few_includes
-read-requires-clause-few_includes g c =
+pub read_by-requires-clause-few_includes : goal.read_by-requires-clause-few_includes
+read_by-requires-clause-few_includes g c =
     omega (arith, c.parsed_jobs.ensures.sizes c.requires.job.0 c.args.job.now c.requires.job.2, c.requires.job.1, c.requires.limits.bytes)
 
-pub read-requires-clause-few_mailboxes : goal.read-requires-clause-few_mailboxes
-read-requires-clause-few_mailboxes g c =
+pub read_by-requires-clause-few_mailboxes : goal.read_by-requires-clause-few_mailboxes
+read_by-requires-clause-few_mailboxes g c =
     omega (arith, c.file_counts.ensures.names c.args.job.now.mailboxes, c.parsed_jobs.ensures.sizes c.requires.job.0 c.args.job.now c.requires.job.2, c.requires.job.1, c.requires.limits.bytes)
 
 pub plan_sources-requires-clause-batches : goal.plan_sources-requires-clause-batches

@@ -1,10 +1,8 @@
-use Rattle.std.proofs.Common.{◌≡◌, ◌≢◌, ◌||◌, ◌∙◌, List, AllPairs, IsTrue, map, ap, sym, subst}
+use Rattle.std.proofs.Common.{◌≢◌, ◌||◌, ◌∙◌, List, AllPairs, IsTrue, map, ap, sym, subst}
 use Rattle.std.specs.List.{list_all, list_any}
 use Rattle.std.specs.Str.{bytes_eq}
 use Rattle.relay_text.specs.Bytes.{has_text}
 use Rattle.relay_aliasfile.specs.declared.fault.LineFault.{LineFault}
-use Rattle.relay_aliasfile.specs.AliasFiles.{alias_file_of}
-use Rattle.relay_aliasfile.specs.MailboxFiles.{mailbox_file_of}
 use Rattle.relay_job.specs.declared.job.JobInclude.{JobInclude}
 use Rattle.relay_tables.specs.declared.include_entry.IncludeEntry.{IncludeEntry}
 use Rattle.relay_tables.specs.Parts.{is_good_include}
@@ -27,16 +25,13 @@ build-requires-clause-items c =
 
 pub returns-clause-lines : goal.returns-clause-lines
 returns-clause-lines c =
-    let job = c.args.job.now in
     let old = c.args.lines.now in
-    let aliases : c.as_slice.result.now ≡ (alias_file_of job.aliases).faults = c.as_slice.ensures ∙ ap (λ f. f.faults) (c.in_ok-aliases.ensures ∙ ap alias_file_of c.as_bytes.ensures) in
-    let mailboxes : c.as_slice-2.result.now ≡ (mailbox_file_of job.mailboxes).faults = c.as_slice-2.ensures ∙ ap (λ f. f.faults) (c.in_ok-mailboxes.ensures ∙ ap mailbox_file_of c.as_bytes-2.ensures) in
     on_ok_given c.build.result (λ q.
     reports_three old c.report_file.new.lines c.report_file-2.new.lines c.read_includes.new.lines
     (λ p. list_any (λ fault. bytes_eq p (source_line Aliases fault)) c.as_slice.result.now)
     (λ p. list_any (λ fault. bytes_eq p (source_line Mailboxes fault)) c.as_slice-2.result.now)
     (λ p. list_any (has_include_line p) c.as_slice-3.result.now)
     c.in_ok-report_file.ensures c.in_ok-report_file-2.ensures c.in_ok-includes.ensures.lines q
-    ∙ ap (λ (f : List LineFault). has_text old q || is_name_line f c.as_slice-2.result.now c.as_slice-3.result.now q) aliases
-    ∙ ap (λ (f : List LineFault). has_text old q || is_name_line (alias_file_of job.aliases).faults f c.as_slice-3.result.now q) mailboxes
-    ∙ ap (λ (is : List JobInclude). has_text old q || is_name_line (alias_file_of job.aliases).faults (mailbox_file_of job.mailboxes).faults is q) c.as_slice-3.ensures)
+    ∙ ap (λ (f : List LineFault). has_text old q || is_name_line f c.as_slice-2.result.now c.as_slice-3.result.now q) c.as_slice.ensures
+    ∙ ap (λ (f : List LineFault). has_text old q || is_name_line c.args.aliases.faults f c.as_slice-3.result.now q) c.as_slice-2.ensures
+    ∙ ap (λ (is : List JobInclude). has_text old q || is_name_line c.args.aliases.faults c.args.mailboxes.faults is q) c.as_slice-3.ensures)
