@@ -85,6 +85,29 @@ fn gathers_findings(alloc: Global) -> Result<Answer, Unready> {
     }
 }
 
+/// The lines of faults from line 40 to 200, which are in order up to 99, and then again.
+fn numbered(alloc: Global) -> Result<FindingLines, AllocError> {
+    let mut lines = FindingLines::new(alloc);
+    for line in 40..201 {
+        lines.add(&Finding::Transport(line, LineWord::Duplicate))?;
+    }
+    Ok(lines)
+}
+
+fn merges_findings(alloc: Global) -> Result<Answer, Unready> {
+    let lines = numbered(alloc)?;
+    match lines.into_seq(alloc) {
+        Ok(lines) => Ok(judged(lines, |lines| {
+            let lines = lines.as_slice();
+            let rise = lines
+                .windows(2)
+                .all(|pair| pair[0].as_bytes() < pair[1].as_bytes());
+            lines.len() == 161 && rise
+        })),
+        Err(_) => Ok(Answer::Refused),
+    }
+}
+
 pub(crate) fn tell<R: Print + AllocGlobal>(teller: &mut Teller<'_, R>) {
     let alloc = teller.rt.alloc();
     call!(teller, "put_word", puts_a_word(alloc));
@@ -95,4 +118,9 @@ pub(crate) fn tell<R: Print + AllocGlobal>(teller: &mut Teller<'_, R>) {
     call!(teller, "put_lines", puts_lines(alloc));
     call!(teller, "put_reason", puts_a_reason(alloc));
     call!(teller, "FindingLines::into_seq", gathers_findings(alloc));
+    call!(
+        teller,
+        "FindingLines::into_seq merges",
+        merges_findings(alloc)
+    );
 }
