@@ -4,7 +4,7 @@ pub mod LineEnds
 pub mod Scans
 pub mod SameBytes
 pub mod KeptWalks
-pub mod LogicalLines
+pub mod LineCuts
 pub mod QuoteMarks
 pub mod Domains
 pub mod Spellings

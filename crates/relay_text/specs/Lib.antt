@@ -7,7 +7,7 @@ pub mod HeadedBytes
 pub mod InlineBytes
 pub mod Addresses
 pub mod KeptLines
-pub mod Gathered
+pub mod LogicalLines
 pub mod Numbers
 pub mod TextSets
 pub mod HashedTexts

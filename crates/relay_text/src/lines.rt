@@ -1,6 +1,5 @@
 //! Logical lines.
-use crate::gathered::Gathered;
-use crate::kept::KeptLines;
+use crate::logical::LogicalLines;
 use crate::seq::Seq;
 use crate::text::Text;
 
@@ -33,9 +32,17 @@ use std::alloc::{AllocError, Global};
 pub fn logical_lines(alloc: Global, bytes: &[u8]) -> Result<Lines, AllocError>
     ensures { IfOk result (λ lines. lines ≡ logical_lines_of bytes.now) }
 {
-    let mut gathered = Gathered::new(alloc);
-    for line in KeptLines::new(bytes) {
-        gathered.add(alloc, line)?;
+    let mut left = LogicalLines::new(alloc, bytes)?;
+    let mut lines = Vec::new(alloc);
+    let mut joined = Vec::new(alloc);
+    while let Some(line) = left.next_line(&mut joined)? {
+        lines.push(Line {
+            number: line.number,
+            text: Text::copy_of(alloc, line.text)?,
+        })?;
     }
-    Ok(gathered.into_lines())
+    Ok(Lines {
+        lines: Seq::of(lines),
+        orphans: left.into_orphans(),
+    })
 }

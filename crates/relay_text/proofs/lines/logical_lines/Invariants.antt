@@ -1,9 +1,13 @@
-use Rattle.std.proofs.Common.{◌≡◌}
+use Rattle.std.proofs.Common.{◌≡◌, ◌++◌, length}
 use Rattle.relay_text.specs.Lines.{logical_lines_of}
-use Rattle.relay_text.specs.KeptLines.{kept_rest}
-use Rattle.relay_text.specs.Gathered.{so_far, with_lines}
 use Rattle.relay_text.proofs.lines.logical_lines.Given as goal
 
--- What is gathered and the lines left make the logical lines of all.
-abbrev pub invariant-loop-line : goal.invariant-loop-line
-invariant-loop-line l = with_lines (so_far l.gathered) (kept_rest l.line-iterator) ≡ logical_lines_of l.bytes
+-- the lines so far, with those that are left, are all
+abbrev pub invariant-loop-joined : goal.invariant-loop-joined
+invariant-loop-joined l = record {
+  lines : l.lines.items ++ l.left.lines ≡ (logical_lines_of l.bytes).lines;
+  orphans : l.left.orphans ≡ (logical_lines_of l.bytes).orphans;
+}
+
+abbrev pub decreases-loop-joined : goal.decreases-loop-joined
+decreases-loop-joined l = length l.left.lines
