@@ -14,8 +14,8 @@ pub struct LogicalLine<'a> {
     pub text: &'a [u8],
 }
 
-/// A reader over the logical lines of a text. A logical line begins with text that isn't white; a line that begins with white space continues
-/// the one before, past ignored lines too (aliases(5), transport(5)).
+/// A reader over the logical lines of a text. One begins with text that isn't white; a line that begins with white space continues the
+/// one before, past ignored lines too (aliases(5), transport(5)).
 ///
 /// A line that no other continues is lent in place. The parts of any other are joined in a buffer of the caller's.
 #[derive(Drop)]
