@@ -2,8 +2,8 @@
 use growth_answers::inputs::{address, are_texts, is_address};
 use growth_answers::{Answer, Seen, Teller, Unready, call, case, judged, lent, lent_mut, twice};
 use relay_text::{
-    Address, FirstPlaces, Line, Text, TextFault, TextSet, logical_lines, parse_name, parse_path,
-    quoted_content, write_local, write_path,
+    Address, FirstPlaces, Line, LogicalLines, Text, TextFault, TextSet, logical_lines, parse_name,
+    parse_path, quoted_content, write_local, write_path,
 };
 use std::alloc::Global;
 
@@ -149,6 +149,9 @@ fn appends_to_a_text(alloc: Global) -> Result<Seen, Unready> {
     lent_mut(text, |text| Ok(twice!(appended(alloc, text))))
 }
 
+/// A line that continues none, a logical line of two parts with a comment between them, and one of one part.
+const LINES: &[u8] = b" x\na: b\n# note\n  c\nd\n";
+
 fn are_lines(lines: &[Line]) -> bool {
     match lines {
         [first, second] => {
@@ -162,12 +165,34 @@ fn are_lines(lines: &[Line]) -> bool {
 }
 
 fn joins_lines(alloc: Global) -> Result<Answer, Unready> {
-    match logical_lines(alloc, b" x\na: b\n# note\n  c\nd\n") {
+    match logical_lines(alloc, LINES) {
         Ok(lines) => Ok(judged(lines, |lines| {
             are_lines(lines.lines.as_slice()) && lines.orphans.as_slice() == [1].as_slice()
         })),
         Err(_) => Ok(Answer::Refused),
     }
+}
+
+fn begins_to_read_lines(alloc: Global) -> Result<Answer, Unready> {
+    match LogicalLines::new(alloc, LINES) {
+        Ok(lines) => Ok(judged(lines, |lines| { lines.orphans() == [1].as_slice() })),
+        Err(_) => Ok(Answer::Refused),
+    }
+}
+
+/// What the next line is; where it's refused, it's left.
+fn next_line(lines: &mut LogicalLines<'_>, joined: &mut Vec<u8>) -> Answer {
+    match lines.next_line(joined) {
+        Ok(Some(line)) => Answer::given(line.number == 2 && line.text == b"a: b  c".as_slice()),
+        Ok(None) => Answer::Wrong,
+        Err(_) => Answer::Refused,
+    }
+}
+
+fn joins_a_line(alloc: Global) -> Result<Seen, Unready> {
+    let mut joined = Vec::new(alloc);
+    let mut lines = LogicalLines::new(alloc, LINES)?;
+    Ok(twice!(next_line(&mut lines, &mut joined)))
 }
 
 fn three_texts(alloc: Global) -> Result<Vec<Text>, Unready> {
@@ -298,6 +323,8 @@ fn tell_of_names<R: Print + AllocGlobal>(teller: &mut Teller<'_, R>) {
     case!(teller, "write_path", writes_a_path(alloc));
     case!(teller, "write_local", writes_a_local_part(alloc));
     call!(teller, "logical_lines", joins_lines(alloc));
+    call!(teller, "LogicalLines::new", begins_to_read_lines(alloc));
+    case!(teller, "LogicalLines::next_line", joins_a_line(alloc));
 }
 
 fn tell_of_texts<R: Print + AllocGlobal>(teller: &mut Teller<'_, R>) {
