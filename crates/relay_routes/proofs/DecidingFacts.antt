@@ -1,10 +1,10 @@
 -- The line that decides gives the result that the table gives.
-use Rattle.std.proofs.Common.{◌≡◌, ℕ, ◌+◌, ◌<◌, ◌≤◌, Bool, true, false, cond, ◌||◌, List, [], ◌∷◌, ◌++◌, length, take, drop, get_or, map, refl, sym, ap, subst, ◌∙◌, drop-cons, add-one}
+use Rattle.std.proofs.Common.{◌≡◌, ℕ, ◌+◌, ◌<◌, ◌≤◌, Bool, true, false, cond, ◌||◌, List, [], ◌∷◌, ◌++◌, length, drop, get_or, map, refl, sym, ap, subst, ◌∙◌, drop-cons, add-one}
 use Rattle.std.specs.Prelude.{Option, Some, None, option_map, filter_map}
 use Rattle.std.specs.List.{list_any, cons_option}
 use Rattle.std.specs.Str.{bytes_eq}
 use Rattle.std.proofs.lemmas.Bool.{false≢true, true≢false}
-use Rattle.std.proofs.lemmas.List.{take_more, drop_all}
+use Rattle.std.proofs.lemmas.List.{drop_all}
 use Rattle.std.proofs.lemmas.List.Folds.{list_any-append}
 use Rattle.std.proofs.lemmas.List.Elements.{filter_map-append}
 use Rattle.std.proofs.lemmas.Slice.Eq.{bytes_eq-Decides}
@@ -86,17 +86,6 @@ along entries lines same (key ∷ keys) = at (line_at lines key) (same key) (alo
 pub choice_is : (table : List ℕ) (delimiter : Option ℕ) (a : AddressParts) → choice_for (transport_table_of table).entries delimiter a ≡ choice_of (option_map result_of (deciding_line_of table a delimiter))
 unfolding transport_table_of deciding_line_of
 choice_is table delimiter a = ap choice_of (along _ (filter_map good_line_in (logical_lines_of table).lines) (λ key. at_key key [] (logical_lines_of table).lines) (keys_of a delimiter))
-
--- one more line, which is a good one or not
-pub good_more : (ls : List Line) (i : ℕ) (l : Line) (o : Option TransportLine) (good more : List DecidingLine) → i < length ls → l ≡ get_or ls i l → o ≡ line_of l.text
-    → more ≡ good ++ cons_option (option_map (numbered l.number) o) [] → good ≡ filter_map good_line_in (take i ls) → more ≡ filter_map good_line_in (take (i + 1) ls)
-good_more ls i l o good more inside here read made was =
-    made
-    ∙ ap (λ (r : Option TransportLine). good ++ cons_option (option_map (numbered l.number) r) []) read
-    ∙ ap (λ (ds : List DecidingLine). ds ++ cons_option (good_line_in l) []) was
-    ∙ ap (λ (m : Line). filter_map good_line_in (take i ls) ++ cons_option (good_line_in m) []) here
-    ∙ sym (filter_map-append good_line_in (take i ls) (get_or ls i l ∷ []))
-    ∙ ap (filter_map good_line_in) (sym (take_more ls i l inside))
 
 -- ---- key after key
 decides : (table : List ℕ) (delimiter : Option ℕ) (a : AddressParts) (lines : List DecidingLine) (keys : List (List ℕ)) → lines ≡ filter_map good_line_in (logical_lines_of table).lines → keys ≡ keys_of a delimiter

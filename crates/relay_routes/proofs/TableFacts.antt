@@ -1,10 +1,10 @@
 -- What a transport table holds as it is read, and what it gives at a key.
-use Rattle.std.proofs.Common.{◌≡◌, ℕ, ◌+◌, ◌-◌, ◌<◌, ◌≤◌, suc, Bool, true, false, cond, ◌||◌, List, [], ◌∷◌, ◌++◌, length, drop, get_or, map, refl, sym, ap, ◌∙◌, arith, append_assoc, append-nil, drop-cons, add-one, Ok, Result, inl, inr}
+use Rattle.std.proofs.Common.{◌≡◌, ℕ, ◌+◌, ◌-◌, ◌<◌, ◌≤◌, suc, Bool, true, false, cond, ◌||◌, List, [], ◌∷◌, ◌++◌, length, get_or, map, refl, sym, ap, ◌∙◌, arith, append_assoc, append-nil, Ok, Result, inl, inr}
 use Rattle.std.specs.Prelude.{Option, Some, None, option_map, is_some, filter_map}
 use Rattle.std.specs.List.{list_any, position_from}
 use Rattle.std.specs.Str.{bytes_eq}
 use Rattle.std.proofs.lemmas.Bool.{true≢false}
-use Rattle.std.proofs.lemmas.List.{map-append, drop_all}
+use Rattle.std.proofs.lemmas.List.{map-append}
 use Rattle.std.proofs.lemmas.List.Folds.{list_any-append}
 use Rattle.std.proofs.lemmas.List.Elements.{filter_map-append}
 use Rattle.std.proofs.lemmas.Slice.Eq.{bytes_eq-Decides}
@@ -177,21 +177,9 @@ table_made text cut is = rw (← is) (lines_make (table_of_orphans cut.orphans) 
 pub same_lines : (es es' : List TransportLine) (fs fs' : List LineFault) → es ≡ es' → fs ≡ fs' → (let t : TransportLines = record { entries = es; faults = fs } in let t' : TransportLines = record { entries = es'; faults = fs' } in t ≡ t')
 same_lines es es' fs fs' e f = rw (e, f) refl
 
--- One line more is added, and at the end all of them.
-pub lines_next : (table next : TransportLines) (lines : List Line) (i : ℕ) (l : Line) → i < length lines → l ≡ get_or lines i l → next ≡ with_line table l.number (line_of l.text) → with_lines next (drop (i + 1) lines) ≡ with_lines table (drop i lines)
-lines_next table next lines i l inside is made =
-    let cut : drop i lines ≡ get_or lines i l ∷ drop (i + 1) lines = rw (add-one, drop-cons lines i l) refl in
-    let here : drop i lines ≡ l ∷ drop (i + 1) lines = cut ∙ ap (λ (x : Line). x ∷ drop (i + 1) lines) (sym is) in
-    ap (λ (t : TransportLines). with_lines t (drop (i + 1) lines)) made ∙ ap (with_lines table) (sym here)
-
-pub lines_done : (text : List ℕ) (cut : Lines) (table start : TransportLines) (orphans : List ℕ) (lines : List Line) (i : ℕ) → cut ≡ logical_lines_of text → orphans ≡ cut.orphans → lines ≡ cut.lines → start ≡ table_of_orphans orphans
-    → length lines ≤ i → with_lines table (drop i lines) ≡ with_lines start lines → table ≡ transport_table_of text
-lines_done text cut table start orphans lines i is o l s none all =
-    ap (with_lines table) (sym (drop_all i lines none))
-    ∙ all
-    ∙ ap (λ (t : TransportLines). with_lines t lines) (s ∙ ap table_of_orphans o)
-    ∙ ap (with_lines (table_of_orphans cut.orphans)) l
-    ∙ table_made text cut is
+-- Where no line is read yet, all lines make the table.
+pub lines_start : (text : List ℕ) (cut : Lines) (start : TransportLines) (orphans : List ℕ) → cut ≡ logical_lines_of text → orphans ≡ cut.orphans → start ≡ table_of_orphans orphans → with_lines start cut.lines ≡ transport_table_of text
+lines_start text cut start orphans is o s = ap (λ (t : TransportLines). with_lines t cut.lines) (s ∙ ap table_of_orphans o) ∙ table_made text cut is
 
 -- What the numbers of patterns say once an entry's pattern is put in: a pattern that was there has an entry, and a new one has none.
 pub entry_put : (es : List TransportLine) (patterns new : List (List ℕ)) (limit : ℕ) (e : TransportLine) (key : List ℕ) (number : ℕ) (is_new : Bool) (result : Result (ℕ × Bool) ChainFault)

@@ -8,7 +8,7 @@ ghost use Rattle.relay_routes.specs.DecidingLines.{deciding_line_of, line_at, go
 
 use crate::pattern::{address_key, is_literal};
 use crate::transport_line::line_of;
-use relay_text::{Address, Text, logical_lines, split_place};
+use relay_text::{Address, LogicalLines, Text, split_place};
 use std::alloc::{AllocError, Global};
 
 /// A line of a transport table: a pattern, and a result (transport(5), "TABLE FORMAT").
@@ -39,10 +39,11 @@ impl DecidingLine {
 fn good_lines(alloc: Global, table: &[u8]) -> Result<Vec<DecidingLine>, AllocError>
     ensures { IfOk result (λ lines. lines.items ≡ filter_map good_line_in (logical_lines_of table.now).lines) }
 {
-    let lines = logical_lines(alloc, table)?;
+    let mut lines = LogicalLines::new(alloc, table)?;
+    let mut joined = Vec::new(alloc);
     let mut good = Vec::new(alloc);
-    for line in lines.lines.as_slice() {
-        if let Some(entry) = line_of(alloc, line.text.as_bytes())? {
+    while let Some(line) = lines.next_line(&mut joined)? {
+        if let Some(entry) = line_of(alloc, line.text)? {
             good.push(DecidingLine {
                 line: line.number,
                 pattern: entry.pattern,

@@ -36,7 +36,7 @@ use crate::fault::FaultKind;
 use crate::pattern::{address_key, is_literal};
 use crate::text_key::{MOST_TEXTS, key_of};
 use crate::transport_line::line_of;
-use relay_text::{Address, Line, logical_lines, split_place};
+use relay_text::{Address, LogicalLine, LogicalLines, split_place};
 use std::alloc::{AllocError, Global};
 
 impl TransportTable {
@@ -45,10 +45,10 @@ impl TransportTable {
     pub fn parse(alloc: Global, bytes: &[u8]) -> Result<TransportTable, AllocError>
         ensures { IfOk result (λ table. table ≡ transport_table_of bytes.now) }
     {
-        let lines = logical_lines(alloc, bytes)?;
-        let orphans = lines.orphans.as_slice();
-        let mut table = TransportTable::without_lines(alloc, key_of(bytes), orphans)?;
-        for line in lines.lines.as_slice() {
+        let mut lines = LogicalLines::new(alloc, bytes)?;
+        let mut table = TransportTable::without_lines(alloc, key_of(bytes), lines.orphans())?;
+        let mut joined = Vec::new(alloc);
+        while let Some(line) = lines.next_line(&mut joined)? {
             table.add(alloc, line)?;
         }
         Ok(table)
@@ -187,10 +187,10 @@ impl TransportTable {
     }
 
     /// Adds a line.
-    fn add(&mut self, alloc: Global, line: &Line) -> Result<(), AllocError>
-        ensures { OnOk result (self.new ≡ with_line self.old line.now.number (line_of line.now.text)) }
+    fn add(&mut self, alloc: Global, line: LogicalLine<'_>) -> Result<(), AllocError>
+        ensures { OnOk result (self.new ≡ with_line self.old line.entry.number (line_of line.entry.text.now)) }
     {
-        match line_of(alloc, line.text.as_bytes())? {
+        match line_of(alloc, line.text)? {
             Some(entry) => self.add_entry(line.number, entry),
             None => self.add_fault(line.number, FaultKind::BadLine),
         }
