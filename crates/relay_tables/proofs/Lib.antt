@@ -2,7 +2,7 @@ pub mod Rows
 pub mod LocalParts
 pub mod Resolving
 pub mod Cuts
-pub mod OnlyNumbers
+pub mod RowRecords
 pub mod Edges
 pub mod Placing
 pub mod Turning

@@ -1,11 +1,12 @@
 -- Lemmas on the owners of entries.
 use Rattle.std.proofs.Common.{◌≡◌, ℕ, suc, ◌+◌, ◌<◌, ◌≤◌, Bool, true, false, cond, ltb, leb, eqb, ◌&&◌, Option, Some, None, List, [], ◌∷◌, ◌++◌, length, get_or, slice_get, set, take, drop, map, refl, sym, ap, ◌∙◌, inl, inr, ⊎_elim, arith}
-use Rattle.std.specs.Prelude.{codes, not, position, IfSome}
+use Rattle.std.specs.Prelude.{codes, not, position, IfSome, option_and_then}
 use Rattle.std.specs.Option.{option_or}
 use Rattle.std.specs.List.{position_or_len}
 use Rattle.std.specs.Str.{bytes_eq}
 use Rattle.std.proofs.lemmas.Bool.{cases_Bool, cases_lt, le-leb, leb-true, and_parts, and_from, false_from_ne_true, both_ways, false≢true}
 use Rattle.std.proofs.lemmas.List.{drop_at, length_push, length-set, length-map, length-take-le, take_all, take_more, get_or-map, get_or-set_same, get_or-set_other, ext_get_or}
+use Rattle.std.proofs.lemmas.List.Elements.{All-get_or}
 use Rattle.std.proofs.lemmas.List.Sums.{prefix_len-le-length}
 use Rattle.std.proofs.lemmas.List.Folds.{position_or_len_push}
 use Rattle.std.proofs.lemmas.Option.{same_Some, slice_get_cases, slice_get_within, get_or_from_slice_get}
@@ -13,8 +14,9 @@ use Rattle.std.proofs.lemmas.Slice.Eq.{bytes_eq-Decides}
 use Rattle.relay_aliasfile.specs.declared.entry.Entry.{Entry}
 use Rattle.relay_chains.specs.TextHash.{text_hash}
 use Rattle.relay_tables.specs.Indices.{name_hash}
-use Rattle.relay_tables.specs.Tables.{owner_place}
+use Rattle.relay_tables.specs.Tables.{owner_place, AreOwners}
 use Rattle.relay_tables.specs.Owning.{owner_or}
+use Rattle.relay_tables.proofs.Resolving.{mapped_at}
 
 -- a place and a count, with one more behind
 pushed : (b : Bool) (new old long short : ℕ) → new ≡ cond (eqb old short) (short + cond b 0 1) old → long ≡ suc short → old ≤ short
@@ -144,6 +146,22 @@ owned_all entries owners p =
     (λ at. p.owned k at.0 at.2 ∙ ap (λ (es : List Entry). owner_place es at.0) (take_all (length entries) entries (omega arith)) ∙ sym (get_or-map (owner_place entries) entries k at.0 None at.1 ∙ ap (owner_place entries) at.3))
     (λ past. absurd (omega (arith, p.count, past.0)))
     (slice_get_cases entries k).1)
+
+-- the owner at an entry's place
+pub owner_found : (entries : List Entry) (found : List (Option ℕ)) (k : ℕ) → AreOwners entries found → k < length entries
+    → get_or found k None ≡ option_and_then (owner_place entries) (slice_get entries k)
+owner_found entries found k (inl each) below =
+    ap (λ (os : List (Option ℕ)). get_or os k None) each
+    ∙ mapped_at (owner_place entries) entries k None below
+owner_found entries found k (inr none) below =
+    ⊎_elim
+    (λ at.
+    ap (λ (os : List (Option ℕ)). get_or os k None) none.0
+    ∙ sym (All-get_or (λ e. owner_place entries e ≡ None) entries k at.0 below none.1)
+    ∙ sym (get_or-map (owner_place entries) entries k at.0 None below)
+    ∙ mapped_at (owner_place entries) entries k None below)
+    (λ past. absurd (omega (arith, past.0)))
+    (slice_get_cases entries k).1
 
 test_parts : (start k : ℕ) (b : Bool) → true ≡ (leb start k && b) → (start ≤ k) × (b ≡ true)
 test_parts start k b e = let p = and_parts (leb start k) b (sym e) in (leb-true start k p.0, p.1)

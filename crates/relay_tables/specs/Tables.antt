@@ -1,5 +1,5 @@
 -- What is true of every `Tables`.
-use Rattle.std.specs.Prelude.{◌≡◌, ℕ, ◌<◌, ◌-◌, ◌^◌, Bool, List, ◌++◌, codes, length, map, position, Option, IsTrue}
+use Rattle.std.specs.Prelude.{◌≡◌, ℕ, ◌⊎◌, ◌<◌, ◌-◌, ◌^◌, Bool, List, [], ◌++◌, codes, length, map, position, Option, None, All, IsTrue}
 use Rattle.std.specs.List.{list_all}
 use Rattle.std.specs.Str.{bytes_eq}
 use Rattle.relay_text.specs.Bytes.{has_text}
@@ -30,8 +30,12 @@ pub record AreIndices (d : Directory) (key : ℕ) (domains : List (List ℕ)) (a
 abbrev pub owner_place : List Entry → Entry → Option ℕ
 owner_place entries e = position (λ (o : Entry). bytes_eq (codes "owner-" ++ e.name) o.name) entries
 
+-- the owner of each entry, in order, or nothing where none has one
+abbrev pub AreOwners : List Entry → List (Option ℕ) → Type 0
+AreOwners entries found = (found ≡ map (owner_place entries) entries) ⊎ ((found ≡ []) × All (λ e. owner_place entries e ≡ None) entries)
+
 pub record AreTables (d : Directory) (key : ℕ) (domains : List (List ℕ)) (marks : List Bool) (aliases includes mailboxes : List ℕ) (found : List (Option ℕ)) : Type 0 where
   pub lawful : IsLawful d
   pub marked : AreMarks d.local marks
   pub indices : AreIndices d key domains aliases includes mailboxes
-  pub owners : found ≡ map (owner_place d.aliases) d.aliases
+  pub owners : AreOwners d.aliases found

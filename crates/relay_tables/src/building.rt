@@ -69,7 +69,7 @@ pub(crate) fn number_all(
         row: Vec::new(alloc),
     };
     let entries = aliases.saturating_add(includes);
-    let mut children = Adjacency::with_capacity(alloc, entries, items)?;
+    let mut children = Adjacency::with_capacity(alloc, entries)?;
     number_aliases(alloc, tables, &mut numbering, &mut scratch, &mut children)?;
     number_includes(alloc, tables, &mut numbering, &mut scratch, &mut children)?;
     let roots = number_recipients(alloc, tables, recipients, &mut numbering, &mut scratch)?;

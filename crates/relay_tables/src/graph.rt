@@ -17,7 +17,8 @@ use std::marker::Model;
 /// The aliases of the tables, the include files and the targets of items and recipients as numbered nodes, and which leads to which; and
 /// the senders that owners give, numbered too. `build` takes all of them, and `reached` what the recipients lead to.
 ///
-/// Children and parents lie in one vector each: 4 bytes for an item, and 12 for a node.
+/// Children and parents are rows of numbers: 4 bytes for a node of one or none, and for another 12, and 4 for each number. Most nodes
+/// have one, which then takes one read of memory.
 #[derive(Drop)]
 pub struct Graph {
     nodes: Vec<Node>,

@@ -1,10 +1,10 @@
 //! Who owns each entry of an alias table: the entry of the same name behind `owner-`.
-ghost use Rattle.std.specs.Prelude.{◌≡◌, ℕ, ◌<◌, ◌≤◌, ◌-◌, ◌^◌, ◌++◌, List, true, false, length, map, codes, nat_le, ◌&&◌, slice_get, slice_index_or, unwrap_or, Some, None, IfOk, IfSome};
+ghost use Rattle.std.specs.Prelude.{◌≡◌, ℕ, ◌<◌, ◌≤◌, ◌-◌, ◌^◌, ◌++◌, List, true, false, length, map, codes, All, nat_le, ◌&&◌, slice_get, slice_index_or, unwrap_or, Some, None, IfOk, IfSome};
 ghost use Rattle.std.specs.Str.{bytes_eq};
 ghost use Rattle.relay_aliasfile.specs.declared.entry.Entry.{Entry};
 ghost use Rattle.relay_chains.specs.TextHash.{text_hash};
 ghost use Rattle.relay_tables.specs.Indices.{name_hash};
-ghost use Rattle.relay_tables.specs.Tables.{owner_place};
+ghost use Rattle.relay_tables.specs.Tables.{owner_place, AreOwners};
 ghost use Rattle.relay_tables.specs.Owning.{owner_or};
 
 use relay_aliasfile::Entry;
@@ -12,7 +12,8 @@ use relay_chains::{Links, hash_text};
 use relay_text::same_bytes;
 use std::alloc::{AllocError, Global};
 
-/// The owner of each entry, the place of `owner-` and its name, if it has one.
+/// The owner of each entry, the place of `owner-` and its name, if it has one. Where no name begins with `owner-`, nobody has an owner, and
+/// no memory is taken.
 ///
 /// What is looked up is the name behind each `owner-`, since few names begin so.
 pub(crate) fn entry_owners(
@@ -23,8 +24,11 @@ pub(crate) fn entry_owners(
 ) -> Result<Vec<Option<u32>>, AllocError>
     requires few { length entries.now < 2 ^ 32 - 2 }
     requires hashed { links.now ≡ map (name_hash key) entries.now }
-    ensures { IfOk result (λ owners. owners.items ≡ map (owner_place entries.now) entries.now) }
+    ensures { IfOk result (λ owners. AreOwners entries.now owners.items) }
 {
+    if !has_owner(entries) {
+        return Ok(Vec::new(alloc));
+    }
     let mut owners = vec![in alloc; None; entries.len()]?;
     for number in 0..entries.len() {
         if let Some(name) = owned_name(entries[number].name.as_bytes()) {
@@ -32,6 +36,18 @@ pub(crate) fn entry_owners(
         }
     }
     Ok(owners)
+}
+
+// Whether some name begins with `owner-`.
+fn has_owner(entries: &[Entry]) -> bool
+    ensures { result ≡ false → All (λ e. owner_place entries.now e ≡ None) entries.now }
+{
+    for entry in entries {
+        if owned_name(entry.name.as_bytes()).is_some() {
+            return true;
+        }
+    }
+    false
 }
 
 // The name behind `owner-`.

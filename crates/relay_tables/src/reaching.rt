@@ -88,7 +88,7 @@ fn reach_roots(
     Ok(Reach {
         names: numbering,
         roots,
-        children: Adjacency::with_capacity(alloc, FEW, FEW)?,
+        children: Adjacency::with_capacity(alloc, FEW)?,
         senders: SenderList::new(alloc, 1, sender)?,
         owners: Vec::new(alloc),
         scratch,
@@ -98,6 +98,7 @@ fn reach_roots(
 // What the first node without a row leads to, and the sender that it sets.
 fn reach_more(alloc: Global, tables: &Tables, found: &mut Reach) -> Result<(), TableFault>
     requires some { length found.old.children < length found.old.names.nodes }
+    requires few { length found.old.children < 2 ^ 24 }
     requires room { length found.old.senders < 2 ^ 32 - 2 }
     ensures reach { OnOk result ((sender : Sender) (recipients : List AddressParts) → IsReach tables.now sender recipients found.old → IsReach tables.now sender recipients found.new) }
     ensures more { OnOk result (length found.new.children ≡ length found.old.children + 1) }

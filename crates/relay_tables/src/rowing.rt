@@ -1,5 +1,5 @@
 //! Rows of node numbers: the children of each entry, and the recipients' targets.
-ghost use Rattle.std.specs.Prelude.{◌≡◌, ◌<◌, ◌+◌, ◌++◌, length, map, flat_map, slice_get, IfOk, OnOk, IfSome, IsTrue};
+ghost use Rattle.std.specs.Prelude.{◌≡◌, ◌<◌, ◌+◌, ◌^◌, ◌++◌, length, map, flat_map, slice_get, IfOk, OnOk, IfSome, IsTrue};
 ghost use Rattle.std.specs.List.{list_all, range_with_len};
 ghost use Rattle.relay_tables.specs.declared.node.Node.TheVariants.{Alias, Include};
 ghost use Rattle.relay_tables.specs.Parts.{is_good_item};
@@ -53,6 +53,8 @@ pub(crate) fn number_aliases(
     scratch: &mut Scratch,
     rows: &mut Adjacency,
 ) -> Result<(), TableFault>
+    requires room { length rows.old + length tables.now.aliases < 2 ^ 31 }
+    ensures count { OnOk result (length rows.new ≡ length rows.old + length tables.now.aliases) }
     ensures rows { OnOk result (Adds names.old.nodes rows.old (map (λ n. targets_of tables.now (Alias n)) (range_with_len 0 (length tables.now.aliases))) names.new.nodes rows.new) }
     ensures numbers { Numbers names.old (flat_map (λ n. targets_of tables.now (Alias n)) (range_with_len 0 (length tables.now.aliases))) result names.new }
 {
@@ -73,6 +75,7 @@ pub(crate) fn number_includes(
     scratch: &mut Scratch,
     rows: &mut Adjacency,
 ) -> Result<(), TableFault>
+    requires room { length rows.old + length tables.now.includes < 2 ^ 31 }
     ensures rows { OnOk result (Adds names.old.nodes rows.old (map (λ n. targets_of tables.now (Include n)) (range_with_len 0 (length tables.now.includes))) names.new.nodes rows.new) }
     ensures numbers { Numbers names.old (flat_map (λ n. targets_of tables.now (Include n)) (range_with_len 0 (length tables.now.includes))) result names.new }
 {

@@ -137,7 +137,10 @@ impl Tables {
         requires { alias < length self.now.aliases }
         ensures { result ≡ owner_number self.now alias }
     {
-        self.owners[alias as usize]
+        match self.owners.get(alias as usize) {
+            Some(owner) => *owner,
+            None => None,
+        }
     }
 
     /// The sender of what an alias with an owner expands to: the owner alias's own address at the origin. Where the settings say

@@ -1,4 +1,4 @@
-use Rattle.std.proofs.Common.{◌≡◌, ℕ, ◌<◌, length, get_or, refl, sym, ap, ◌∙◌, subst, arith}
+use Rattle.std.proofs.Common.{◌≡◌, ℕ, ◌<◌, length, get_or, inl, inr, refl, sym, ap, ◌∙◌, subst, arith}
 use Rattle.std.specs.Vec.{with_items}
 use Rattle.std.proofs.lemmas.List.{with_items_is}
 use Rattle.relay_aliasfile.specs.declared.entry.Entry.{Entry}
@@ -24,7 +24,10 @@ loop-number-preserved c =
           (λ owned is. w.in_default.ensures.none refl owned (sym name ∙ is)) l.invariant)
     ]
 
+pub returns-then-not-has_owner : goal.returns-then-not-has_owner
+returns-then-not-has_owner c = inr (c.new.ensures.items, c.has_owner.ensures c.if-not-has_owner.true)
+
 pub returns : goal.returns
 returns c =
     let l = c.loop-number in
-    owned_all c.args.entries.now l.owners.items (subst (λ (n : ℕ). AreOwnedAmong c.args.entries.now n l.owners.items) (omega (arith, c.loop-number-test.false)) l.invariant)
+    inl (owned_all c.args.entries.now l.owners.items (subst (λ (n : ℕ). AreOwnedAmong c.args.entries.now n l.owners.items) (omega (arith, c.loop-number-test.false)) l.invariant))

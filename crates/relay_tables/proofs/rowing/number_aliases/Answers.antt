@@ -1,5 +1,6 @@
 use Rattle.std.proofs.Common.{arith, ◌≡◌, ℕ, ◌+◌, ◌<◌, List, [], ◌∷◌, ◌++◌, length, map, Some, Err, sym, ap, ◌∙◌, subst}
 use Rattle.std.specs.List.{flat_map, range_with_len}
+use Rattle.std.proofs.lemmas.List.{length_push}
 use Rattle.std.proofs.lemmas.List.FromFn.{map-range_with_len_more}
 use Rattle.std.proofs.lemmas.Result.{err_from_is_err_and}
 use Rattle.relay_tables.specs.declared.node.Node.{Node}
@@ -12,7 +13,7 @@ use Rattle.relay_tables.proofs.RowSteps.{with_all-none, with_all-more, refused, 
 use Rattle.relay_tables.proofs.rowing.number_aliases.Goals as goal
 
 pub loop-number-init : goal.loop-number-init
-loop-number-init c = record { names = sym (with_all-none c.args.names.now); rows = adds_none c.args.names.now.nodes c.args.rows.now }
+loop-number-init c = record { count = omega arith; names = sym (with_all-none c.args.names.now); rows = adds_none c.args.names.now.nodes c.args.rows.now }
 
 pub returns-in_err-number_items-clause-numbers : goal.returns-in_err-number_items-clause-numbers
 returns-in_err-number_items-clause-numbers c =
@@ -29,6 +30,9 @@ returns-in_err-number_items-clause-numbers c =
     let p = err_from_is_err_and c.from_residual.result c.from_residual.ensures.1 in
     rw (p.1, p.2)
     (refused (Unit {0}) (Unit {0}) e c.args.names.now l.names new new (flat_map f (range_with_len 0 l.number)) (f l.number) split.0 (flat_map f (range_with_len 0 (length d.aliases))) l.invariant.names split.1 h)
+
+pub push-requires : goal.push-requires
+push-requires c = omega (arith, c.loop-number.invariant.count, ap length c.aliases-entries.ensures.entries, c.requires)
 
 pub loop-number-preserved : goal.loop-number-preserved
 loop-number-preserved c =
@@ -47,6 +51,7 @@ loop-number-preserved c =
     let pushed : Adds s.nodes c.args.rows.now (map f (range_with_len 0 l.number) ++ f l.number ∷ []) new.nodes c.push.new.self =
     subst (λ (rs : List (List ℕ)). Adds s.nodes c.args.rows.now (map f (range_with_len 0 l.number) ++ f l.number ∷ []) new.nodes rs) (sym c.in_ok-push.ensures.ok) added in
     record {
+      count = omega (arith, l.invariant.count, ap length c.in_ok-push.ensures.ok, length_push l.rows c.deref.result.now);
       names = with_all-more s l.names new (flat_map f (range_with_len 0 l.number)) (f l.number) (flat_map f (range_with_len 0 (l.number + 1))) l.invariant.names step (flat_run_more f l.number);
       rows = subst (λ (tss : List (List Node)). Adds s.nodes c.args.rows.now tss new.nodes c.push.new.self) (sym more) pushed;
     }

@@ -1,4 +1,4 @@
-use Rattle.std.proofs.Common.{◌≡◌, map}
+use Rattle.std.proofs.Common.{◌≡◌, ◌+◌, length, map}
 use Rattle.std.specs.List.{flat_map, range_with_len}
 use Rattle.relay_tables.specs.declared.node.Node.TheVariants.{Include}
 use Rattle.relay_tables.specs.Targets.{targets_of}
@@ -8,6 +8,7 @@ use Rattle.relay_tables.proofs.rowing.number_includes.Given as goal
 
 abbrev pub invariant-loop-number : goal.invariant-loop-number
 invariant-loop-number l = record {
+  count : length l.rows ≡ length l.initial.rows + l.number;
   names : l.names ≡ with_all l.initial.names (flat_map (λ n. targets_of l.tables (Include n)) (range_with_len 0 l.number));
   rows : Adds l.initial.names.nodes l.initial.rows (map (λ n. targets_of l.tables (Include n)) (range_with_len 0 l.number)) l.names.nodes l.rows;
 }

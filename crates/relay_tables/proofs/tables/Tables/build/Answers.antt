@@ -1,9 +1,9 @@
-use Rattle.std.proofs.Common.{◌≡◌, ℕ, List, length, map, ap, ◌∙◌, sym, arith}
+use Rattle.std.proofs.Common.{◌≡◌, ℕ, List, length, map, ap, ◌∙◌, subst, sym, arith}
 use Rattle.relay_chains.specs.TextHash.{text_hash}
 use Rattle.relay_text.specs.Bytes.{has_text}
 use Rattle.relay_aliasfile.specs.declared.entry.Entry.{Entry}
 use Rattle.relay_tables.specs.Indices.{name_hash, path_hash}
-use Rattle.relay_tables.specs.Tables.{owner_place}
+use Rattle.relay_tables.specs.Tables.{AreOwners}
 use Rattle.relay_tables.proofs.tables.Tables.build.Goals as goal
 
 pub invariant_of-result : goal.invariant_of-result
@@ -24,5 +24,5 @@ invariant_of-result c =
         include = c.in_ok-include_links.ensures ∙ ap (map (path_hash c.key_of-key.result)) (c.deref.ensures.value ∙ sym kept);
         mailbox = c.in_ok-mailbox_links.ensures ∙ ap (map (text_hash c.key_of-key.result)) c.as_slice-5.ensures;
       };
-      owners = c.in_ok-owners.ensures ∙ ap (λ (es : List Entry). map (owner_place es) es) c.as_slice-6.ensures;
+      owners = subst (λ (es : List Entry). AreOwners es c.in_ok-owners.owners.items) c.as_slice-6.ensures c.in_ok-owners.ensures;
     }
