@@ -6,7 +6,7 @@ pub mod AddressItems
 pub mod ItemForms
 pub mod OpenTexts
 pub mod ItemLists
-pub mod NamePlaces
+pub mod NameRepeats
 pub mod AliasLines
 pub mod IncludePaths
 pub mod FileSizes

@@ -10,6 +10,6 @@ pub mod ItemReasons
 pub mod Specials
 pub mod Lists
 pub mod Headings
-pub mod HeadedLines
 pub mod AliasTables
+pub mod Repeats
 pub mod ItemPlaces

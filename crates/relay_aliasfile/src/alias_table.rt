@@ -1,40 +1,38 @@
 //! The entries of an alias file while they are gathered.
-ghost use Rattle.std.specs.Prelude.{◌≡◌, ◌==◌, ◌<◌, ◌++◌, ◌∷◌, [], length, map, slice_index, OnOk};
-ghost use Rattle.std.specs.Option.{ForSome};
+ghost use Rattle.std.specs.Prelude.{◌≡◌, ◌++◌, ◌∷◌, [], drop, map, option_map, OnOk};
 ghost use Rattle.relay_aliasfile.specs.AliasFiles.{list_faults, orphan_fault};
-ghost use Rattle.relay_aliasfile.specs.AliasTables.{new_entry, new_entries, new_faults, more_named};
-ghost use Rattle.relay_aliasfile.specs.HeadedLines.{headed_value};
+ghost use Rattle.relay_aliasfile.specs.AliasTables.{new_entry, new_entries, new_faults, next_repeat, repeats_behind};
 ghost use Rattle.relay_aliasfile.specs.Headings.{heading_value};
 ghost use Rattle.relay_aliasfile.specs.MailboxFiles.{fault};
 
 use crate::aliases::AliasFile;
 use crate::entry::Entry;
 use crate::fault::{FaultKind, LineFault};
-use crate::headed_line::HeadedLine;
 use crate::heading::Heading;
 use crate::items::Items;
 use crate::lists::read_entry_items;
 use relay_text::Seq;
 use std::alloc::{AllocError, Global};
 
-/// The entries of an alias file up to a line, how many lines up to there have a name, and the faults.
+/// The entries of an alias file up to a line, which of the names from there on are repeats, and the faults.
 #[derive(Drop)]
-pub(crate) struct AliasTable {
+pub(crate) struct AliasTable<'a> {
     entries: Vec<Entry>,
-    named: usize,
+    repeats: &'a [bool],
     faults: Vec<LineFault>,
 }
 
-impl AliasTable {
-    /// No entries, without taking memory.
-    pub(crate) fn new(alloc: Global) -> AliasTable
+impl<'a> AliasTable<'a> {
+    /// No entries, without taking memory. The list says of each name that is to come whether it's a repeat; a name past its end is
+    /// none.
+    pub(crate) fn new(alloc: Global, repeats: &'a [bool]) -> AliasTable<'a>
         ensures entries { result.entries.items ≡ [] }
-        ensures named { result.named ≡ 0 }
+        ensures repeats { result.repeats.now ≡ repeats.now }
         ensures faults { result.faults.items ≡ [] }
     {
         AliasTable {
             entries: Vec::new(alloc),
-            named: 0,
+            repeats,
             faults: Vec::new(alloc),
         }
     }
@@ -42,7 +40,7 @@ impl AliasTable {
     /// Adds the lines that continue no logical line.
     pub(crate) fn add_orphans(&mut self, numbers: &[usize]) -> Result<(), AllocError>
         ensures entries { OnOk result (self.new.entries ≡ self.old.entries) }
-        ensures named { OnOk result (self.new.named ≡ self.old.named) }
+        ensures repeats { OnOk result (self.new.repeats ≡ self.old.repeats) }
         ensures faults { OnOk result (self.new.faults.items ≡ self.old.faults.items ++ map orphan_fault numbers.now) }
     {
         for number in numbers {
@@ -51,29 +49,38 @@ impl AliasTable {
         Ok(())
     }
 
-    /// Adds the entry of a logical line, or what is wrong with it. The list of a duplicate isn't read. The places are those at which the
-    /// names stand first.
+    /// Adds the entry of a logical line, or what is wrong with it. The list of a repeat isn't read.
     pub(crate) fn add_line(
         &mut self,
         alloc: Global,
-        line: HeadedLine<'_>,
-        places: &[usize],
+        number: usize,
+        heading: Option<Heading<'_>>,
     ) -> Result<(), AllocError>
-        requires { ForSome line.heading (λ _. self.old.named < length places.now) }
-        ensures entries { OnOk result (self.new.entries.items ≡ self.old.entries.items ++ new_entries (slice_index places.now self.old.named == self.old.named) (headed_value line.entry)) }
-        ensures named { OnOk result (self.new.named ≡ more_named self.old.named (headed_value line.entry)) }
-        ensures faults { OnOk result (self.new.faults.items ≡ self.old.faults.items ++ new_faults (slice_index places.now self.old.named == self.old.named) (headed_value line.entry)) }
+        ensures entries { OnOk result (self.new.entries.items ≡ self.old.entries.items ++ new_entries (next_repeat self.old.repeats.now) number (option_map heading_value heading.entry)) }
+        ensures repeats { OnOk result (self.new.repeats.now ≡ repeats_behind (option_map heading_value heading.entry) self.old.repeats.now) }
+        ensures faults { OnOk result (self.new.faults.items ≡ self.old.faults.items ++ new_faults (next_repeat self.old.repeats.now) number (option_map heading_value heading.entry)) }
     {
-        let HeadedLine { number, heading } = line;
         let Some(heading) = heading else {
             return self.add_fault(number, FaultKind::BadLine);
         };
-        let is_new = places[self.named] == self.named;
-        self.named += 1;
-        if !is_new {
+        if self.take_repeat() {
             return self.add_fault(number, FaultKind::Duplicate);
         }
         self.add_entry(alloc, number, heading)
+    }
+
+    /// Whether the next name is a repeat.
+    fn take_repeat(&mut self) -> bool
+        ensures value { result ≡ next_repeat self.old.repeats.now }
+        ensures entries { self.new.entries ≡ self.old.entries }
+        ensures repeats { self.new.repeats.now ≡ drop 1 self.old.repeats.now }
+        ensures faults { self.new.faults ≡ self.old.faults }
+    {
+        let [is_repeat, rest @ ..] = self.repeats else {
+            return false;
+        };
+        self.repeats = rest;
+        *is_repeat
     }
 
     /// Adds an entry whose name is new. Where its list has no item, good or bad, it stays with no items.
@@ -84,7 +91,7 @@ impl AliasTable {
         heading: Heading<'_>,
     ) -> Result<(), AllocError>
         ensures entries { OnOk result (self.new.entries.items ≡ self.old.entries.items ++ new_entry line (heading_value heading.entry) ∷ []) }
-        ensures named { OnOk result (self.new.named ≡ self.old.named) }
+        ensures repeats { OnOk result (self.new.repeats ≡ self.old.repeats) }
         ensures faults { OnOk result (self.new.faults.items ≡ self.old.faults.items ++ list_faults line heading.entry.list.now) }
     {
         let mut items = Items::new(alloc);
@@ -102,7 +109,7 @@ impl AliasTable {
     /// Adds a fault.
     fn add_fault(&mut self, line: usize, kind: FaultKind) -> Result<(), AllocError>
         ensures entries { self.new.entries ≡ self.old.entries }
-        ensures named { self.new.named ≡ self.old.named }
+        ensures repeats { self.new.repeats ≡ self.old.repeats }
         ensures faults { OnOk result (self.new.faults.items ≡ self.old.faults.items ++ fault line kind ∷ []) }
     {
         self.faults.push(LineFault { line, kind })?;
@@ -111,7 +118,7 @@ impl AliasTable {
 
     /// The file, without taking memory.
     pub(crate) fn into_file(self) -> AliasFile
-        ensures { result ≡ record { entries = self.entries.items; faults = self.faults.items } }
+        ensures { result ≡ record { entries = self.entry.entries.items; faults = self.entry.faults.items } }
     {
         AliasFile {
             entries: Seq::of(self.entries),

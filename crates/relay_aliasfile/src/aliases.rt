@@ -1,15 +1,22 @@
 //! Alias files.
+//!
+//! The logical lines of a file are read one after another, and each makes its entry at once, as if no name came again. Only then are
+//! the names sought that do. Where there are some, the file is read once more, and their lines are duplicates. So beside the entries
+//! there stand, while they are made, only the faults and the parts of one joined line: all lines with their headings and the places of
+//! their names would take some 140 bytes a line. An administrator's file seldom repeats a name, so it's mostly read once.
 ghost use Rattle.std.specs.Prelude.{◌≡◌, IfOk};
 ghost use Rattle.relay_aliasfile.specs.AliasFiles.{alias_file_of, entry_items};
+ghost use Rattle.relay_aliasfile.specs.AliasTables.{file_by};
 ghost use Rattle.relay_aliasfile.specs.IncludeNames.{include_names_in};
 
 use crate::alias_table::AliasTable;
 use crate::distinct::distinct_texts;
 use crate::entry::Entry;
 use crate::fault::LineFault;
-use crate::headed_line::{headed_lines, name_places};
+use crate::heading::heading_in;
 use crate::paths::add_paths;
-use relay_text::{Seq, Text, logical_lines};
+use crate::repeats::repeats_of;
+use relay_text::{LogicalLines, Seq, Text};
 use std::alloc::{AllocError, Global};
 
 /// The entries of an alias file, and the lines at fault.
@@ -28,16 +35,30 @@ pub struct AliasFile {
 /// for an entry whose name was there before, which is dropped with its list unread; `Empty` for an entry whose list has no item, good or
 /// bad, and which stays; `BadItem` for each item that is none of `Item`'s kinds, has a byte other than tab and 32 to 126, or leaves a
 /// quote open. `Err` where memory runs out.
+#[tactic(auto, using(crate::proofs::AliasLines::read_again))]
 pub fn parse_aliases(alloc: Global, bytes: &[u8]) -> Result<AliasFile, AllocError>
     ensures { IfOk result (λ file. file ≡ alias_file_of bytes.now) }
 {
-    let lines = logical_lines(alloc, bytes)?;
-    let mut table = AliasTable::new(alloc);
-    table.add_orphans(lines.orphans.as_slice())?;
-    let headed = headed_lines(alloc, lines.lines.as_slice())?;
-    let places = name_places(alloc, headed.as_slice())?;
-    for line in headed {
-        table.add_line(alloc, line, places.as_slice())?;
+    let file = read_file(alloc, bytes, &[])?;
+    let repeats = repeats_of(alloc, file.entries.as_slice())?;
+    if !repeats.contains(&true) {
+        return Ok(file);
+    }
+    drop(file);
+    read_file(alloc, bytes, &repeats)
+}
+
+/// The alias file of which the names are repeats that the list says are, one after another; a name past its end is none.
+fn read_file(alloc: Global, bytes: &[u8], repeats: &[bool]) -> Result<AliasFile, AllocError>
+    ensures { IfOk result (λ file. file ≡ file_by repeats.now bytes.now) }
+{
+    let mut lines = LogicalLines::new(alloc, bytes)?;
+    let mut table = AliasTable::new(alloc, repeats);
+    table.add_orphans(lines.orphans())?;
+    let mut joined = Vec::new(alloc);
+    while let Some(line) = lines.next_line(&mut joined)? {
+        let heading = heading_in(alloc, line.text)?;
+        table.add_line(alloc, line.number, heading)?;
     }
     Ok(table.into_file())
 }

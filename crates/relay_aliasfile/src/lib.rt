@@ -7,7 +7,6 @@ pub mod counts;
 mod distinct;
 pub mod entry;
 pub mod fault;
-mod headed_line;
 mod heading;
 pub mod includes;
 pub mod item;
@@ -23,6 +22,7 @@ mod quotes;
 mod reading;
 pub mod reason;
 pub mod reasons;
+mod repeats;
 mod special;
 mod unquoted;
 

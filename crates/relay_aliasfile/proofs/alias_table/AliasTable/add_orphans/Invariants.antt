@@ -6,6 +6,6 @@ use Rattle.relay_aliasfile.proofs.alias_table.AliasTable.add_orphans.Given as go
 abbrev pub invariant-loop-number : goal.invariant-loop-number
 invariant-loop-number l = record {
   entries : l.self.entries ≡ l.initial.self.entries;
-  named : l.self.named ≡ l.initial.self.named;
+  repeats : l.self.repeats ≡ l.initial.self.repeats;
   faults : l.self.faults.items ≡ l.initial.self.faults.items ++ map orphan_fault (take l.number-index l.numbers);
 }
