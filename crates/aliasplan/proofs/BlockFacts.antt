@@ -10,7 +10,7 @@ use Rattle.relay_text.specs.TextSets.{text_cmp, IsAscendingBy}
 use Rattle.relay_tables.specs.Senders.{Sender}
 use Rattle.relay_returns.specs.declared.block.Return.{Return}
 use Rattle.aliasplan.specs.ReturnLines.{block_of, blocks_from, lines_at}
-use Rattle.aliasplan.proofs.Members.{In, in_from, contains_in}
+use Rattle.relay_planning.proofs.Members.{In, in_from, contains_in}
 
 -- ---- one more block
 blocks_push : (senders : List Sender) (lists : List (List (List ℕ))) (sender : Sender) (lines : List (List ℕ)) → length senders ≡ length lists → blocks_from (senders ++ sender ∷ []) (lists ++ lines ∷ []) ≡ blocks_from senders lists ++ block_of sender lines

@@ -5,11 +5,11 @@ use Rattle.relay_text.specs.TextSets.{IsAscendingBy, text_cmp}
 use Rattle.relay_job.specs.declared.job.Job.{Job}
 use Rattle.aliasplan.specs.Checks.{AreLines}
 use Rattle.relay_wire.specs.declared.plan.Plan.{Plan}
-use Rattle.aliasplan.specs.Plans.{IsPlanOf}
-use Rattle.aliasplan.specs.Report.{texts, IsFindingLine, IsLineOf}
-use Rattle.aliasplan.specs.Texts.{has_fault_line}
-use Rattle.aliasplan.proofs.SetFacts.{Contains-has_text, has_text-Contains}
-use Rattle.aliasplan.proofs.TextFacts.{text_lines}
+use Rattle.relay_planning.specs.Plans.{IsPlanOf}
+use Rattle.relay_planning.specs.Report.{texts, IsFindingLine, IsLineOf}
+use Rattle.relay_planning.specs.Texts.{has_fault_line}
+use Rattle.relay_planning.proofs.SetFacts.{Contains-has_text, has_text-Contains}
+use Rattle.relay_planning.proofs.TextFacts.{text_lines}
 
 pub texts_are : (tables : Job) (lines given : List (List ℕ)) → ((q : List ℕ) → has_text lines q ≡ has_text given q) → IsAscendingBy text_cmp lines → ((q : List ℕ) → has_text given q ≡ has_fault_line tables q)
     → AreLines (IsLineOf tables texts) lines

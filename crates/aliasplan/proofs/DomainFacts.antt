@@ -7,11 +7,11 @@ use Rattle.relay_tables.specs.declared.node.Node.{Node}
 use Rattle.relay_tables.specs.GraphParts.{GraphParts}
 use Rattle.relay_job.specs.declared.job.Job.{Job}
 use Rattle.aliasplan.specs.Domains.{domain_of_node, IsAskedDomain, AreAskedDomains, AsksFor}
-use Rattle.aliasplan.specs.Entries.{HaveLine}
-use Rattle.aliasplan.specs.Findings.{Reports}
-use Rattle.aliasplan.specs.Reaching.{AreReachedNodes}
-use Rattle.aliasplan.proofs.NumberFacts.{slice_get_below}
-use Rattle.aliasplan.proofs.SetFacts.{Contains-has_text, has_text-Contains}
+use Rattle.relay_planning.specs.Entries.{HaveLine}
+use Rattle.relay_planning.specs.Findings.{Reports}
+use Rattle.relay_planning.specs.Reaching.{AreReachedNodes}
+use Rattle.relay_planning.proofs.NumberFacts.{slice_get_below}
+use Rattle.relay_planning.proofs.SetFacts.{Contains-has_text, has_text-Contains}
 
 module _ (job : Job) (g : GraphParts) (nodes : List ℕ) (all : AreReachedNodes job g nodes) where
   asked_by_number : (q : List ℕ) → HaveLine (AsksFor job g) nodes q → IsAskedDomain job q

@@ -6,8 +6,9 @@ use Rattle.relay_job.specs.declared.fault.RunFault.TheVariants.{Read, TooLong, B
 use Rattle.relay_job.specs.JobText.{job_of}
 use Rattle.relay_job.specs.JobAnswers.{Fails}
 use Rattle.relay_job.proofs.Faults.{fault_of_job}
-use Rattle.aliasplan.specs.declared.options.Limits.{Limits}
-use Rattle.aliasplan.specs.Outcomes.{IsRefused, RefusesBytes}
+use Rattle.relay_planning.specs.declared.options.Limits.{Limits}
+use Rattle.relay_planning.specs.Limits.{IsRefused}
+use Rattle.aliasplan.specs.Outcomes.{RefusesBytes}
 
 module _ (limits : Limits) (text : List ℕ) (size : length text ≤ limits.bytes) where
   -- a text that is no job

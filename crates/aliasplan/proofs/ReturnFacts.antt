@@ -25,15 +25,15 @@ use Rattle.relay_wire.specs.Findings.{finding_text_of}
 use Rattle.relay_returns.specs.declared.block.Return.{Return}
 use Rattle.relay_returns.specs.Returns.{return_cmp, return_text_of}
 use Rattle.relay_job.specs.declared.job.Job.{Job}
-use Rattle.aliasplan.specs.Delivery.{directory_of, IsJobPart}
-use Rattle.aliasplan.specs.Listing.{target_finding}
-use Rattle.aliasplan.specs.Reaching.{AreReachedNodes}
+use Rattle.relay_planning.specs.Delivery.{directory_of, IsJobPart}
+use Rattle.relay_planning.specs.Listing.{target_finding}
+use Rattle.relay_planning.specs.Reaching.{AreReachedNodes}
 use Rattle.aliasplan.specs.Returns.{AreReturnsOf, HasAtMostReturnPairs, HasMoreReturnPairs, IsReturnLine, IsReturned, IsReturnedFrom, IsReturnedItself}
 use Rattle.aliasplan.specs.ReturnLines.{AreCounted, AreLinesOf, AreReturnLines, AreUndelivered, HasTooMany, IsLineBefore, IsLineFrom, IsLineOfPlace, IsPairLine, blocks_from, lines_at}
 use Rattle.aliasplan.proofs.BlockFacts.{block_ascends, block_is, has_block}
-use Rattle.aliasplan.proofs.NumberFacts.{slice_get_below}
+use Rattle.relay_planning.proofs.NumberFacts.{slice_get_below}
 use Rattle.aliasplan.proofs.ReturnSteps.{same_return, sum_more}
-use Rattle.aliasplan.proofs.SetFacts.{Contains-has_text, has_text-Contains}
+use Rattle.relay_planning.proofs.SetFacts.{Contains-has_text, has_text-Contains}
 
 -- where all elements are distinct, each stands in one place
 one_place : {X : Type 0} (xs : List X) (i j : ℕ) (x : X) → AllPairs (λ x y. x ≢ y) xs → slice_get xs i ≡ Some x → slice_get xs j ≡ Some x → i ≡ j

@@ -6,8 +6,8 @@ use Rattle.relay_job.specs.declared.fault.RunFault.TheVariants.{Read, TooLong, B
 use Rattle.relay_job.specs.JobText.{job_of}
 use Rattle.relay_job.specs.JobAnswers.{Fails}
 use Rattle.relay_job.proofs.Faults.{fault_of_job}
-use Rattle.aliasplan.specs.declared.options.Limits.{Limits}
-use Rattle.aliasplan.specs.Outcomes.{IsRefused}
+use Rattle.relay_planning.specs.declared.options.Limits.{Limits}
+use Rattle.relay_planning.specs.Limits.{IsRefused}
 use Rattle.aliasplan.specs.Returns.{IsUnreturned, RefusesReturnBytes}
 
 -- a job whose plan is refused

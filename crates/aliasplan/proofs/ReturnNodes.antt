@@ -22,16 +22,16 @@ use Rattle.relay_wire.specs.declared.finding.Finding.{Finding}
 use Rattle.relay_wire.specs.declared.finding.Finding.TheVariants as findings
 use Rattle.relay_wire.specs.Findings.{finding_text_of}
 use Rattle.relay_job.specs.declared.job.Job.{Job}
-use Rattle.aliasplan.specs.Delivery.{directory_of, routing_of, final_address, final_route, IsJobPart}
-use Rattle.aliasplan.specs.Report.{reason_of}
-use Rattle.aliasplan.specs.Listing.{place_of, target_finding}
-use Rattle.aliasplan.specs.Entries.{IsLineIn, HaveLine, IsTargetLine, IsListLine, IsListLineIn, IsNodeLine}
-use Rattle.aliasplan.specs.Routes.{IsLineAt, IsLineOfNode}
+use Rattle.relay_planning.specs.Delivery.{directory_of, routing_of, final_address, final_route, IsJobPart}
+use Rattle.relay_planning.specs.Report.{reason_of}
+use Rattle.relay_planning.specs.Listing.{place_of, target_finding}
+use Rattle.relay_planning.specs.Entries.{IsLineIn, HaveLine, IsTargetLine, IsListLine, IsListLineIn, IsNodeLine}
+use Rattle.relay_planning.specs.Routes.{IsLineAt, IsLineOfNode}
 use Rattle.aliasplan.specs.Returns.{IsUndelivered}
 use Rattle.aliasplan.specs.ReturnLines.{AreUndelivered, lines_at}
-use Rattle.aliasplan.proofs.EntryFacts.{no_line}
-use Rattle.aliasplan.proofs.NumberFacts.{child_at, child_of}
-use Rattle.aliasplan.proofs.SetFacts.{Contains-has_text, has_text-Contains}
+use Rattle.relay_planning.proofs.EntryFacts.{no_line}
+use Rattle.relay_planning.proofs.NumberFacts.{child_at, child_of}
+use Rattle.relay_planning.proofs.SetFacts.{Contains-has_text, has_text-Contains}
 
 map_nil : {X Y : Type 0} (f : X → Y) (xs : List X) → map f xs ≡ [] → xs ≡ []
 map_nil f [] e = refl

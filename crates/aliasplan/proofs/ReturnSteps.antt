@@ -20,11 +20,11 @@ use Rattle.relay_wire.specs.declared.finding.Finding.{Finding}
 use Rattle.relay_wire.specs.Findings.{finding_text_of}
 use Rattle.relay_returns.specs.Returns.{return_text_of}
 use Rattle.relay_returns.proofs.LineFacts.{line_is}
-use Rattle.aliasplan.specs.Entries.{IsLineIn, IsTargetLine}
-use Rattle.aliasplan.specs.Listing.{target_finding}
+use Rattle.relay_planning.specs.Entries.{IsLineIn, IsTargetLine}
+use Rattle.relay_planning.specs.Listing.{target_finding}
 use Rattle.aliasplan.specs.ReturnLines.{AreCounted, AreFindings, HavePairLine, IsLineBefore, IsLineFor, IsLineFrom, IsPairLine, IsRootLine, ReportsEach, lines_at}
-use Rattle.aliasplan.proofs.GatherFacts.{Some_has, some_more}
-use Rattle.aliasplan.proofs.SetFacts.{Contains-has_text, has_text-Contains}
+use Rattle.relay_planning.proofs.GatherFacts.{Some_has, some_more}
+use Rattle.relay_planning.proofs.SetFacts.{Contains-has_text, has_text-Contains}
 
 -- ---- one more finding
 -- the line of a finding with this text

@@ -5,7 +5,7 @@ use Rattle.relay_text.specs.TextSets.{text_cmp, IsAscendingBy}
 use Rattle.relay_tables.specs.Targets.{at_origin}
 use Rattle.relay_job.specs.declared.settings.Settings.{Settings}
 use Rattle.relay_job.specs.declared.job.Job.{Job}
-use Rattle.aliasplan.specs.Delivery.{directory_of}
+use Rattle.relay_planning.specs.Delivery.{directory_of}
 
 -- The job of the null sender who writes to every alias, by these files and tables.
 abbrev pub to_each_alias : Job → Job

@@ -11,9 +11,9 @@ use Rattle.relay_routes.specs.Destinations.{destination_of, destination_via_of, 
 use Rattle.relay_wire.specs.PlanText.{lines_of}
 use Rattle.relay_job.specs.declared.job.Job.{Job}
 use Rattle.relay_job.specs.JobText.{job_of}
-use Rattle.aliasplan.specs.declared.options.Limits.{Limits}
-use Rattle.aliasplan.specs.Delivery.{routing_of, IsReachedNode}
-use Rattle.aliasplan.specs.Outcomes.{IsWithin}
+use Rattle.relay_planning.specs.declared.options.Limits.{Limits}
+use Rattle.relay_planning.specs.Delivery.{routing_of, IsReachedNode}
+use Rattle.relay_planning.specs.Limits.{IsWithin}
 
 -- the domain that the way to a destination asks for, if there is a destination and it looks exchangers up
 abbrev pub domain_of_found : Result Destination Unrouted → Option (List ℕ)

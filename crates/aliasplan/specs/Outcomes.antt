@@ -1,58 +1,19 @@
 -- What the calls answer, and why they refuse.
 use Rattle.std.specs.Prelude.{◌≡◌, ℕ, ◌<◌, ◌≤◌, List, [], length, take, Option, Ok, Err, ⊤}
 use Rattle.std.specs.Io.KnownBytes.{Appends}
-use Rattle.relay_tables.specs.Graphs.{nodes_of, owner_count}
+use Rattle.relay_tables.specs.Graphs.{nodes_of}
 use Rattle.relay_wire.specs.declared.plan.Plan.{Plan}
-use Rattle.relay_wire.specs.PlanText.{plan_text_of, wire_text_of, recipient_count}
 use Rattle.relay_job.specs.declared.job.Job.{Job}
 use Rattle.relay_job.specs.declared.fault.RunFault.{RunFault}
 use Rattle.relay_job.specs.declared.fault.RunFault.TheVariants.{Read, TooLong, BadJob, BadSetting, BadEnvelope, TooManyNames, TooManyOwners, TooManyPairs, Write, Memory}
 use Rattle.relay_job.specs.JobText.{job_of}
-use Rattle.aliasplan.specs.declared.options.Form.{Form}
-use Rattle.aliasplan.specs.declared.options.Form.TheVariants as forms
-use Rattle.aliasplan.specs.declared.options.Limits.{Limits}
-use Rattle.aliasplan.specs.declared.options.Options.{Options}
-use Rattle.aliasplan.specs.declared.summary.Summary.{Summary}
-use Rattle.aliasplan.specs.Delivery.{directory_of, HasMorePairs, HasAtMostPairs}
-use Rattle.aliasplan.specs.Plans.{IsFewest, IsPlanOf}
-
--- the ranges of the options and the limits
-pub record AreOptions (o : Options) : Type 0 where
-  pub some_worker : 1 ≤ o.workers
-  pub workers : o.workers ≤ 64
-  pub some_cut : 1 ≤ o.cut
-  pub cut : o.cut ≤ 1048576
-
-pub record AreLimits (l : Limits) : Type 0 where
-  pub bytes : l.bytes ≤ 67108864
-  pub names : l.names ≤ 16777216
-  pub owners : l.owners ≤ 65535
-  pub pairs : l.pairs ≤ 16777216
-
-abbrev pub name_count : Job → ℕ
-name_count job = length (nodes_of (directory_of job) job.recipients)
-
-abbrev pub owned_count : Job → ℕ
-owned_count job = owner_count (directory_of job)
-
--- a job within the limits
-pub record IsWithin (limits : Limits) (job : Job) : Type 0 where
-  pub names : name_count job ≤ limits.names
-  pub owners : owned_count job ≤ limits.owners
-  pub pairs : HasAtMostPairs job limits.pairs
-
--- Why a job isn't planned: too many names, else too many owners, else too many pairs. Memory may run out at any moment.
-abbrev pub IsRefused : Limits → Job → RunFault → Type 0
-IsRefused limits job TooManyNames = limits.names < name_count job
-IsRefused limits job TooManyOwners = (name_count job ≤ limits.names) × (limits.owners < owned_count job)
-IsRefused limits job TooManyPairs = (name_count job ≤ limits.names) × (owned_count job ≤ limits.owners) × HasMorePairs job limits.pairs
-IsRefused limits job Memory = ⊤
-IsRefused limits job Read = ⊥
-IsRefused limits job TooLong = ⊥
-IsRefused limits job (BadJob line) = ⊥
-IsRefused limits job (BadSetting line) = ⊥
-IsRefused limits job (BadEnvelope line) = ⊥
-IsRefused limits job Write = ⊥
+use Rattle.relay_planning.specs.declared.options.Form.{Form}
+use Rattle.relay_planning.specs.declared.options.Limits.{Limits}
+use Rattle.relay_planning.specs.declared.summary.Summary.{Summary}
+use Rattle.relay_planning.specs.Delivery.{directory_of}
+use Rattle.relay_planning.specs.Limits.{owned_count, IsWithin, IsRefused}
+use Rattle.relay_planning.specs.Written.{text_in, summary_of}
+use Rattle.relay_planning.specs.Plans.{IsFewest, IsPlanOf}
 
 -- tables that are within the limits, whatever the envelope
 pub record AreTableCountsWithin (limits : Limits) (tables : Job) : Type 0 where
@@ -71,13 +32,6 @@ HasRefusedTables limits tables (BadJob line) = ⊥
 HasRefusedTables limits tables (BadSetting line) = ⊥
 HasRefusedTables limits tables (BadEnvelope line) = ⊥
 HasRefusedTables limits tables Write = ⊥
-
-abbrev pub summary_of : Plan → Summary
-summary_of p = record { transactions = length p.transactions; recipients = recipient_count p; findings = length p.findings }
-
-abbrev pub text_in : Form → Plan → List ℕ
-text_in forms.Plan p = plan_text_of p
-text_in forms.Wire p = wire_text_of p
 
 -- A run that answers: the bytes read are within the limit and are a job within the limits; what is written is the text of its plan.
 pub record Plans (limits : Limits) (form : Form) (input : List ℕ) (old new : Option (List ℕ)) (summary : Summary) : Type 0 where

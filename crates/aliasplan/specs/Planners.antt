@@ -6,11 +6,11 @@ use Rattle.relay_tables.specs.declared.counting.TableCounts.{TableCounts}
 use Rattle.relay_tables.specs.Graphs.{nodes_of}
 use Rattle.relay_job.specs.declared.job.Job.{Job}
 use Rattle.relay_job.specs.Settings.{limit_of}
-use Rattle.aliasplan.specs.declared.sources.Sources.{Sources}
+use Rattle.relay_planning.specs.declared.sources.Sources.{Sources}
 use Rattle.aliasplan.specs.Checks.{AreLines}
-use Rattle.aliasplan.specs.Delivery.{directory_of, routing_of}
-use Rattle.aliasplan.specs.Outcomes.{owned_count}
-use Rattle.aliasplan.specs.Report.{texts, IsLineOf}
+use Rattle.relay_planning.specs.Delivery.{directory_of, routing_of}
+use Rattle.relay_planning.specs.Limits.{owned_count}
+use Rattle.relay_planning.specs.Report.{texts, IsLineOf}
 
 -- What names stand for and what routes addresses, and how many names and owners the tables have, whatever the envelope. Each transport
 -- takes some recipient in a transaction.

@@ -15,7 +15,7 @@ use Rattle.relay_wire.specs.Findings.{finding_text_of}
 use Rattle.relay_returns.specs.declared.block.Return.{Return}
 use Rattle.relay_returns.specs.Returns.{return_text_of}
 use Rattle.relay_job.specs.declared.job.Job.{Job}
-use Rattle.aliasplan.specs.Listing.{target_finding}
+use Rattle.relay_planning.specs.Listing.{target_finding}
 use Rattle.aliasplan.specs.Returns.{IsUndelivered, IsReturnLine}
 
 -- each of these lines is that of some finding

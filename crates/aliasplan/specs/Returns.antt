@@ -21,16 +21,18 @@ use Rattle.relay_job.specs.declared.job.Job.{Job}
 use Rattle.relay_job.specs.declared.fault.RunFault.{RunFault}
 use Rattle.relay_job.specs.declared.fault.RunFault.TheVariants.{Read, TooLong, BadJob, BadSetting, BadEnvelope, TooManyNames, TooManyOwners, TooManyPairs, Write, Memory}
 use Rattle.relay_job.specs.JobText.{job_of}
-use Rattle.aliasplan.specs.declared.options.Form.{Form}
-use Rattle.aliasplan.specs.declared.options.Form.TheVariants as forms
-use Rattle.aliasplan.specs.declared.options.Limits.{Limits}
-use Rattle.aliasplan.specs.declared.summary.Summary.{Summary}
+use Rattle.relay_planning.specs.declared.options.Form.{Form}
+use Rattle.relay_planning.specs.declared.options.Form.TheVariants as forms
+use Rattle.relay_planning.specs.declared.options.Limits.{Limits}
+use Rattle.relay_planning.specs.declared.summary.Summary.{Summary}
 use Rattle.aliasplan.specs.Checks.{AreLines}
-use Rattle.aliasplan.specs.Delivery.{directory_of, final_address, final_route}
-use Rattle.aliasplan.specs.Listing.{place_of, target_finding}
-use Rattle.aliasplan.specs.Outcomes.{IsWithin, IsRefused, Refuses, summary_of}
-use Rattle.aliasplan.specs.Plans.{IsPlanOf, IsFewest}
-use Rattle.aliasplan.specs.Report.{reason_of}
+use Rattle.relay_planning.specs.Delivery.{directory_of, final_address, final_route}
+use Rattle.relay_planning.specs.Listing.{place_of, target_finding}
+use Rattle.relay_planning.specs.Limits.{IsWithin, IsRefused}
+use Rattle.relay_planning.specs.Written.{summary_of}
+use Rattle.aliasplan.specs.Outcomes.{Refuses}
+use Rattle.relay_planning.specs.Plans.{IsPlanOf, IsFewest}
+use Rattle.relay_planning.specs.Report.{reason_of}
 
 module _ (job : Job) where
   -- an entry or include file at this place lists this target, and lists nothing

@@ -2,13 +2,13 @@
 ghost use Rattle.std.specs.Prelude.{◌≡◌, ◌≤◌, length, IfOk, IfErr};
 ghost use Rattle.relay_job.specs.JobAnswers.{IsJobWithin};
 ghost use Rattle.relay_wire.specs.declared.plan.Plan as plans;
-ghost use Rattle.aliasplan.specs.Outcomes.{AreOptions, AreLimits, IsAnswer, IsRefused, IsWithin, RefusesBytes, summary_of, text_in};
-ghost use Rattle.aliasplan.specs.Plans.{IsFewest, IsPlanOf};
+ghost use Rattle.relay_planning.specs.Limits.{AreOptions, AreLimits, IsRefused, IsWithin};
+ghost use Rattle.relay_planning.specs.Written.{summary_of, text_in};
+ghost use Rattle.aliasplan.specs.Outcomes.{IsAnswer, RefusesBytes};
+ghost use Rattle.relay_planning.specs.Plans.{IsFewest, IsPlanOf};
 
-use crate::options::{Form, Limits, Options};
-use crate::planning::plan_job;
-use crate::summary::Summary;
 use relay_job::{Job, RunFault, parse_job};
+use relay_planning::{Form, Limits, Options, Summary, plan_job};
 use relay_rounds::Gate;
 use relay_text::Text;
 use relay_wire::Plan;

@@ -2,19 +2,15 @@
 ghost use Rattle.std.specs.Prelude.{◌≡◌, ◌<◌, ◌≤◌, [], Some, Err, length, All, IfOk, IfErr, OnOk};
 ghost use Rattle.relay_job.specs.JobAnswers.{IsJobWithin};
 ghost use Rattle.relay_pairs.specs.Pairs.{ArePairs};
-ghost use Rattle.aliasplan.specs.Delivery.{directory_of, routing_of, IsJobPart};
+ghost use Rattle.relay_planning.specs.Delivery.{directory_of, routing_of, IsJobPart};
 ghost use Rattle.aliasplan.specs.Domains.{domain_of_found, AreAskedDomains, AsksFor};
-ghost use Rattle.aliasplan.specs.Entries.{HaveLine};
-ghost use Rattle.aliasplan.specs.Findings.{Reports};
-ghost use Rattle.aliasplan.specs.Outcomes.{name_count, owned_count, IsWithin, IsRefused};
+ghost use Rattle.relay_planning.specs.Entries.{HaveLine};
+ghost use Rattle.relay_planning.specs.Findings.{Reports};
+ghost use Rattle.relay_planning.specs.Limits.{name_count, owned_count, IsWithin, IsRefused};
 
-use crate::crew::Crew;
-use crate::job_view::JobView;
-use crate::planning::{graph_of, nodes_of, pairs_of};
-use crate::sources::Sources;
-use relay_aliasfile::file_counts;
-use relay_job::{Job, RunFault, parsed_jobs};
+use relay_job::{Job, RunFault};
 use relay_pairs::Reached;
+use relay_planning::{Crew, JobView, Sources, graph_of, nodes_of, pairs_of, parsed_is_readable};
 use relay_rounds::Gate;
 use relay_routes::{Destination, Router, Unrouted};
 use relay_tables::{Graph, Node};
@@ -162,8 +158,7 @@ pub fn domains<G: Gate, R: Threads + Sync>(
     ensures within { OnOk result (IsWithin crew.now.limits job.now) }
     ensures refused { IfErr result (IsRefused crew.now.limits job.now) }
 {
-    parsed_jobs();
-    file_counts();
+    parsed_is_readable();
     let mut lines = FindingLines::new(crew.alloc);
     let Ok(sources) = Sources::read_by(crew, job, &mut lines) else {
         return Err(RunFault::Memory);

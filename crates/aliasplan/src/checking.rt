@@ -8,18 +8,13 @@ ghost use Rattle.relay_routes.specs.declared.transport.Transport as names;
 ghost use Rattle.relay_job.specs.Settings.{limit_of};
 ghost use Rattle.relay_job.specs.Tables.{AreTablesWithin};
 ghost use Rattle.aliasplan.specs.Checks.{to_each_alias, AreLines, notes_of};
-ghost use Rattle.aliasplan.specs.Delivery.{directory_of, routing_of};
-ghost use Rattle.aliasplan.specs.Outcomes.{AreLimits, IsWithin, IsRefused};
-ghost use Rattle.aliasplan.specs.Report.{texts, IsFindingLine, IsLineOf};
-ghost use Rattle.aliasplan.specs.Texts.{has_fault_line};
+ghost use Rattle.relay_planning.specs.Delivery.{directory_of, routing_of};
+ghost use Rattle.relay_planning.specs.Limits.{AreLimits, IsWithin, IsRefused};
+ghost use Rattle.relay_planning.specs.Report.{texts, IsFindingLine, IsLineOf};
+ghost use Rattle.relay_planning.specs.Texts.{has_fault_line};
 
-use crate::crew::Crew;
-use crate::job_view::JobView;
-use crate::options::Limits;
-use crate::planning::plan_sources;
-use crate::sources::Sources;
-use relay_aliasfile::file_counts;
-use relay_job::{Job, RunFault, Settings, parsed_tables};
+use relay_job::{Job, RunFault, Settings};
+use relay_planning::{Crew, JobView, Limits, Sources, parsed_is_readable, plan_sources};
 use relay_rounds::Gate;
 use relay_tables::Tables;
 use relay_text::{Seq, Text, same_bytes};
@@ -52,8 +47,7 @@ pub fn check_texts(alloc: Global, tables: &Job, limits: Limits) -> Result<Seq<Te
     requires tables { AreTablesWithin limits.bytes tables.now }
     ensures { IfOk result (AreLines (IsLineOf tables.now texts)) }
 {
-    parsed_tables();
-    file_counts();
+    parsed_is_readable();
     let _ = limits;
     let mut lines = FindingLines::new(alloc);
     let _ = Sources::read(alloc, tables, &mut lines)?;
@@ -117,8 +111,7 @@ pub fn check_aliases<G: Gate, R: Threads + Sync>(
     ensures within { OnOk result (IsWithin crew.now.limits (to_each_alias tables)) }
     ensures refused { IfErr result (IsRefused crew.now.limits (to_each_alias tables)) }
 {
-    parsed_tables();
-    file_counts();
+    parsed_is_readable();
     let mut lines = FindingLines::new(crew.alloc);
     match Sources::read_by(crew, &tables, &mut lines) {
         Ok(sources) => findings_of_aliases(crew, tables, sources, lines),

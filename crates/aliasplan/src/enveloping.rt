@@ -1,17 +1,13 @@
 //! The plan of one envelope, by tables that are read.
 ghost use Rattle.std.specs.Prelude.{◌≡◌, ◌≤◌, ◌+◌, ℕ, true, IfOk, IfErr, OnOk};
 ghost use Rattle.relay_job.specs.Tables.{without_envelope};
-ghost use Rattle.aliasplan.specs.Delivery.{directory_of, IsJobPart};
-ghost use Rattle.aliasplan.specs.Outcomes.{name_count, owned_count, AreLimits, IsRefused, IsWithin};
+ghost use Rattle.relay_planning.specs.Delivery.{directory_of, IsJobPart};
+ghost use Rattle.relay_planning.specs.Limits.{name_count, owned_count, AreLimits, IsRefused, IsWithin};
 ghost use Rattle.aliasplan.specs.Planners.{AreRead};
-ghost use Rattle.aliasplan.specs.Plans.{IsFewest, IsOwnPlanOf, IsSoundFor};
+ghost use Rattle.relay_planning.specs.Plans.{IsFewest, IsOwnPlanOf, IsSoundFor};
 
-use crate::crew::Crew;
-use crate::job_view::JobView;
-use crate::options::Limits;
-use crate::planning::{graph_of, pairs_of, plan_reached};
-use crate::sources::Sources;
 use relay_job::RunFault;
+use relay_planning::{Crew, JobView, Limits, Sources, graph_of, pairs_of, plan_reached};
 use relay_rounds::Gate;
 use relay_tables::{Graph, TableCounts, TableFault, Tables, names_are_counted};
 use relay_wire::{FindingLines, Plan};

@@ -1,61 +1,46 @@
-//! The plan of a job: from one message's envelope to the fewest sound transactions.
+//! What is asked of the planner: a job's plan and its text, what is returned to whom, the domains that it asks for, and what is wrong with
+//! its files and tables.
+//!
+//! relay_planning makes the plan. Here are the calls on values ([`plan_job`], [`returns`], [`domains`], [`check_texts`],
+//! [`check_aliases`]), a [`Planner`] that keeps tables for many envelopes, and the calls that read a job from a device and write what it
+//! answers on another: [`run`] by way of `reading`, `answering` and `writing`, and likewise [`run_returns`] and [`run_domains`]; [`gather`]
+//! writes the text of a job whose files lie apart.
 #![tactic(auto)]
 
-mod addresses;
 mod answering;
 pub mod asking;
 pub mod checking;
 mod collecting;
-pub mod crew;
 pub mod device;
-mod entries;
 mod enveloping;
-mod findings;
-mod gathering;
-mod job_view;
-mod listing;
 mod listing_domains;
-pub mod options;
-mod parsed;
 pub mod planner;
-pub mod planning;
-mod reach;
 pub mod reading;
 mod return_blocks;
 mod return_lines;
 pub mod returned;
 pub mod returning;
-mod routing;
 mod running;
 mod running_returns;
-mod source;
-mod sources;
-pub mod summary;
-mod table;
-mod texts;
 mod undelivered;
-pub mod workings;
 pub mod writing;
 
 pub use asking::domains;
 pub use checking::{check_aliases, check_texts, notes};
 pub use collecting::gather;
-pub use crew::Crew;
 pub use device::{Device, Failed, Feed, Sink};
-pub use findings::reason_for;
 pub use listing_domains::run_domains;
-pub use options::{Form, Limits, Options};
 pub use planner::Planner;
-pub use planning::plan_job;
 pub use reading::read_job;
 pub use relay_gather::{Paths, Source, SourceFault};
 pub use relay_job::{Envelope, Job, JobInclude, RunFault, Settings, parse_job, parse_tables};
+pub use relay_planning::{
+    Crew, Form, Limits, Options, Summary, Workings, own_names, plan_job, plan_with_workings,
+    reason_for,
+};
 pub use relay_rounds::{Gate, NoGate};
 pub use returned::Returned;
 pub use returning::returns;
-pub use routing::own_names;
 pub use running::run;
 pub use running_returns::run_returns;
-pub use summary::Summary;
-pub use workings::{Workings, plan_with_workings};
 pub use writing::write_text;

@@ -4,14 +4,15 @@ ghost use Rattle.std.specs.Io.KnownBytes.{Keeps};
 ghost use Rattle.relay_wire.specs.PlanText.{lines_of};
 ghost use Rattle.relay_job.specs.JobAnswers.{IsJobWithin};
 ghost use Rattle.aliasplan.specs.Domains.{AreAskedDomains, IsDomainText, WritesDomains, WritesDomainsFront};
-ghost use Rattle.aliasplan.specs.Outcomes.{IsRefused, IsWithin, Refuses, RefusesBytes};
+ghost use Rattle.relay_planning.specs.Limits.{IsRefused, IsWithin};
+ghost use Rattle.aliasplan.specs.Outcomes.{Refuses, RefusesBytes};
 
 use crate::asking::domains;
-use crate::crew::Crew;
 use crate::device::{Feed, Sink};
 use crate::reading::read_job;
 use crate::writing::write_text;
 use relay_job::{Job, RunFault, parse_job};
+use relay_planning::Crew;
 use relay_rounds::Gate;
 use relay_text::Text;
 use std::alloc::{AllocError, Global};

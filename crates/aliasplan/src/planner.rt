@@ -1,6 +1,6 @@
 //! Settings, files and tables, read once for many envelopes.
-use crate::sources::Sources;
 use relay_job::Job;
+use relay_planning::{Crew, JobView, Limits, Sources, parsed_is_readable};
 use relay_tables::TableCounts;
 use relay_text::{Seq, Text};
 use std::marker::Model;
@@ -43,17 +43,14 @@ ghost use Rattle.relay_tables.specs.Graphs.{nodes_of};
 ghost use Rattle.relay_job.specs.Envelopes.{with_envelope};
 ghost use Rattle.relay_job.specs.Tables.{without_envelope, AreTablesWithin};
 ghost use Rattle.aliasplan.specs.Checks.{AreLines};
-ghost use Rattle.aliasplan.specs.Delivery.{directory_of};
-ghost use Rattle.aliasplan.specs.Outcomes.{owned_count, AreLimits, AreTableCountsWithin, HasRefusedTables, IsRefused, IsWithin};
+ghost use Rattle.relay_planning.specs.Delivery.{directory_of};
+ghost use Rattle.relay_planning.specs.Limits.{owned_count, AreLimits, IsRefused, IsWithin};
+ghost use Rattle.aliasplan.specs.Outcomes.{AreTableCountsWithin, HasRefusedTables};
 ghost use Rattle.aliasplan.specs.Planners.{AreRead};
-ghost use Rattle.aliasplan.specs.Plans.{IsFewest, IsOwnPlanOf, IsSoundFor};
-ghost use Rattle.aliasplan.specs.Report.{texts, IsLineOf};
+ghost use Rattle.relay_planning.specs.Plans.{IsFewest, IsOwnPlanOf, IsSoundFor};
+ghost use Rattle.relay_planning.specs.Report.{texts, IsLineOf};
 
-use crate::crew::Crew;
 use crate::enveloping::plan_envelope;
-use crate::job_view::JobView;
-use crate::options::Limits;
-use relay_aliasfile::file_counts;
 use relay_job::{Envelope, RunFault, Settings, parsed_tables};
 use relay_rounds::Gate;
 use relay_tables::{TableFault, Tables};
@@ -94,8 +91,7 @@ impl TablesRead {
         ensures within { OnOk result (AreTableCountsWithin limits job.now) }
         ensures refused { IfErr result (HasRefusedTables limits job.now) }
     {
-        parsed_tables();
-        file_counts();
+        parsed_is_readable();
         let mut lines = FindingLines::new(alloc);
         let Ok(sources) = Sources::read(alloc, job, &mut lines) else {
             return Err(RunFault::Memory);

@@ -3,12 +3,11 @@ ghost use Rattle.std.specs.Prelude.{◌≡◌, ◌<◌, ◌≤◌, ◌^◌, ◌-
 ghost use Rattle.relay_text.specs.Bytes.{has_text};
 ghost use Rattle.relay_pairs.specs.declared.reached.Reached as numbers;
 ghost use Rattle.relay_pairs.specs.Pairs.{ArePairsFrom, HasMorePairsFrom};
-ghost use Rattle.aliasplan.specs.Findings.{Reports};
+ghost use Rattle.relay_planning.specs.Findings.{Reports};
 ghost use Rattle.aliasplan.specs.ReturnLines.{lines_at, AreCounted, AreFindings, HasTooMany, HavePairLine, IsLineBefore, IsLineFor, IsLineFrom, IsPairLine, IsRootLine, ReportsEach};
 
-use crate::entries::report_target;
-use crate::listing::Listing;
 use relay_pairs::{Reached, Search};
+use relay_planning::{Listing, report_target};
 use relay_returns::return_line;
 use relay_rounds::{Gate, ReachFault};
 use relay_tables::Graph;

@@ -1,30 +1,26 @@
 //! What is returned to which sender, beside the plan of a job.
 ghost use Rattle.std.specs.Prelude.{◌≡◌, ◌<◌, ◌≤◌, All, ℕ, length, IfOk, IfErr, OnOk, List};
 ghost use Rattle.relay_text.specs.Bytes.{has_text};
-ghost use Rattle.relay_routes.specs.declared.transport.Transport as names;
-ghost use Rattle.relay_job.specs.Settings.{limit_of};
 ghost use Rattle.relay_job.specs.JobAnswers.{IsJobWithin};
 ghost use Rattle.relay_pairs.specs.Pairs.{ArePairs};
-ghost use Rattle.aliasplan.specs.Delivery.{directory_of, routing_of, IsJobPart};
-ghost use Rattle.aliasplan.specs.Outcomes.{name_count, owned_count, IsWithin};
-ghost use Rattle.aliasplan.specs.Plans.{IsFewest, IsPlanOf, IsSoundFor};
-ghost use Rattle.aliasplan.specs.Reaching.{AreReachedNodes, AreReachedPairs};
+ghost use Rattle.relay_planning.specs.Delivery.{directory_of, routing_of, IsJobPart};
+ghost use Rattle.relay_planning.specs.Limits.{name_count, owned_count, IsWithin};
+ghost use Rattle.relay_planning.specs.Plans.{IsFewest, IsPlanOf, IsSoundFor};
+ghost use Rattle.relay_planning.specs.Reaching.{AreReachedNodes, AreReachedPairs};
 ghost use Rattle.aliasplan.specs.Returns.{AreReturnsOf, HasAtMostReturnPairs, IsReturnedWithin, IsUnreturned};
 ghost use Rattle.aliasplan.specs.ReturnLines.{AreFindings, AreLinesOf, AreReturnLines};
-ghost use Rattle.aliasplan.specs.Texts.{has_fault_line};
+ghost use Rattle.relay_planning.specs.Texts.{has_fault_line};
 
-use crate::crew::Crew;
-use crate::job_view::JobView;
-use crate::planning::{graph_of, nodes_of, pairs_of, plan_reached};
 use crate::return_blocks::blocks_of;
 use crate::return_lines::lines_by_sender;
 use crate::returned::Returned;
-use crate::sources::Sources;
 use crate::undelivered::undelivered_at;
-use relay_aliasfile::file_counts;
-use relay_job::{Job, RunFault, parsed_jobs};
+use relay_job::{Job, RunFault};
 use relay_ordering::in_order;
 use relay_pairs::{Reached, Search, pairs_by_root};
+use relay_planning::{
+    Crew, JobView, Sources, graph_of, nodes_of, pairs_of, parsed_is_readable, plan_reached,
+};
 use relay_returns::Return;
 use relay_rounds::{Gate, ReachFault};
 use relay_tables::Graph;
@@ -118,7 +114,6 @@ fn returned_pairs<G: Gate, R: Threads + Sync>(
     pairs: &[Reached],
     lines: FindingLines,
 ) -> Result<Returned, RunFault>
-    requires batches { (t : names.Transport) → 0 < limit_of job.now.settings t }
     requires tables { sources.now.tables ≡ directory_of job.now }
     requires router { sources.now.router ≡ routing_of job.now }
     requires graph { IsJobPart job.now graph.now }
@@ -151,7 +146,6 @@ fn returned_graph<G: Gate, R: Threads + Sync>(
     graph: &Graph,
     lines: FindingLines,
 ) -> Result<Returned, RunFault>
-    requires batches { (t : names.Transport) → 0 < limit_of job.now.settings t }
     requires tables { sources.now.tables ≡ directory_of job.now }
     requires router { sources.now.router ≡ routing_of job.now }
     requires graph { IsJobPart job.now graph.now }
@@ -178,7 +172,6 @@ fn returned_sources<G: Gate, R: Threads + Sync>(
     sources: &Sources,
     lines: FindingLines,
 ) -> Result<Returned, RunFault>
-    requires batches { (t : names.Transport) → 0 < limit_of job.now.settings t }
     requires tables { sources.now.tables ≡ directory_of job.now }
     requires router { sources.now.router ≡ routing_of job.now }
     requires lines { (q : List ℕ) → has_text lines q ≡ has_fault_line job.now q }
@@ -215,8 +208,7 @@ pub fn returns<G: Gate, R: Threads + Sync>(
     ensures within { OnOk result (IsReturnedWithin crew.now.limits job.now) }
     ensures refused { IfErr result (IsUnreturned crew.now.limits job.now) }
 {
-    parsed_jobs();
-    file_counts();
+    parsed_is_readable();
     let mut lines = FindingLines::new(crew.alloc);
     let Ok(sources) = Sources::read_by(crew, job, &mut lines) else {
         return Err(RunFault::Memory);

@@ -1,15 +1,15 @@
 //! A run from a job's bytes to its plan's.
 ghost use Rattle.std.specs.Prelude.{◌≡◌, ◌≢◌, false, true, Err, IfOk, IfErr, IfSome};
 ghost use Rattle.std.specs.Io.KnownBytes.{Keeps};
-ghost use Rattle.aliasplan.specs.Outcomes.{AreOptions, AreLimits, Plans, Refuses, WritesFront};
+ghost use Rattle.relay_planning.specs.Limits.{AreOptions, AreLimits};
+ghost use Rattle.aliasplan.specs.Outcomes.{Plans, Refuses, WritesFront};
 
 use crate::answering::{Answer, answer_input};
 use crate::device::{Feed, Sink};
-use crate::options::{Limits, Options};
 use crate::reading::read_job;
-use crate::summary::Summary;
 use crate::writing::write_text;
 use relay_job::RunFault;
+use relay_planning::{Limits, Options, Summary};
 use relay_rounds::Gate;
 use std::alloc::Global;
 use std::thread::Threads;

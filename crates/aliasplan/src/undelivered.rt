@@ -3,14 +3,11 @@ ghost use Rattle.std.specs.Prelude.{◌≡◌, ◌<◌, [], All, length, slice_g
 ghost use Rattle.relay_tables.specs.declared.node.Node as parts;
 ghost use Rattle.relay_tables.specs.Graphs.{child_numbers};
 ghost use Rattle.relay_destinations.specs.Ways.{Keeps};
-ghost use Rattle.aliasplan.specs.Delivery.{directory_of, routing_of, IsJobPart};
+ghost use Rattle.relay_planning.specs.Delivery.{directory_of, routing_of, IsJobPart};
 ghost use Rattle.aliasplan.specs.ReturnLines.{AreFindings, AreUndelivered, AreLinesOf};
 
-use crate::entries::report_node;
-use crate::gathering::recipient_of;
-use crate::job_view::JobView;
-use crate::sources::Sources;
 use relay_destinations::Destinations;
+use relay_planning::{JobView, Sources, recipient_of, report_node};
 use relay_tables::{Graph, Tables};
 use relay_text::{Seq, Text};
 use relay_wire::FindingLines;

@@ -7,7 +7,7 @@ use Rattle.relay_job.specs.declared.fault.RunFault.TheVariants.{Read, TooLong, B
 use Rattle.relay_job.specs.JobAnswers.{Fails}
 use Rattle.relay_job.specs.JobText.{bad_job, bad_setting, job_unless, sections_of}
 use Rattle.relay_job.specs.Tables.{tables_of, without_envelope}
-use Rattle.aliasplan.specs.declared.options.Limits.{Limits}
+use Rattle.relay_planning.specs.declared.options.Limits.{Limits}
 use Rattle.aliasplan_command.specs.declared.check_run.Scope.{Scope}
 use Rattle.aliasplan_command.specs.declared.check_run.Scope.TheVariants.{Texts, Aliases}
 use Rattle.aliasplan_command.specs.Checks.{IsCheckRefused, RefusesCheckBytes}

@@ -6,10 +6,10 @@ use Rattle.relay_job.specs.declared.fault.RunFault.{RunFault}
 use Rattle.relay_job.specs.declared.fault.RunFault.TheVariants.{Read, TooLong, BadJob, BadSetting, BadEnvelope, TooManyNames, TooManyOwners, TooManyPairs, Write, Memory}
 use Rattle.relay_job.specs.Tables.{tables_of}
 use Rattle.relay_wire.specs.CheckText.{check_text_of}
-use Rattle.aliasplan.specs.declared.options.Limits.{Limits}
+use Rattle.relay_planning.specs.declared.options.Limits.{Limits}
 use Rattle.aliasplan.specs.Checks.{to_each_alias, AreLines, notes_of}
-use Rattle.aliasplan.specs.Outcomes.{IsRefused, IsWithin}
-use Rattle.aliasplan.specs.Report.{texts, IsFindingLine, IsLineOf}
+use Rattle.relay_planning.specs.Limits.{IsRefused, IsWithin}
+use Rattle.relay_planning.specs.Report.{texts, IsFindingLine, IsLineOf}
 use Rattle.aliasplan_command.specs.declared.check_run.Scope.{Scope}
 use Rattle.aliasplan_command.specs.declared.check_run.Scope.TheVariants.{Texts, Aliases}
 

@@ -1,6 +1,6 @@
 -- What a command line asks for.
 use Rattle.std.specs.Prelude.{◌≡◌, ◌⊎◌, ⊤}
-use Rattle.aliasplan.specs.Outcomes.{AreOptions}
+use Rattle.relay_planning.specs.Limits.{AreOptions}
 use Rattle.relay_job.specs.declared.fault.RunFault.TheVariants.{Write, Memory}
 use Rattle.aliasplan_command.specs.declared.command_line.Request.{Request}
 use Rattle.aliasplan_command.specs.declared.command_line.Request.TheVariants.{Plan, Each, Domains, Check, Explain, Gather, Help, Unknown, Fault}

@@ -3,10 +3,11 @@ use Rattle.std.specs.Prelude.{◌≡◌, ℕ, ◌≤◌, List, length, Ok}
 use Rattle.relay_wire.specs.declared.plan.Plan.{Plan}
 use Rattle.relay_job.specs.declared.job.Job.{Job}
 use Rattle.relay_job.specs.JobText.{job_of}
-use Rattle.aliasplan.specs.declared.options.Limits.{Limits}
-use Rattle.aliasplan.specs.declared.summary.Summary.{Summary}
-use Rattle.aliasplan.specs.Outcomes.{summary_of, IsWithin}
-use Rattle.aliasplan.specs.Plans.{IsPlanOf}
+use Rattle.relay_planning.specs.declared.options.Limits.{Limits}
+use Rattle.relay_planning.specs.declared.summary.Summary.{Summary}
+use Rattle.relay_planning.specs.Limits.{IsWithin}
+use Rattle.relay_planning.specs.Written.{summary_of}
+use Rattle.relay_planning.specs.Plans.{IsPlanOf}
 
 -- bytes within the limit that are a job within the limits, whose plan has these numbers
 pub record IsSummary (limits : Limits) (input : List ℕ) (summary : Summary) : Type 0 where

@@ -1,6 +1,6 @@
 //! The answer to what a command line asks for.
 ghost use Rattle.std.specs.Prelude.{◌≡◌, ◌≢◌, true, false, IfOk, IfErr};
-ghost use Rattle.aliasplan.specs.Outcomes.{AreOptions};
+ghost use Rattle.relay_planning.specs.Limits.{AreOptions};
 ghost use Rattle.aliasplan_command.specs.Requests.{IsRequest};
 ghost use Rattle.aliasplan_command.specs.Statuses.{code_of, code_after, IsStatusOf};
 

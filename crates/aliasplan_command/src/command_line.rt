@@ -3,7 +3,7 @@ ghost use Rattle.std.specs.Prelude.{◌≡◌, ◌≢◌, ◌⊎◌, IfOk};
 ghost use Rattle.std.specs.IoError.{error_kind};
 ghost use Rattle.std.specs.declared.io.ErrorKind.TheVariants.{InvalidData};
 ghost use Rattle.clap.specs.Values.{kind_of};
-ghost use Rattle.aliasplan.specs.Outcomes.{AreOptions};
+ghost use Rattle.relay_planning.specs.Limits.{AreOptions};
 ghost use Rattle.aliasplan_command.specs.Requests.{IsRequest};
 
 use crate::check_run::Scope;

@@ -1,7 +1,7 @@
 //! Plans of many envelopes: by a text that has their tables too, or by the tables of a file.
 ghost use Rattle.std.specs.Prelude.{◌≡◌, ◌≢◌, true, false, IfOk};
 ghost use Rattle.relay_job.specs.Tables.{AreTablesWithin};
-ghost use Rattle.aliasplan.specs.Outcomes.{AreOptions};
+ghost use Rattle.relay_planning.specs.Limits.{AreOptions};
 ghost use Rattle.aliasplan_command.specs.Each.{is_clean};
 
 use crate::answering::refused;

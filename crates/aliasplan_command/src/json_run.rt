@@ -1,7 +1,8 @@
 //! A run whose answer is JSON.
 ghost use Rattle.std.specs.Prelude.{◌≡◌, ◌≢◌, ◌≤◌, false, true, length, Err, IfOk, IfErr, IfSome};
 ghost use Rattle.std.specs.Io.KnownBytes.{Keeps};
-ghost use Rattle.aliasplan.specs.Outcomes.{AreOptions, AreLimits, Refuses, RefusesBytes};
+ghost use Rattle.relay_planning.specs.Limits.{AreOptions, AreLimits};
+ghost use Rattle.aliasplan.specs.Outcomes.{Refuses, RefusesBytes};
 ghost use Rattle.aliasplan_command.specs.Summaries.{IsSummary};
 
 use crate::json_form::json_text;

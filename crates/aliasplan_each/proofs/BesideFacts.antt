@@ -16,8 +16,8 @@ use Rattle.relay_job.specs.declared.fault.RunFault.TheVariants.{Read, TooLong, B
 use Rattle.relay_job.specs.JobText.{JobLine, job_lines}
 use Rattle.relay_envelopes.specs.declared.counts.EnvelopeCounts.{EnvelopeCounts}
 use Rattle.relay_envelopes.specs.Sections.{Section, envelopes_of}
-use Rattle.aliasplan.specs.declared.options.Form.{Form}
-use Rattle.aliasplan.specs.declared.options.Limits.{Limits}
+use Rattle.relay_planning.specs.declared.options.Form.{Form}
+use Rattle.relay_planning.specs.declared.options.Limits.{Limits}
 use Rattle.aliasplan.specs.Transfers.{Fronts}
 use Rattle.aliasplan_each.specs.Blocks.{Block, texts_of, counts_of, with_outcome, no_counts, IsBlock, AreBlocks, Grows}
 use Rattle.aliasplan_each.specs.Feeding.{sections_from, Leads, LeadsKnown, RefusesLines, known_lines}

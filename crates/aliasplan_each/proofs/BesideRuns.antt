@@ -14,8 +14,8 @@ use Rattle.relay_job.specs.JobText.{job_unless, sections_of}
 use Rattle.relay_job.specs.Tables.{without_envelope, tables_fault, tables_of, AreTablesWithin}
 use Rattle.relay_envelopes.specs.declared.counts.EnvelopeCounts.{EnvelopeCounts}
 use Rattle.relay_envelopes.specs.EachText.{tables_text_of, done_line}
-use Rattle.aliasplan.specs.declared.options.Form.{Form}
-use Rattle.aliasplan.specs.declared.options.Limits.{Limits}
+use Rattle.relay_planning.specs.declared.options.Form.{Form}
+use Rattle.relay_planning.specs.declared.options.Limits.{Limits}
 use Rattle.aliasplan.specs.Outcomes.{AreTableCountsWithin, HasRefusedTables}
 use Rattle.aliasplan.specs.Transfers.{Fronts}
 use Rattle.aliasplan_each.specs.Blocks.{texts_of}

@@ -21,9 +21,9 @@ use Rattle.relay_envelopes.specs.declared.section.EnvelopeSection.{EnvelopeSecti
 use Rattle.relay_envelopes.specs.Sections.{Section}
 use Rattle.relay_envelopes.specs.Envelopes.{section_in}
 use Rattle.relay_envelopes.specs.EachText.{envelope_line, refusal_line, with_planned, with_refused}
-use Rattle.aliasplan.specs.declared.options.Form.{Form}
-use Rattle.aliasplan.specs.declared.options.Limits.{Limits}
-use Rattle.aliasplan.specs.Outcomes.{text_in}
+use Rattle.relay_planning.specs.declared.options.Form.{Form}
+use Rattle.relay_planning.specs.declared.options.Limits.{Limits}
+use Rattle.relay_planning.specs.Written.{text_in}
 use Rattle.aliasplan_each.specs.Blocks.{Block, refusal_of, IsOwnPlan, IsRefusedFor, IsSectionFault, IsBlock, Grows, GrowsByAll, with_outcome, texts_of}
 use Rattle.aliasplan_each.specs.Blocks.Outcome.{planned, refused}
 

@@ -7,11 +7,11 @@ use Rattle.relay_job.specs.declared.fault.RunFault.TheVariants.{Read, TooLong, B
 use Rattle.relay_job.specs.JobText.{job_lines}
 use Rattle.relay_envelopes.specs.Sections.{Section, envelopes_of, bad_envelopes}
 use Rattle.relay_envelopes.specs.EachText.{tables_text_of}
-use Rattle.aliasplan.specs.declared.options.Form.{Form}
-use Rattle.aliasplan.specs.declared.options.Limits.{Limits}
+use Rattle.relay_planning.specs.declared.options.Form.{Form}
+use Rattle.relay_planning.specs.declared.options.Limits.{Limits}
 use Rattle.aliasplan.specs.Checks.{AreLines}
 use Rattle.aliasplan.specs.Outcomes.{AreTableCountsWithin, HasRefusedTables}
-use Rattle.aliasplan.specs.Report.{texts, IsLineOf}
+use Rattle.relay_planning.specs.Report.{texts, IsLineOf}
 use Rattle.aliasplan_each.specs.declared.summary.EachSummary.{EachSummary}
 use Rattle.aliasplan_each.specs.Blocks.{Block, texts_of, AreBlocks}
 use Rattle.aliasplan_each.specs.Runs.{IsEachAnswer}

@@ -8,10 +8,10 @@ use Rattle.relay_job.specs.JobText.{job_lines}
 use Rattle.relay_envelopes.specs.declared.counts.EnvelopeCounts.{EnvelopeCounts}
 use Rattle.relay_envelopes.specs.Sections.{Section, bad_envelopes}
 use Rattle.relay_envelopes.specs.EachText.{tables_text_of}
-use Rattle.aliasplan.specs.declared.options.Form.{Form}
-use Rattle.aliasplan.specs.declared.options.Limits.{Limits}
+use Rattle.relay_planning.specs.declared.options.Form.{Form}
+use Rattle.relay_planning.specs.declared.options.Limits.{Limits}
 use Rattle.aliasplan.specs.Checks.{AreLines}
-use Rattle.aliasplan.specs.Report.{texts, IsLineOf}
+use Rattle.relay_planning.specs.Report.{texts, IsLineOf}
 use Rattle.aliasplan_each.specs.Blocks.{Block, texts_of, counts_of, with_outcome, IsBlock, AreBlocks}
 use Rattle.aliasplan_each.specs.Beside.{sections_in, HaveCome}
 

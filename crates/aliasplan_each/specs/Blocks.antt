@@ -13,10 +13,11 @@ use Rattle.relay_envelopes.specs.declared.refusal.Refusal.TheVariants as refusal
 use Rattle.relay_envelopes.specs.declared.counts.EnvelopeCounts.{EnvelopeCounts}
 use Rattle.relay_envelopes.specs.Sections.{Section}
 use Rattle.relay_envelopes.specs.EachText.{envelope_line, refusal_line, with_planned, with_refused}
-use Rattle.aliasplan.specs.declared.options.Form.{Form}
-use Rattle.aliasplan.specs.declared.options.Limits.{Limits}
-use Rattle.aliasplan.specs.Outcomes.{text_in, IsWithin, IsRefused}
-use Rattle.aliasplan.specs.Plans.{IsFewest, IsOwnPlanOf}
+use Rattle.relay_planning.specs.declared.options.Form.{Form}
+use Rattle.relay_planning.specs.declared.options.Limits.{Limits}
+use Rattle.relay_planning.specs.Limits.{IsWithin, IsRefused}
+use Rattle.relay_planning.specs.Written.{text_in}
+use Rattle.relay_planning.specs.Plans.{IsFewest, IsOwnPlanOf}
 
 -- planned, with so many findings, or refused
 pub data Outcome : Type 0 where

@@ -55,7 +55,7 @@ impl Answers {
     ghost use Rattle.relay_wire.specs.PlanText.{line};
     ghost use Rattle.relay_envelopes.specs.EachText.{refusal_line, with_planned, with_refused};
     ghost use Rattle.relay_envelopes.specs.Envelopes.{section_in};
-    ghost use Rattle.aliasplan.specs.Outcomes.{text_in};
+    ghost use Rattle.relay_planning.specs.Written.{text_in};
     ghost use Rattle.aliasplan_each.specs.Blocks.{Grows, no_counts};
 
     /// Nothing yet, without taking memory.

@@ -15,8 +15,8 @@ use Rattle.relay_trails.specs.Chains.{AreBestBy, IsBestAnswer, senders_of}
 use Rattle.relay_wire.specs.declared.plan.Plan.{Plan}
 use Rattle.relay_job.specs.declared.job.Job.{Job}
 use Rattle.relay_explain.specs.declared.answer.Answer.{Answer}
-use Rattle.aliasplan.specs.Delivery.{directory_of, IsReachedPair}
-use Rattle.aliasplan.specs.Reaching.{AreReachedPairs}
+use Rattle.relay_planning.specs.Delivery.{directory_of, IsReachedPair}
+use Rattle.relay_planning.specs.Reaching.{AreReachedPairs}
 use Rattle.aliasplan_explain.specs.Explanations.{AreAnswersFor, IsAnswerFor}
 
 contained : {X : Type 0} (xs : List X) (k : ℕ) (x : X) → slice_get xs k ≡ Some x → Contains xs x

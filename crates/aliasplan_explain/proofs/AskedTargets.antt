@@ -10,7 +10,7 @@ use Rattle.relay_tables.specs.Targets.{at_origin, is_local_address}
 use Rattle.relay_job.specs.declared.job.Job.{Job}
 use Rattle.relay_explain.specs.declared.asked.Asked.{Asked}
 use Rattle.relay_explain.specs.declared.asked.Asked.TheVariants as asked
-use Rattle.aliasplan.specs.Delivery.{directory_of}
+use Rattle.relay_planning.specs.Delivery.{directory_of}
 use Rattle.aliasplan_explain.specs.Targets.{target_at, delivered, IsAskedFor}
 use Rattle.aliasplan_explain.proofs.TargetFacts.{stands_has_target}
 

@@ -18,8 +18,8 @@ use Rattle.relay_tables.proofs.LocalParts.{is_local_part-address, is_local_part-
 use Rattle.relay_tables.proofs.Turning.{map_after}
 use Rattle.relay_pairs.specs.declared.reached.Reached.{Reached}
 use Rattle.relay_job.specs.declared.job.Job.{Job}
-use Rattle.aliasplan.specs.Delivery.{IsJobGraph, IsReachedNode}
-use Rattle.aliasplan.specs.Reaching.{AreReachedPairs}
+use Rattle.relay_planning.specs.Delivery.{IsJobGraph, IsReachedNode}
+use Rattle.relay_planning.specs.Reaching.{AreReachedPairs}
 use Rattle.aliasplan_explain.proofs.UnreachedFacts.{one_place, contained_get}
 
 -- what is folded stays as it is

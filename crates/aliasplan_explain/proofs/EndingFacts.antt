@@ -17,8 +17,8 @@ use Rattle.relay_wire.specs.declared.plan.Planned.{Planned}
 use Rattle.relay_wire.specs.declared.plan.Plan.{Plan}
 use Rattle.relay_job.specs.declared.job.Job.{Job}
 use Rattle.relay_delivery.specs.Groups.{DeliveryKey}
-use Rattle.aliasplan.specs.Delivery.{routing_of, final_address, final_route, IsReachedPair}
-use Rattle.aliasplan.specs.Plans.{IsSoundFor}
+use Rattle.relay_planning.specs.Delivery.{routing_of, final_address, final_route, IsReachedPair}
+use Rattle.relay_planning.specs.Plans.{IsSoundFor}
 use Rattle.aliasplan_explain.specs.declared.ending.Ending.{Ending}
 use Rattle.aliasplan_explain.specs.Endings.{HasAt, AreIndices, IsEnding}
 use Rattle.aliasplan_explain.specs.Explanations.{IsIn}

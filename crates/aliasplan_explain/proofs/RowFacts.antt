@@ -25,7 +25,7 @@ use Rattle.relay_job.specs.declared.job.JobInclude.{JobInclude}
 use Rattle.relay_explain.specs.declared.entry.Entry.{Entry}
 use Rattle.relay_explain.specs.declared.entry.Entry.TheVariants as entries
 use Rattle.relay_explain.specs.declared.listed.Listed.{Listed}
-use Rattle.aliasplan.specs.Delivery.{directory_of, entry_of_include}
+use Rattle.relay_planning.specs.Delivery.{directory_of, entry_of_include}
 use Rattle.aliasplan_explain.specs.Targets.{entry_at}
 use Rattle.aliasplan_explain.specs.Rows.{IsPartAt, line_at, list_on, entry_row, entry_row_if, include_row_if, listed_in, listed_by, row_of}
 

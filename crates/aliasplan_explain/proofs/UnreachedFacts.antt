@@ -25,7 +25,7 @@ use Rattle.relay_explain.specs.declared.entry.Entry.{Entry}
 use Rattle.relay_explain.specs.declared.entry.Entry.TheVariants as entries
 use Rattle.relay_explain.specs.declared.listed.Listed.{Listed}
 use Rattle.relay_explain.specs.declared.target.Target.TheVariants as targets
-use Rattle.aliasplan.specs.Delivery.{directory_of, IsJobGraph}
+use Rattle.relay_planning.specs.Delivery.{directory_of, IsJobGraph}
 use Rattle.aliasplan_explain.specs.Rows.{listed_by, listed_in, row_of}
 use Rattle.aliasplan_explain.specs.Targets.{entry_at, target_at}
 use Rattle.aliasplan_explain.specs.Unreached.{listed_for, listed_of, numbered_for, unreached_of}

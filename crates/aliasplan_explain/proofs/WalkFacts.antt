@@ -15,7 +15,7 @@ use Rattle.relay_job.specs.declared.job.Job.{Job}
 use Rattle.relay_explain.specs.declared.answer.GivenBy.{GivenBy}
 use Rattle.relay_explain.specs.declared.answer.GivenBy.TheVariants as given
 use Rattle.relay_explain.specs.declared.step.Step.{Step}
-use Rattle.aliasplan.specs.Delivery.{directory_of, IsJobGraph}
+use Rattle.relay_planning.specs.Delivery.{directory_of, IsJobGraph}
 use Rattle.aliasplan_explain.specs.ChainSteps.{AreStepsFrom, IsGivenPast, IsStepTo, given_past}
 
 pub some_get : {X : Type 0} (xs : List X) (i : ℕ) → i < length xs → (x : X) × (slice_get xs i ≡ Some x)

@@ -14,7 +14,7 @@ use Rattle.relay_explain.specs.declared.answer.GivenBy.TheVariants as given
 use Rattle.relay_explain.specs.declared.listed.Listed.{Listed}
 use Rattle.relay_explain.specs.declared.step.Mention.TheVariants as mentions
 use Rattle.relay_explain.specs.declared.step.Step.{Step}
-use Rattle.aliasplan.specs.Delivery.{directory_of}
+use Rattle.relay_planning.specs.Delivery.{directory_of}
 use Rattle.aliasplan_explain.specs.Targets.{target_at}
 use Rattle.aliasplan_explain.specs.Rows.{listed_by}
 

@@ -19,7 +19,7 @@ use Rattle.relay_explain.specs.declared.record.Fate.TheVariants as fates
 use Rattle.relay_explain.specs.declared.record.Record.{Record}
 use Rattle.relay_explain.specs.declared.rule.Rule.{Rule}
 use Rattle.relay_explain.specs.declared.rule.Rule.TheVariants as rules
-use Rattle.aliasplan.specs.Delivery.{routing_of}
+use Rattle.relay_planning.specs.Delivery.{routing_of}
 
 abbrev pub ok_of : Result Destination Unrouted → Option Destination
 ok_of (Ok to) = Some to

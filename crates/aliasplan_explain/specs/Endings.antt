@@ -7,8 +7,8 @@ use Rattle.relay_tables.specs.declared.node.Node.{Node}
 use Rattle.relay_wire.specs.declared.plan.Planned.{Planned}
 use Rattle.relay_wire.specs.declared.plan.Plan.{Plan}
 use Rattle.relay_job.specs.declared.job.Job.{Job}
-use Rattle.aliasplan.specs.Delivery.{final_address, final_route}
-use Rattle.aliasplan.specs.Report.{reason_of}
+use Rattle.relay_planning.specs.Delivery.{final_address, final_route}
+use Rattle.relay_planning.specs.Report.{reason_of}
 use Rattle.aliasplan_explain.specs.declared.ending.Ending.{Ending}
 use Rattle.aliasplan_explain.specs.declared.ending.Ending.TheVariants.{Nothing, Unrouted, Transactions}
 

@@ -17,8 +17,8 @@ use Rattle.relay_explain.specs.declared.answer.Outcome.{Outcome}
 use Rattle.relay_explain.specs.declared.answer.Outcome.TheVariants.{Transaction, Unrouted}
 use Rattle.relay_explain.specs.declared.asked.Asked.{Asked}
 use Rattle.relay_explain.specs.declared.explanation.Explanation.{Explanation}
-use Rattle.aliasplan.specs.Delivery.{directory_of, final_address, final_route, IsReachedPair}
-use Rattle.aliasplan.specs.Report.{reason_of}
+use Rattle.relay_planning.specs.Delivery.{directory_of, final_address, final_route, IsReachedPair}
+use Rattle.relay_planning.specs.Report.{reason_of}
 use Rattle.aliasplan_explain.specs.Targets.{target_at, stands_for, IsAskedFor}
 use Rattle.aliasplan_explain.specs.ChainSteps.{AreStepsOf}
 use Rattle.aliasplan_explain.specs.Decisions.{decision_of}

@@ -3,10 +3,10 @@ use Rattle.std.specs.Prelude.{◌≡◌, IsTrue}
 use Rattle.relay_text.specs.Addresses.{is_origin}
 use Rattle.relay_pairs.specs.Pairs.{ArePairs}
 use Rattle.relay_job.specs.declared.job.Job.{Job}
-use Rattle.aliasplan.specs.declared.workings.Workings.{Workings}
-use Rattle.aliasplan.specs.Delivery.{directory_of, routing_of, IsJobGraph}
-use Rattle.aliasplan.specs.Plans.{IsPlanOf, IsSoundFor}
-use Rattle.aliasplan.specs.Reaching.{AreReachedPairs}
+use Rattle.relay_planning.specs.declared.workings.Workings.{Workings}
+use Rattle.relay_planning.specs.Delivery.{directory_of, routing_of, IsJobGraph}
+use Rattle.relay_planning.specs.Plans.{IsPlanOf, IsSoundFor}
+use Rattle.relay_planning.specs.Reaching.{AreReachedPairs}
 
 -- a job's plan and what it is made from
 pub record AreWorkingsOf (job : Job) (w : Workings) : Type 0 where

@@ -12,7 +12,7 @@ use Rattle.relay_job.specs.declared.job.Job.{Job}
 use Rattle.relay_job.specs.declared.job.JobInclude.{JobInclude}
 use Rattle.relay_explain.specs.declared.entry.Entry.{Entry}
 use Rattle.relay_explain.specs.declared.listed.Listed.{Listed}
-use Rattle.aliasplan.specs.Delivery.{directory_of}
+use Rattle.relay_planning.specs.Delivery.{directory_of}
 use Rattle.aliasplan_explain.specs.Targets.{entry_at}
 
 -- the logical line of a number, and the list behind the name on it

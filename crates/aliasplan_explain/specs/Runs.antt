@@ -8,9 +8,9 @@ use Rattle.relay_job.specs.RecipientLines.{recipient_lines_of}
 use Rattle.relay_explain.specs.declared.asked.Asked.{Asked}
 use Rattle.relay_explain.specs.declared.explanation.Explanation.{Explanation}
 use Rattle.relay_explain.specs.ExplanationText.{explanation_text_of}
-use Rattle.aliasplan.specs.declared.options.Limits.{Limits}
-use Rattle.aliasplan.specs.Outcomes.{IsWithin}
-use Rattle.aliasplan.specs.Plans.{IsPlanOf}
+use Rattle.relay_planning.specs.declared.options.Limits.{Limits}
+use Rattle.relay_planning.specs.Limits.{IsWithin}
+use Rattle.relay_planning.specs.Plans.{IsPlanOf}
 use Rattle.aliasplan_explain.specs.Explanations.{IsExplanationOf, is_in_plan}
 
 -- the text of the explanation, and whether the address is in the plan

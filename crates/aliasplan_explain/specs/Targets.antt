@@ -15,7 +15,7 @@ use Rattle.relay_explain.specs.declared.entry.Entry.{Entry}
 use Rattle.relay_explain.specs.declared.entry.Entry.TheVariants as entries
 use Rattle.relay_explain.specs.declared.target.Target.{Target}
 use Rattle.relay_explain.specs.declared.target.Target.TheVariants as targets
-use Rattle.aliasplan.specs.Delivery.{directory_of, IsReachedNode}
+use Rattle.relay_planning.specs.Delivery.{directory_of, IsReachedNode}
 
 module _ (d : Directory) where
   -- an entry by its name, or an include file by its path, if there is such a one

@@ -5,7 +5,7 @@ use Rattle.relay_tables.specs.Targets.{targets_of}
 use Rattle.relay_tables.specs.Graphs.{entry_nodes, same_node}
 use Rattle.relay_job.specs.declared.job.Job.{Job}
 use Rattle.relay_explain.specs.declared.listed.Listed.{Listed}
-use Rattle.aliasplan.specs.Delivery.{directory_of}
+use Rattle.relay_planning.specs.Delivery.{directory_of}
 use Rattle.aliasplan_explain.specs.Rows.{listed_by}
 
 -- of some items, those whose target is the node

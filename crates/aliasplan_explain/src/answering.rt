@@ -3,7 +3,7 @@ ghost use Rattle.std.specs.Prelude.{◌≡◌, map, All, Some, slice_get, IfOk, 
 ghost use Rattle.relay_trails.specs.Trails.{HasNodes};
 ghost use Rattle.relay_trails.specs.Chains.{senders_of, AreBestBy, IsBestAnswer};
 ghost use Rattle.relay_explain.specs.declared.answer.Answer as told;
-ghost use Rattle.aliasplan.specs.Delivery.{directory_of, IsReachedPair};
+ghost use Rattle.relay_planning.specs.Delivery.{directory_of, IsReachedPair};
 ghost use Rattle.aliasplan_explain.specs.Endings.{IsEnding};
 ghost use Rattle.aliasplan_explain.specs.Explanations.{AreAnswersFor, IsAnswerFor};
 ghost use Rattle.aliasplan_explain.specs.Grounds.{AreWorkingsOf};

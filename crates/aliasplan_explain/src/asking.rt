@@ -2,7 +2,7 @@
 ghost use Rattle.std.specs.Prelude.{◌≡◌, None, true, false, IsTrue, IfOk, IfSome};
 ghost use Rattle.relay_tables.specs.Parts.{is_local_part};
 ghost use Rattle.relay_tables.specs.Targets.{name_target};
-ghost use Rattle.aliasplan.specs.Delivery.{directory_of, IsReachedNode};
+ghost use Rattle.relay_planning.specs.Delivery.{directory_of, IsReachedNode};
 ghost use Rattle.aliasplan_explain.specs.Grounds.{AreWorkingsOf};
 ghost use Rattle.aliasplan_explain.specs.Targets.{delivered, stands_for, IsAskedFor};
 

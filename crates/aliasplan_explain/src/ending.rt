@@ -18,7 +18,7 @@ ghost use Rattle.relay_routes.specs.declared.route.Route as routes;
 ghost use Rattle.relay_routes.specs.Routes.{Answers};
 ghost use Rattle.relay_wire.specs.declared.plan.Planned as planned;
 ghost use Rattle.relay_routes.specs.declared.unrouted.Unrouted as causes;
-ghost use Rattle.aliasplan.specs.Delivery.{final_address, final_route, IsReachedPair};
+ghost use Rattle.relay_planning.specs.Delivery.{final_address, final_route, IsReachedPair};
 ghost use Rattle.aliasplan_explain.specs.Endings.{AreIndices, IsEnding};
 ghost use Rattle.aliasplan_explain.specs.Explanations.{IsOutcome};
 ghost use Rattle.aliasplan_explain.specs.Grounds.{AreWorkingsOf};

@@ -2,8 +2,8 @@
 ghost use Rattle.std.specs.Prelude.{◌≡◌, [], length, IfOk, IfErr, OnOk};
 ghost use Rattle.relay_wire.specs.declared.plan.Plan as plans;
 ghost use Rattle.relay_job.specs.JobAnswers.{IsJobWithin};
-ghost use Rattle.aliasplan.specs.Outcomes.{IsWithin, IsRefused};
-ghost use Rattle.aliasplan.specs.Plans.{IsPlanOf};
+ghost use Rattle.relay_planning.specs.Limits.{IsWithin, IsRefused};
+ghost use Rattle.relay_planning.specs.Plans.{IsPlanOf};
 ghost use Rattle.aliasplan_explain.specs.Explanations.{AreAnswersFor, IsExplanationOf};
 ghost use Rattle.aliasplan_explain.specs.Grounds.{AreWorkingsOf};
 ghost use Rattle.aliasplan_explain.specs.Targets.{IsAskedFor};

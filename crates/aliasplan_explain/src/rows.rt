@@ -2,7 +2,7 @@
 ghost use Rattle.std.specs.Prelude.{◌≡◌, map, slice_get, IfOk};
 ghost use Rattle.relay_text.specs.Lines.{logical_lines_of};
 ghost use Rattle.relay_aliasfile.specs.ItemPlaces.{place_value};
-ghost use Rattle.aliasplan.specs.Delivery.{directory_of};
+ghost use Rattle.relay_planning.specs.Delivery.{directory_of};
 ghost use Rattle.aliasplan_explain.specs.Grounds.{AreWorkingsOf};
 ghost use Rattle.aliasplan_explain.specs.Rows.{IsPartAt, entry_row_if, include_row_if, listed_by, listed_in, row_of};
 

@@ -5,8 +5,9 @@ ghost use Rattle.relay_wire.specs.declared.plan.Plan as plans;
 ghost use Rattle.relay_job.specs.JobAnswers.{IsJobWithin};
 ghost use Rattle.relay_explain.specs.declared.explanation.Explanation as answers;
 ghost use Rattle.relay_explain.specs.ExplanationText.{explanation_text_of};
-ghost use Rattle.aliasplan.specs.Outcomes.{IsRefused, IsWithin, Refuses, RefusesBytes};
-ghost use Rattle.aliasplan.specs.Plans.{IsPlanOf};
+ghost use Rattle.relay_planning.specs.Limits.{IsRefused, IsWithin};
+ghost use Rattle.aliasplan.specs.Outcomes.{Refuses, RefusesBytes};
+ghost use Rattle.relay_planning.specs.Plans.{IsPlanOf};
 ghost use Rattle.aliasplan_explain.specs.Explanations.{IsExplanationOf, is_in_plan};
 ghost use Rattle.aliasplan_explain.specs.Runs.{Explains, IsExplained, WritesExplanationFront};
 

@@ -3,7 +3,7 @@ ghost use Rattle.std.specs.Prelude.{◌≡◌, ◌<◌, ◌++◌, ◌∷◌, [],
 ghost use Rattle.relay_aliasfile.specs.ItemPlaces.{place_value};
 ghost use Rattle.relay_tables.specs.declared.node.Node as nodes;
 ghost use Rattle.relay_tables.specs.Graphs.{child_numbers, entry_nodes, nodes_at};
-ghost use Rattle.aliasplan.specs.Delivery.{directory_of};
+ghost use Rattle.relay_planning.specs.Delivery.{directory_of};
 ghost use Rattle.aliasplan_explain.specs.Grounds.{AreWorkingsOf};
 ghost use Rattle.aliasplan_explain.specs.Rows.{listed_in};
 ghost use Rattle.relay_explain.specs.declared.entry.Entry as entries;

@@ -14,7 +14,7 @@ ghost use Rattle.relay_tables.specs.Graphs.{child_numbers};
 ghost use Rattle.relay_tables.specs.Targets.{recipient_target};
 ghost use Rattle.relay_text.specs.AddressParts.{AddressParts};
 ghost use Rattle.relay_trails.specs.Trails.{HasNodes, trail_of};
-ghost use Rattle.aliasplan.specs.Delivery.{directory_of};
+ghost use Rattle.relay_planning.specs.Delivery.{directory_of};
 ghost use Rattle.relay_explain.specs.declared.step.Mention.TheVariants as mentions;
 ghost use Rattle.relay_explain.specs.declared.step.Step as walked;
 ghost use Rattle.aliasplan_explain.specs.Grounds.{AreWorkingsOf};

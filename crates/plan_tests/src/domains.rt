@@ -1,7 +1,8 @@
 //! The domains that jobs ask for, through `run_domains`, by example.
 ghost use Rattle.std.specs.Prelude.{IfOk, IfErr};
 ghost use Rattle.aliasplan.specs.Domains.{IsDomainText};
-ghost use Rattle.aliasplan.specs.Outcomes.{AreOptions, AreLimits, Refuses};
+ghost use Rattle.relay_planning.specs.Limits.{AreOptions, AreLimits};
+ghost use Rattle.aliasplan.specs.Outcomes.{Refuses};
 
 use crate::devices::Paper;
 use crate::limits::LIMITS;

@@ -1,5 +1,5 @@
 //! The limits of the tests, and what limits change of a run.
-ghost use Rattle.aliasplan.specs.Outcomes.{AreLimits};
+ghost use Rattle.relay_planning.specs.Limits.{AreLimits};
 
 use crate::plans::{job_of, planned};
 use aliasplan::{Limits, RunFault};

@@ -1,5 +1,5 @@
 //! Jobs through `run`, by example.
-ghost use Rattle.aliasplan.specs.Outcomes.{AreLimits};
+ghost use Rattle.relay_planning.specs.Limits.{AreLimits};
 
 use crate::devices::{Endless, Full, Paper, Pieces};
 use crate::limits::{LIMITS, LISTS, PLAN};

@@ -1,6 +1,7 @@
 //! Whole calls in memory, whose contracts leave no premise about readers, writers and files, by example.
 ghost use Rattle.std.specs.Prelude.{◌≡◌, ◌≤◌, ◌⊎◌, false, [], Ok, Err, IfOk, IfErr};
-ghost use Rattle.aliasplan.specs.Outcomes.{AreOptions, AreLimits, IsAnswer, Refuses};
+ghost use Rattle.relay_planning.specs.Limits.{AreOptions, AreLimits};
+ghost use Rattle.aliasplan.specs.Outcomes.{IsAnswer, Refuses};
 ghost use Rattle.relay_gather.specs.Gathering.{IsGathered};
 ghost use Rattle.plan_tests.specs.FilesInMemory.{answer_among};
 

@@ -1,5 +1,5 @@
 use Rattle.aliasplan.specs.Domains.{AsksFor}
-use Rattle.aliasplan.proofs.EntryFacts.{one_more, at_start, at_end}
+use Rattle.relay_planning.proofs.EntryFacts.{one_more, at_start, at_end}
 use Rattle.aliasplan.proofs.asking.domains_of_nodes.Goals as goal
 
 pub loop-node-init : goal.loop-node-init

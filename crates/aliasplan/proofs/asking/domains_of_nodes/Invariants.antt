@@ -1,6 +1,6 @@
 use Rattle.std.proofs.Common.{[], take}
-use Rattle.aliasplan.specs.Findings.{Reports}
-use Rattle.aliasplan.specs.Entries.{HaveLine}
+use Rattle.relay_planning.specs.Findings.{Reports}
+use Rattle.relay_planning.specs.Entries.{HaveLine}
 use Rattle.aliasplan.specs.Domains.{AsksFor}
 use Rattle.aliasplan.proofs.asking.domains_of_nodes.Given as goal
 

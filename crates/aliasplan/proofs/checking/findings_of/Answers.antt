@@ -1,13 +1,10 @@
 use Rattle.std.proofs.Common.{subst}
 use Rattle.relay_job.specs.declared.job.Job.{Job}
 use Rattle.aliasplan.specs.Checks.{AreLines}
-use Rattle.aliasplan.specs.Outcomes.{IsRefused}
-use Rattle.aliasplan.specs.Report.{IsFindingLine}
+use Rattle.relay_planning.specs.Limits.{IsRefused}
+use Rattle.relay_planning.specs.Report.{IsFindingLine}
 use Rattle.aliasplan.proofs.CheckFacts.{findings_are}
 use Rattle.aliasplan.proofs.checking.findings_of.Goals as goal
-
-pub plan_sources-requires-clause-batches : goal.plan_sources-requires-clause-batches
-plan_sources-requires-clause-batches g c = λ l m t. rw c.of.ensures (c.requires.batches t)
 
 pub plan_sources-requires-clause-lines : goal.plan_sources-requires-clause-lines
 plan_sources-requires-clause-lines g c = λ l m q. rw c.of.ensures (c.requires.lines q)

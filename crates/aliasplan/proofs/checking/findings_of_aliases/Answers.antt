@@ -1,7 +1,7 @@
 use Rattle.std.specs.Prelude.{IfErr}
 use Rattle.std.proofs.Common.{subst}
 use Rattle.relay_job.specs.declared.job.Job.{Job}
-use Rattle.aliasplan.specs.Outcomes.{IsRefused}
+use Rattle.relay_planning.specs.Limits.{IsRefused}
 use Rattle.aliasplan.proofs.checking.findings_of_aliases.Goals as goal
 
 pub returns-in-Ok-clause-refused : goal.returns-in-Ok-clause-refused

@@ -1,4 +1,4 @@
-use Rattle.aliasplan.proofs.PlanFacts.{own_plan}
+use Rattle.relay_planning.proofs.PlanFacts.{own_plan}
 use Rattle.aliasplan.proofs.enveloping.plan_envelope.Goals as goal
 
 pub returns-in-Ok-clause-plan : goal.returns-in-Ok-clause-plan

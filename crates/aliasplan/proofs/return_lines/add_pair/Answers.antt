@@ -4,7 +4,7 @@ use Rattle.std.proofs.lemmas.List.{get_or_default}
 use Rattle.std.proofs.lemmas.Result.{on_ok_weaker}
 use Rattle.relay_text.specs.Bytes.{has_text}
 use Rattle.relay_tables.specs.Graphs.{sender_number_after}
-use Rattle.aliasplan.specs.Findings.{Reports}
+use Rattle.relay_planning.specs.Findings.{Reports}
 use Rattle.aliasplan.specs.ReturnLines.{AreFindings, IsLineFor, IsPairLine, ReportsEach, lines_at}
 use Rattle.aliasplan.proofs.ReturnSteps.{pair_lines}
 use Rattle.aliasplan.proofs.return_lines.add_pair.Goals as goal

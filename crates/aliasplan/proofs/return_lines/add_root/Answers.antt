@@ -3,8 +3,8 @@ use Rattle.std.specs.Prelude.{◌↔◌, IsTrue}
 use Rattle.std.proofs.lemmas.Result.{on_ok_weaker}
 use Rattle.relay_text.specs.Bytes.{has_text}
 use Rattle.relay_wire.specs.declared.finding.Place.TheVariants as places
-use Rattle.aliasplan.specs.Entries.{IsTargetLine}
-use Rattle.aliasplan.specs.Findings.{Reports}
+use Rattle.relay_planning.specs.Entries.{IsTargetLine}
+use Rattle.relay_planning.specs.Findings.{Reports}
 use Rattle.aliasplan.specs.ReturnLines.{AreFindings, IsLineFor}
 use Rattle.aliasplan.proofs.ReturnSteps.{either_same, reported_first, root_findings, root_lines}
 use Rattle.aliasplan.proofs.return_lines.add_root.Goals as goal

@@ -3,7 +3,7 @@ use Rattle.std.specs.Prelude.{◌↔◌, IsTrue}
 use Rattle.std.proofs.lemmas.Option.{slice_get_within}
 use Rattle.relay_text.specs.AddressParts.{AddressParts}
 use Rattle.relay_text.specs.Bytes.{has_text}
-use Rattle.aliasplan.specs.Delivery.{directory_of}
+use Rattle.relay_planning.specs.Delivery.{directory_of}
 use Rattle.aliasplan.specs.ReturnLines.{AreCounted, IsLineBefore, lines_at}
 use Rattle.aliasplan.proofs.ReturnFacts.{few_pairs, lines_are, many_pairs, same_length}
 use Rattle.aliasplan.proofs.returning.return_lines.Goals as goal

@@ -1,4 +1,4 @@
-use Rattle.aliasplan.proofs.PlanFacts.{whole_plan}
+use Rattle.relay_planning.proofs.PlanFacts.{whole_plan}
 use Rattle.aliasplan.proofs.returning.returned_pairs.Goals as goal
 
 pub returns-in-Ok-returns_of-clause-plan : goal.returns-in-Ok-returns_of-clause-plan

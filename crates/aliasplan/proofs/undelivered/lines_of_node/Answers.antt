@@ -5,8 +5,8 @@ use Rattle.std.proofs.lemmas.Result.{IfOk-weaker}
 use Rattle.relay_text.specs.Bytes.{has_text}
 use Rattle.relay_tables.specs.declared.node.Node.{Node}
 use Rattle.relay_tables.specs.Directory.{Directory}
-use Rattle.aliasplan.specs.Entries.{IsNodeLine}
-use Rattle.aliasplan.specs.Routes.{IsLineOfNode}
+use Rattle.relay_planning.specs.Entries.{IsNodeLine}
+use Rattle.relay_planning.specs.Routes.{IsLineOfNode}
 use Rattle.aliasplan.proofs.ReturnNodes.{undelivered}
 use Rattle.aliasplan.proofs.undelivered.lines_of_node.Goals as goal
 

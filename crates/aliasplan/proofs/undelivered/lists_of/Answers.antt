@@ -3,7 +3,7 @@ use Rattle.std.specs.Prelude.{Contains}
 use Rattle.std.proofs.lemmas.List.{take_all, length-set}
 use Rattle.std.proofs.lemmas.List.Elements.{All-set}
 use Rattle.aliasplan.specs.ReturnLines.{AreFindings}
-use Rattle.aliasplan.proofs.NumberFacts.{slice_get_below}
+use Rattle.relay_planning.proofs.NumberFacts.{slice_get_below}
 use Rattle.aliasplan.proofs.ReturnNodes.{lists_more}
 use Rattle.aliasplan.proofs.undelivered.lists_of.Goals as goal
 

@@ -1,7 +1,7 @@
 use Rattle.std.proofs.Common.{◌≡◌, ℕ, length, take}
 use Rattle.std.specs.Prelude.{All, Contains, Some, slice_get}
 use Rattle.relay_tables.specs.declared.node.Node.{Node}
-use Rattle.aliasplan.specs.Delivery.{routing_of}
+use Rattle.relay_planning.specs.Delivery.{routing_of}
 use Rattle.aliasplan.specs.ReturnLines.{AreFindings, AreUndelivered, lines_at}
 use Rattle.aliasplan.proofs.undelivered.lists_of.Given as goal
 

@@ -5,7 +5,7 @@ use Rattle.relay_tables.proofs.GraphsFrom.{from_whole}
 use Rattle.relay_trails.specs.declared.found.Found.{Found}
 use Rattle.relay_trails.specs.Chains.{AreBestBy}
 use Rattle.relay_trails.specs.Trails.{AreBestTrails, HasNodes}
-use Rattle.aliasplan.specs.Delivery.{directory_of}
+use Rattle.relay_planning.specs.Delivery.{directory_of}
 use Rattle.aliasplan_explain.proofs.NodeFacts.{found_at, not_found}
 use Rattle.aliasplan_explain.proofs.AnswerFacts.{none_best}
 use Rattle.aliasplan_explain.proofs.answering.found_at.Goals as goal

@@ -1,6 +1,6 @@
 use Rattle.std.proofs.Common.{List, sym, ◌∙◌, subst, arith}
 use Rattle.relay_pairs.specs.declared.reached.Reached.{Reached}
-use Rattle.aliasplan.specs.Reaching.{AreReachedPairs}
+use Rattle.relay_planning.specs.Reaching.{AreReachedPairs}
 use Rattle.aliasplan_explain.proofs.NodeFacts.{found_at, not_found}
 use Rattle.aliasplan_explain.proofs.AskingFacts.{node_reached, node_not_reached, node_unknown}
 use Rattle.aliasplan_explain.proofs.asking.is_reached.Goals as goal

@@ -4,7 +4,7 @@ use Rattle.relay_routes.specs.Routes.{Answers}
 use Rattle.relay_routes.specs.Routing.{Routing}
 use Rattle.relay_explain.specs.declared.decision.Decision.{Decision}
 use Rattle.relay_explain.specs.declared.rule.Rule.{Rule}
-use Rattle.aliasplan.specs.Delivery.{routing_of}
+use Rattle.relay_planning.specs.Delivery.{routing_of}
 use Rattle.aliasplan_explain.specs.Decisions.{decision_by, decision_of, rule_for}
 use Rattle.aliasplan_explain.proofs.deciding.decision_of.Goals as goal
 

@@ -2,7 +2,7 @@ use Rattle.std.proofs.Common.{refl, sym, subst, List, Bor}
 use Rattle.std.specs.Prelude.{option_map}
 use Rattle.relay_text.specs.AddressParts.{AddressParts}
 use Rattle.relay_wire.specs.declared.plan.Planned.{Planned}
-use Rattle.aliasplan.specs.Plans.{IsSoundFor}
+use Rattle.relay_planning.specs.Plans.{IsSoundFor}
 use Rattle.aliasplan_explain.specs.Endings.{IsEnding}
 use Rattle.aliasplan_explain.specs.Explanations.{IsIn}
 use Rattle.aliasplan_explain.proofs.EndingFacts.{indices_along, is_in, some_index, within}

@@ -1,7 +1,7 @@
 use Rattle.std.proofs.Common.{arith}
 use Rattle.relay_job.specs.Settings.{limit_of}
 use Rattle.relay_delivery.proofs.SoundLists.{transactions_sound}
-use Rattle.aliasplan.specs.Delivery.{IsPlaced}
+use Rattle.relay_planning.specs.Delivery.{IsPlaced}
 use Rattle.aliasplan_explain.proofs.explaining.explain.Goals as goal
 
 pub explanation_of-requires-clause-workings : goal.explanation_of-requires-clause-workings

@@ -1,7 +1,7 @@
 use Rattle.std.proofs.Common.{subst, sym}
 use Rattle.std.specs.Prelude.{IsSome}
 use Rattle.relay_tables.specs.Directory.{Directory}
-use Rattle.aliasplan.specs.Delivery.{directory_of}
+use Rattle.relay_planning.specs.Delivery.{directory_of}
 use Rattle.aliasplan_explain.specs.Targets.{target_at}
 use Rattle.aliasplan_explain.proofs.TargetFacts.{stands_has_target}
 use Rattle.aliasplan_explain.proofs.AskedTargets.{asked_has_target}

@@ -3,7 +3,7 @@ use Rattle.relay_aliasfile.specs.ItemPlaces.{place_value}
 use Rattle.relay_tables.specs.declared.node.Node.{Node}
 use Rattle.relay_tables.specs.Graphs.{child_numbers}
 use Rattle.relay_explain.specs.declared.entry.Entry.{Entry}
-use Rattle.aliasplan.specs.Delivery.{directory_of}
+use Rattle.relay_planning.specs.Delivery.{directory_of}
 use Rattle.aliasplan_explain.specs.Rows.{listed_in}
 use Rattle.aliasplan_explain.specs.Targets.{entry_at}
 use Rattle.aliasplan_explain.specs.Unreached.{numbered_for}

@@ -3,7 +3,7 @@ use Rattle.std.specs.Prelude.{IsSome, Contains}
 use Rattle.std.proofs.lemmas.Option.{slice_get_within}
 use Rattle.relay_tables.specs.Directory.{Directory}
 use Rattle.relay_tables.specs.Graphs.{entry_nodes}
-use Rattle.aliasplan.specs.Delivery.{directory_of}
+use Rattle.relay_planning.specs.Delivery.{directory_of}
 use Rattle.aliasplan_explain.specs.Targets.{target_at}
 use Rattle.aliasplan_explain.proofs.TargetFacts.{node_has_target}
 use Rattle.aliasplan_explain.proofs.UnreachedFacts.{AreSet, none_set, one_passed, one_set, all_set}

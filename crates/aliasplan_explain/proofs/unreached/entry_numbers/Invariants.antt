@@ -1,4 +1,4 @@
-use Rattle.aliasplan.specs.Delivery.{directory_of}
+use Rattle.relay_planning.specs.Delivery.{directory_of}
 use Rattle.aliasplan_explain.proofs.UnreachedFacts.{AreSet}
 use Rattle.aliasplan_explain.proofs.unreached.entry_numbers.Given as goal
 

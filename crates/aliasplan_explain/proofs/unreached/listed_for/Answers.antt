@@ -3,7 +3,7 @@ use Rattle.std.specs.Prelude.{IsSome, IfSome}
 use Rattle.std.proofs.lemmas.Option.{slice_get_within}
 use Rattle.relay_tables.specs.declared.node.Node.{Node}
 use Rattle.relay_tables.specs.Graphs.{entry_nodes, nodes_at}
-use Rattle.aliasplan.specs.Delivery.{directory_of}
+use Rattle.relay_planning.specs.Delivery.{directory_of}
 use Rattle.aliasplan_explain.specs.Targets.{entry_at}
 use Rattle.aliasplan_explain.proofs.UnreachedFacts.{IsEntryAt, entry_of_number, listed_more}
 use Rattle.aliasplan_explain.proofs.unreached.listed_for.Goals as goal

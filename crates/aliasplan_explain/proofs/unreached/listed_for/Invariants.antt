@@ -2,7 +2,7 @@ use Rattle.std.proofs.Common.{◌≡◌, Some, take, slice_get}
 use Rattle.std.specs.Prelude.{flat_map}
 use Rattle.relay_tables.specs.declared.node.Node.{Node}
 use Rattle.relay_tables.specs.Graphs.{entry_nodes}
-use Rattle.aliasplan.specs.Delivery.{directory_of}
+use Rattle.relay_planning.specs.Delivery.{directory_of}
 use Rattle.aliasplan_explain.specs.Unreached.{listed_of}
 use Rattle.aliasplan_explain.proofs.unreached.listed_for.Given as goal
 

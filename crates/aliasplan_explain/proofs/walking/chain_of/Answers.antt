@@ -2,7 +2,7 @@ use Rattle.std.proofs.Common.{◌≡◌, ℕ, ◌<◌, ◌++◌, [], ◌∷◌, 
 use Rattle.std.proofs.lemmas.Option.{slice_get_within}
 use Rattle.relay_tables.specs.Targets.{recipient_target}
 use Rattle.relay_explain.specs.declared.step.Step.{Step}
-use Rattle.aliasplan.specs.Delivery.{directory_of}
+use Rattle.relay_planning.specs.Delivery.{directory_of}
 use Rattle.aliasplan_explain.proofs.WalkFacts.{root_node, some_get}
 use Rattle.aliasplan_explain.proofs.walking.chain_of.Goals as goal
 

@@ -5,7 +5,7 @@ use Rattle.relay_tables.specs.declared.node.Node.{Node}
 use Rattle.relay_tables.specs.Directory.{Directory}
 use Rattle.relay_tables.specs.Targets.{recipient_target}
 use Rattle.relay_explain.specs.declared.step.Mention.TheVariants as mentions
-use Rattle.aliasplan.specs.Delivery.{directory_of}
+use Rattle.relay_planning.specs.Delivery.{directory_of}
 use Rattle.aliasplan_explain.specs.Targets.{target_at}
 use Rattle.aliasplan_explain.proofs.TargetFacts.{node_has_target}
 use Rattle.aliasplan_explain.proofs.WalkFacts.{root_node}

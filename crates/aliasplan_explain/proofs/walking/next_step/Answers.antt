@@ -3,7 +3,7 @@ use Rattle.std.proofs.lemmas.Bool.{false≢true}
 use Rattle.std.proofs.lemmas.Option.{same_Some, slice_get_within}
 use Rattle.relay_tables.specs.declared.node.Node.{Node}
 use Rattle.relay_tables.specs.Directory.{Directory}
-use Rattle.aliasplan.specs.Delivery.{directory_of}
+use Rattle.relay_planning.specs.Delivery.{directory_of}
 use Rattle.aliasplan_explain.specs.Rows.{listed_by}
 use Rattle.aliasplan_explain.specs.Targets.{target_at}
 use Rattle.aliasplan_explain.proofs.TargetFacts.{node_has_target}

@@ -2,7 +2,7 @@ use Rattle.std.proofs.Common.{ℕ, ◌++◌, [], ◌∷◌, List, get_or, take, 
 use Rattle.std.proofs.lemmas.List.{take_more}
 use Rattle.relay_explain.specs.declared.answer.GivenBy.{GivenBy}
 use Rattle.relay_explain.specs.declared.answer.GivenBy.TheVariants as given
-use Rattle.aliasplan.specs.Delivery.{directory_of}
+use Rattle.relay_planning.specs.Delivery.{directory_of}
 use Rattle.aliasplan_explain.specs.ChainSteps.{IsGivenPast, given_at}
 use Rattle.aliasplan_explain.proofs.TargetFacts.{node_has_target}
 use Rattle.aliasplan_explain.proofs.WalkFacts.{past_more}

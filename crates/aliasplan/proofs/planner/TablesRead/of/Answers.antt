@@ -1,30 +1,12 @@
 use Rattle.std.proofs.Common.{◌≡◌, ◌∙◌, ◌||◌, List, ℕ, ap, arith}
 use Rattle.relay_text.specs.Bytes.{has_text}
 use Rattle.relay_job.specs.Tables.{without_envelope}
-use Rattle.aliasplan.specs.Texts.{has_fault_line}
+use Rattle.relay_planning.specs.Texts.{has_fault_line}
 use Rattle.aliasplan.proofs.CheckFacts.{texts_are}
 use Rattle.aliasplan.proofs.planner.TablesRead.of.Goals as goal
 
-pub read-requires-clause-origin : goal.read-requires-clause-origin
-read-requires-clause-origin c = c.parsed_tables.ensures.origin c.requires.tables.0 c.args.job.now c.requires.tables.2
-
-pub read-requires-clause-domains : goal.read-requires-clause-domains
-read-requires-clause-domains c = c.parsed_tables.ensures.destinations c.requires.tables.0 c.args.job.now c.requires.tables.2
-
-pub read-requires-clause-paths : goal.read-requires-clause-paths
-read-requires-clause-paths c = c.parsed_tables.ensures.paths c.requires.tables.0 c.args.job.now c.requires.tables.2
-
-pub read-requires-clause-few_entries : goal.read-requires-clause-few_entries
-read-requires-clause-few_entries c =
-    omega (arith, c.file_counts.ensures.entries c.args.job.now.aliases, c.parsed_tables.ensures.sizes c.requires.tables.0 c.args.job.now c.requires.tables.2, c.requires.tables.1, c.requires.limits.bytes)
-
-pub read-requires-clause-few_includes : goal.read-requires-clause-few_includes
-read-requires-clause-few_includes c =
-    omega (arith, c.parsed_tables.ensures.sizes c.requires.tables.0 c.args.job.now c.requires.tables.2, c.requires.tables.1, c.requires.limits.bytes)
-
-pub read-requires-clause-few_mailboxes : goal.read-requires-clause-few_mailboxes
-read-requires-clause-few_mailboxes c =
-    omega (arith, c.file_counts.ensures.names c.args.job.now.mailboxes, c.parsed_tables.ensures.sizes c.requires.tables.0 c.args.job.now c.requires.tables.2, c.requires.tables.1, c.requires.limits.bytes)
+pub read-requires : goal.read-requires
+read-requires c = record { job = c.parsed_is_readable.ensures.tables c.args.limits.bytes c.args.job.now c.requires.limits.bytes c.requires.tables }
 
 pub returns-in-Ok-counts_of-clause-read : goal.returns-in-Ok-counts_of-clause-read
 returns-in-Ok-counts_of-clause-read c =
@@ -35,7 +17,7 @@ returns-in-Ok-counts_of-clause-read c =
       names = counts.names;
       few = omega (arith, counts.names, counts.within.names, c.requires.limits.names);
       owners = counts.owners;
-      batches = λ t. omega (arith, c.parsed_tables.ensures.limits c.requires.tables.0 c.args.job.now c.requires.tables.2 t);
+      batches = (c.parsed_is_readable.ensures.tables c.args.limits.bytes c.args.job.now c.requires.limits.bytes c.requires.tables).batches;
     }
 
 pub returns-in-Ok-counts_of-clause-findings : goal.returns-in-Ok-counts_of-clause-findings

@@ -1,7 +1,0 @@
-use Rattle.std.proofs.Common.{take}
-use Rattle.aliasplan.specs.Findings.{Reports}
-use Rattle.aliasplan.specs.Entries.{HaveLine, IsLoopLine}
-use Rattle.aliasplan.proofs.entries.report_loops.Given as goal
-
-abbrev pub invariant-loop-node : goal.invariant-loop-node
-invariant-loop-node l = Reports l.initial.lines l.lines (HaveLine (IsLoopLine l.graph l.tables) (take l.node-index l.loops))

@@ -1,9 +1,0 @@
-use Rattle.std.proofs.Common.{take}
-use Rattle.std.specs.List.{list_any}
-use Rattle.std.specs.Str.{bytes_eq}
-use Rattle.aliasplan.specs.Findings.{ReportsWhere}
-use Rattle.aliasplan.specs.Texts.{table_line}
-use Rattle.aliasplan.proofs.texts.report_table.Given as goal
-
-abbrev pub invariant-loop-fault : goal.invariant-loop-fault
-invariant-loop-fault l = ReportsWhere l.initial.lines l.lines (λ q. list_any (λ fault. bytes_eq q (table_line l.table fault)) (take l.fault-index l.faults))

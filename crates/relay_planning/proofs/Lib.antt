@@ -1,0 +1,14 @@
+pub mod Members
+pub mod NumberFacts
+pub mod SetFacts
+pub mod ReportFacts
+pub mod SourceFacts
+pub mod TextFacts
+pub mod ReachFacts
+pub mod EntryFacts
+pub mod FindingFacts
+pub mod KnownFacts
+pub mod GatherFacts
+pub mod PlanFacts
+pub mod RouteLines
+pub mod PlacedFacts

@@ -1,0 +1,13 @@
+pub mod Delivery
+pub mod Report
+pub mod Reaching
+pub mod Plans
+pub mod Texts
+pub mod Limits
+pub mod Written
+pub mod Listing
+pub mod Findings
+pub mod Entries
+pub mod Routes
+pub mod Parsed
+pub mod Readable

@@ -1,0 +1,19 @@
+//! What callers may take for granted of the jobs that they parsed.
+ghost use Rattle.std.specs.Prelude.{ℕ, ◌≤◌};
+ghost use Rattle.relay_job.specs.declared.job.Job as jobs;
+ghost use Rattle.relay_job.specs.JobAnswers.{IsJobWithin};
+ghost use Rattle.relay_job.specs.Tables.{AreTablesWithin};
+ghost use Rattle.relay_planning.specs.Readable.{IsReadable};
+
+use relay_aliasfile::file_counts;
+use relay_job::{parsed_jobs, parsed_tables};
+
+/// The files and tables of a job can be read where it is a text of at most 67,108,864 bytes, with an envelope or without.
+pub fn parsed_is_readable()
+    ensures jobs { (bytes : ℕ) (job : jobs.Job) → bytes ≤ 67108864 → IsJobWithin bytes job → IsReadable job }
+    ensures tables { (bytes : ℕ) (tables : jobs.Job) → bytes ≤ 67108864 → AreTablesWithin bytes tables → IsReadable tables }
+{
+    parsed_jobs();
+    parsed_tables();
+    file_counts();
+}

@@ -1,0 +1,128 @@
+//! What each of a job's files and tables says, before they are joined.
+use relay_aliasfile::{AliasFile, MailboxFile};
+use relay_routes::{MxTable, TransportTable};
+
+/// The alias file, the mailbox file and both tables of a job. Its include files aren't here: each is parsed where its faults are reported.
+#[derive(Drop)]
+pub(crate) struct Parsed {
+    pub(crate) aliases: AliasFile,
+    pub(crate) mailboxes: MailboxFile,
+    pub(crate) transports: TransportTable,
+    pub(crate) exchanges: MxTable,
+}
+
+ghost use Rattle.std.specs.Prelude.{◌≡◌, IfOk};
+ghost use Rattle.std.specs.Thread.{IsSync};
+ghost use Rattle.relay_aliasfile.specs.AliasFiles.{alias_file_of};
+ghost use Rattle.relay_aliasfile.specs.MailboxFiles.{mailbox_file_of};
+ghost use Rattle.relay_routes.specs.Transports.{transport_table_of};
+ghost use Rattle.relay_routes.specs.Exchanges.{mx_table_of};
+ghost use Rattle.relay_planning.specs.Parsed.{AreParsed};
+
+use relay_aliasfile::{parse_aliases, parse_mailboxes};
+use relay_job::Job;
+use std::alloc::{AllocError, Global};
+use std::thread::{Threads, join};
+
+// From so many bytes on a text is long: starting a thread takes as long as parsing some kilobytes, a small part of this.
+const LONG_TEXT: usize = 65_536;
+
+/// Whether the texts are parsed side by side: a worker is there for each, and at least two are long. Where fewer are, no long work stands
+/// beside another.
+pub(crate) fn is_worth_threads(job: &Job, workers: usize) -> bool {
+    let texts = [&job.aliases, &job.mailboxes, &job.transport, &job.mx];
+    let long = texts
+        .iter()
+        .filter(|text| text.as_bytes().len() >= LONG_TEXT)
+        .count();
+    workers >= texts.len() && long >= 2
+}
+
+/// Both files of names; the mailbox file in a new thread.
+fn name_files<R: Threads + Sync>(
+    rt: &R,
+    alloc: Global,
+    aliases: &[u8],
+    mailboxes: &[u8],
+) -> Result<(AliasFile, MailboxFile), AllocError>
+    ensures { IfOk result (λ files. (files.0 ≡ alias_file_of aliases.now) × (files.1 ≡ mailbox_file_of mailboxes.now)) }
+{
+    let (there, here) = join(
+        rt,
+        || -> Result<MailboxFile, AllocError>
+            ensures { IfOk result (λ file. file ≡ mailbox_file_of mailboxes.entry.now) }
+        { parse_mailboxes(alloc, mailboxes) },
+        || -> Result<AliasFile, AllocError>
+            ensures { IfOk result (λ file. file ≡ alias_file_of aliases.entry.now) }
+        { parse_aliases(alloc, aliases) },
+    );
+    Ok((here?, there?))
+}
+
+/// Both tables of routes; the table of exchangers in a new thread.
+fn route_tables<R: Threads + Sync>(
+    rt: &R,
+    alloc: Global,
+    transport: &[u8],
+    mx: &[u8],
+) -> Result<(TransportTable, MxTable), AllocError>
+    ensures { IfOk result (λ tables. (tables.0 ≡ transport_table_of transport.now) × (tables.1 ≡ mx_table_of mx.now)) }
+{
+    let (there, here) = join(
+        rt,
+        || -> Result<MxTable, AllocError>
+            ensures { IfOk result (λ table. table ≡ mx_table_of mx.entry.now) }
+        { MxTable::parse(alloc, mx) },
+        || -> Result<TransportTable, AllocError>
+            ensures { IfOk result (λ table. table ≡ transport_table_of transport.entry.now) }
+        { TransportTable::parse(alloc, transport) },
+    );
+    Ok((here?, there?))
+}
+
+impl Parsed {
+    /// Parses one text after another. `Err` where memory runs out.
+    pub(crate) fn one_by_one(alloc: Global, job: &Job) -> Result<Parsed, AllocError>
+        ensures { IfOk result (AreParsed job.now) }
+    {
+        Ok(Parsed {
+            aliases: parse_aliases(alloc, job.aliases.as_bytes())?,
+            mailboxes: parse_mailboxes(alloc, job.mailboxes.as_bytes())?,
+            transports: TransportTable::parse(alloc, job.transport.as_bytes())?,
+            exchanges: MxTable::parse(alloc, job.mx.as_bytes())?,
+        })
+    }
+
+    /// Parses each text in a thread of its own, the alias file in this one. `Err` where memory runs out.
+    pub(crate) fn side_by_side<R: Threads + Sync>(
+        rt: &R,
+        alloc: Global,
+        job: &Job,
+    ) -> Result<Parsed, AllocError>
+        ensures { IfOk result (AreParsed job.now) }
+    {
+        let transport = job.transport.as_bytes();
+        let mx = job.mx.as_bytes();
+        let aliases = job.aliases.as_bytes();
+        let mailboxes = job.mailboxes.as_bytes();
+        let (there, here) = join(
+            rt,
+            || -> Result<(TransportTable, MxTable), AllocError>
+                requires { IsSync R.row }
+                ensures { IfOk result (λ tables. (tables.0 ≡ transport_table_of transport.entry.now) × (tables.1 ≡ mx_table_of mx.entry.now)) }
+            { route_tables(rt, alloc, transport, mx) },
+            || -> Result<(AliasFile, MailboxFile), AllocError>
+                requires { IsSync R.row }
+                ensures { IfOk result (λ files. (files.0 ≡ alias_file_of aliases.entry.now) × (files.1 ≡ mailbox_file_of mailboxes.entry.now)) }
+            { name_files(rt, alloc, aliases, mailboxes) },
+        );
+        let (aliases, mailboxes) = here?;
+        let (transports, exchanges) = there?;
+        Ok(Parsed {
+            aliases,
+            mailboxes,
+            transports,
+            exchanges,
+        })
+    }
+}

@@ -1,0 +1,108 @@
+//! The lines of files and tables that are at fault.
+ghost use Rattle.std.specs.Prelude.{◌≡◌, map, IfOk, OnOk};
+ghost use Rattle.std.specs.List.{list_any};
+ghost use Rattle.std.specs.Str.{bytes_eq};
+ghost use Rattle.relay_planning.specs.Delivery.{entry_of_include};
+ghost use Rattle.relay_planning.specs.Findings.{ReportsWhere};
+ghost use Rattle.relay_planning.specs.Texts.{table_line};
+ghost use Rattle.relay_planning.specs.Texts.{source_line, has_include_line};
+
+use crate::source::Source;
+use crate::table::Table;
+use relay_aliasfile::{LineFault, parse_include};
+use relay_job::JobInclude;
+use relay_tables::IncludeEntry;
+use relay_text::Text;
+use relay_wire::FindingLines;
+use std::alloc::{AllocError, Global};
+
+/// Adds the line of a file's fault.
+fn report_file_fault(
+    alloc: Global,
+    source: Source<'_>,
+    fault: LineFault,
+    lines: &mut FindingLines,
+) -> Result<(), AllocError>
+    ensures { OnOk result (ReportsWhere lines.old lines.new (λ q. bytes_eq q (source_line source.entry fault))) }
+{
+    let finding = source.finding(alloc, fault)?;
+    lines.add(&finding)
+}
+
+/// Adds the lines of a file that are at fault.
+pub fn report_file(
+    alloc: Global,
+    source: Source<'_>,
+    faults: &[LineFault],
+    lines: &mut FindingLines,
+) -> Result<(), AllocError>
+    ensures { OnOk result (ReportsWhere lines.old lines.new (λ q. list_any (λ fault. bytes_eq q (source_line source.entry fault)) faults.now)) }
+{
+    for fault in faults {
+        report_file_fault(alloc, source, *fault, lines)?;
+    }
+    Ok(())
+}
+
+/// Adds the line of a table's fault.
+fn report_table_fault(
+    alloc: Global,
+    table: Table,
+    fault: relay_routes::LineFault,
+    lines: &mut FindingLines,
+) -> Result<(), AllocError>
+    ensures { OnOk result (ReportsWhere lines.old lines.new (λ q. bytes_eq q (table_line table fault))) }
+{
+    let finding = table.finding(fault);
+    lines.add(&finding)
+}
+
+/// Adds the lines of a table that are at fault.
+pub fn report_table(
+    alloc: Global,
+    table: Table,
+    faults: &[relay_routes::LineFault],
+    lines: &mut FindingLines,
+) -> Result<(), AllocError>
+    ensures { OnOk result (ReportsWhere lines.old lines.new (λ q. list_any (λ fault. bytes_eq q (table_line table fault)) faults.now)) }
+{
+    for fault in faults {
+        report_table_fault(alloc, table, *fault, lines)?;
+    }
+    Ok(())
+}
+
+/// The items of an include file under its path. Adds the lines that are at fault.
+fn read_include(
+    alloc: Global,
+    include: &JobInclude,
+    lines: &mut FindingLines,
+) -> Result<IncludeEntry, AllocError>
+    ensures entry { IfOk result (λ entry. entry ≡ entry_of_include include.now) }
+    ensures lines { OnOk result (ReportsWhere lines.old lines.new (λ q. has_include_line q include.now)) }
+{
+    let file = parse_include(alloc, include.bytes.as_bytes())?;
+    let source = Source::Include(include.path.as_bytes());
+    report_file(alloc, source, file.faults.as_slice(), lines)?;
+    let path = Text::copy_of(alloc, include.path.as_bytes())?;
+    Ok(IncludeEntry {
+        path,
+        items: file.items,
+    })
+}
+
+/// The include files of a job. Adds the lines that are at fault.
+pub fn read_includes(
+    alloc: Global,
+    includes: &[JobInclude],
+    lines: &mut FindingLines,
+) -> Result<Vec<IncludeEntry>, AllocError>
+    ensures entries { IfOk result (λ entries. entries.items ≡ map entry_of_include includes.now) }
+    ensures lines { OnOk result (ReportsWhere lines.old lines.new (λ q. list_any (has_include_line q) includes.now)) }
+{
+    let mut entries = Vec::with_capacity(alloc, includes.len())?;
+    for include in includes {
+        entries.push(read_include(alloc, include, lines)?)?;
+    }
+    Ok(entries)
+}
