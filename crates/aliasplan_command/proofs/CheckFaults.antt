@@ -8,8 +8,8 @@ use Rattle.relay_job.specs.JobAnswers.{Fails}
 use Rattle.relay_job.specs.JobText.{bad_job, bad_setting, job_unless, sections_of}
 use Rattle.relay_job.specs.Tables.{tables_of, without_envelope}
 use Rattle.relay_planning.specs.declared.options.Limits.{Limits}
-use Rattle.aliasplan_command.specs.declared.check_run.Scope.{Scope}
-use Rattle.aliasplan_command.specs.declared.check_run.Scope.TheVariants.{Texts, Aliases}
+use Rattle.aliasplan_words.specs.declared.scope.Scope.{Scope}
+use Rattle.aliasplan_words.specs.declared.scope.Scope.TheVariants.{Texts, Aliases}
 use Rattle.aliasplan_command.specs.Checks.{IsCheckRefused, RefusesCheckBytes}
 
 -- the two faults of the lines of files and tables

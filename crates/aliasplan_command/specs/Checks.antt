@@ -10,8 +10,8 @@ use Rattle.relay_planning.specs.declared.options.Limits.{Limits}
 use Rattle.aliasplan.specs.Checks.{to_each_alias, AreLines, notes_of}
 use Rattle.relay_planning.specs.Limits.{IsRefused, IsWithin}
 use Rattle.relay_planning.specs.Report.{texts, IsFindingLine, IsLineOf}
-use Rattle.aliasplan_command.specs.declared.check_run.Scope.{Scope}
-use Rattle.aliasplan_command.specs.declared.check_run.Scope.TheVariants.{Texts, Aliases}
+use Rattle.aliasplan_words.specs.declared.scope.Scope.{Scope}
+use Rattle.aliasplan_words.specs.declared.scope.Scope.TheVariants.{Texts, Aliases}
 
 -- the lines at fault alone, or what is found where the null sender writes to every alias
 abbrev pub IsChecked : Limits → Scope → Job → List (List ℕ) → Type 0

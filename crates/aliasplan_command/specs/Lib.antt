@@ -1,5 +1,4 @@
 pub mod Statuses
-pub mod Requests
 pub mod Summaries
 pub mod JsonEscapes
 pub mod Checks

@@ -1,7 +1,7 @@
 -- What the process ends with.
 use Rattle.std.specs.Prelude.{◌≡◌, ◌≢◌, ℕ}
-use Rattle.aliasplan_command.specs.declared.command_line.Request.{Request}
-use Rattle.aliasplan_command.specs.declared.command_line.Request.TheVariants.{Plan, Each, Domains, Check, Explain, Gather, Help, Unknown, Fault}
+use Rattle.aliasplan_words.specs.declared.request.Request.{Request}
+use Rattle.aliasplan_words.specs.declared.request.Request.TheVariants.{Plan, Each, Domains, Check, Explain, Gather, Help, Unknown, Fault}
 use Rattle.aliasplan_command.specs.declared.status.Status.{Status}
 use Rattle.aliasplan_command.specs.declared.status.Status.TheVariants.{Done, Found, Refused, OutOfMemory, Broken, CommandLine}
 use Rattle.relay_job.specs.declared.fault.RunFault.{RunFault}

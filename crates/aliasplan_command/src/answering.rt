@@ -1,11 +1,10 @@
 //! The answer to what a command line asks for.
 ghost use Rattle.std.specs.Prelude.{◌≡◌, ◌≢◌, true, false, IfOk, IfErr};
 ghost use Rattle.relay_planning.specs.Limits.{AreOptions};
-ghost use Rattle.aliasplan_command.specs.Requests.{IsRequest};
+ghost use Rattle.aliasplan_words.specs.Requests.{IsRequest};
 ghost use Rattle.aliasplan_command.specs.Statuses.{code_of, code_after, IsStatusOf};
 
 use crate::check_run::run_check;
-use crate::command_line::{Detail, Output, Request};
 use crate::each_run::answer_each;
 use crate::explaining::{explain_file, explain_job, shown};
 use crate::explaining_items::explain_items;
@@ -19,6 +18,7 @@ use aliasplan::{
     run, run_domains, run_returns,
 };
 use aliasplan_explain::run_explain;
+use aliasplan_words::{Detail, Output, Request};
 use relay_explain::Asked;
 use relay_text::Text;
 use std::io;

@@ -8,18 +8,10 @@ use aliasplan::{
     Crew, Feed, Gate, Job, RunFault, Sink, check_aliases, check_texts, notes, parse_tables,
     read_job, write_text,
 };
+use aliasplan_words::Scope;
 use relay_text::{Seq, Text};
 use relay_wire::check_text;
 use std::thread::Threads;
-
-/// What of files and tables is checked.
-#[derive(Clone, Copy, Debug, PartialEq, Eq)]
-pub enum Scope {
-    /// Their lines.
-    Texts,
-    /// Also where every alias leads.
-    Aliases,
-}
 
 /// A check's text, and how many findings it has.
 #[derive(Drop)]

@@ -2,13 +2,13 @@
 //! it or isn't, `check` what is wrong with its files and tables, `domains` the names that it asks for, and `gather` writes a job of files
 //! that lie apart.
 //!
-//! `read_words` reads the command line into a `Request`, `answer` carries it out and tells the `Status` that the process ends with.
+//! `read_words` of aliasplan_words reads the command line into a `Request`, `answer` carries it out and tells the `Status` that the process
+//! ends with.
 #![tactic(auto)]
 
 pub mod answering;
 mod bad_lists;
 pub mod check_run;
-pub mod command_line;
 mod each_run;
 mod explaining;
 mod explaining_items;
@@ -18,7 +18,6 @@ mod json_run;
 mod standard_input;
 pub mod status;
 
+pub use aliasplan_words::{Detail, Output, Request, Scope, read_words};
 pub use answering::answer;
-pub use check_run::Scope;
-pub use command_line::{Detail, Output, Request, read_words};
 pub use status::Status;

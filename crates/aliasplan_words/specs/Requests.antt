@@ -2,8 +2,8 @@
 use Rattle.std.specs.Prelude.{◌≡◌, ◌⊎◌, ⊤}
 use Rattle.relay_planning.specs.Limits.{AreOptions}
 use Rattle.relay_job.specs.declared.fault.RunFault.TheVariants.{Write, Memory}
-use Rattle.aliasplan_command.specs.declared.command_line.Request.{Request}
-use Rattle.aliasplan_command.specs.declared.command_line.Request.TheVariants.{Plan, Each, Domains, Check, Explain, Gather, Help, Unknown, Fault}
+use Rattle.aliasplan_words.specs.declared.request.Request.{Request}
+use Rattle.aliasplan_words.specs.declared.request.Request.TheVariants.{Plan, Each, Domains, Check, Explain, Gather, Help, Unknown, Fault}
 
 -- a plan, plans of envelopes, a check, an explanation and domains are asked for with options in range, and no more than memory and standard output fail a command line
 abbrev pub IsRequest : Request → Type 0

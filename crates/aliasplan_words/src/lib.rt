@@ -1,0 +1,27 @@
+//! What the words of the command line ask for.
+//!
+//! [`read_words`] makes a [`Request`] of them. Help and the version are printed on the way, and so is what is wrong with words that ask for
+//! nothing that there is. No file that they name is read here.
+//!
+//! The way through the modules: `commands` has the commands and what each takes, by way of the `arguments` that several take and the texts
+//! in `help`. `reading` matches the words against them. `asking` makes a request of the words after a command, by what `values` reads of
+//! each; `refusing` has the words that no command takes.
+#![tactic(auto)]
+
+mod arguments;
+mod asking;
+mod commands;
+mod detail;
+mod help;
+mod output;
+mod reading;
+mod refusing;
+mod request;
+mod scope;
+mod values;
+
+pub use detail::Detail;
+pub use output::Output;
+pub use reading::read_words;
+pub use request::Request;
+pub use scope::Scope;

@@ -1,0 +1,95 @@
+//! What single words after a command say.
+ghost use Rattle.relay_planning.specs.Limits.{AreOptions};
+
+use crate::detail::Detail;
+use crate::output::Output;
+use clap::ArgMatches;
+use relay_gather::Paths;
+use relay_planning::{Form, Options};
+use relay_text::{Seq, Text};
+use std::alloc::{AllocError, Global};
+
+pub(crate) fn detail_of(words: &ArgMatches<'_>) -> Detail {
+    if words.get_flag("verbose") {
+        Detail::Culprit
+    } else {
+        Detail::Line
+    }
+}
+
+/// The options that the words after `plan`, `explain`, `check` or `domains` say, or their defaults. What is out of range is refused before.
+pub(crate) fn options_of(words: &ArgMatches<'_>, form: Form) -> Options
+    ensures { AreOptions result }
+{
+    let usual = Options::default();
+    let workers = words.get_one::<usize>("workers").unwrap_or(usual.workers);
+    let cut = words.get_one::<usize>("cut").unwrap_or(usual.cut);
+    Options {
+        form,
+        workers: workers.clamp(1, 64),
+        cut: cut.clamp(1, 1_048_576),
+    }
+}
+
+/// The form that the words after `plan` say. In JSON it isn't regarded.
+pub(crate) fn form_of(plan: &ArgMatches<'_>) -> Form {
+    match plan.get_str("form") {
+        Some("wire") => Form::Wire,
+        _ => Form::Plan,
+    }
+}
+
+/// What the words after `plan` say that the plan is written as.
+pub(crate) fn output_of(plan: &ArgMatches<'_>) -> Output<'static> {
+    match plan.get_str("form") {
+        Some("json") => Output::Json,
+        _ if plan.get_flag("returns") => Output::Returns,
+        _ => Output::Text,
+    }
+}
+
+/// The path that an option names, if it stands there.
+pub(crate) fn path_of(
+    alloc: Global,
+    words: &ArgMatches<'_>,
+    name: &str,
+) -> Result<Option<Text>, AllocError> {
+    match words.get_str(name) {
+        Some(path) => Ok(Some(Text::copy_of(alloc, path.as_bytes())?)),
+        None => Ok(None),
+    }
+}
+
+/// The paths that an option names, each time that it stands there, in their order.
+fn paths_named(alloc: Global, words: &ArgMatches<'_>, name: &str) -> Result<Seq<Text>, AllocError> {
+    let mut paths = Vec::new(alloc);
+    if let Some(named) = words.get_strs(name) {
+        for path in named {
+            paths.push(Text::copy_of(alloc, path.as_bytes())?)?;
+        }
+    }
+    Ok(Seq::of(paths))
+}
+
+/// The path of the job, `None` for standard input.
+pub(crate) fn job_path_of(
+    alloc: Global,
+    words: &ArgMatches<'_>,
+) -> Result<Option<Text>, AllocError> {
+    match words.get_str("file") {
+        Some("-") => Ok(None),
+        _ => path_of(alloc, words, "file"),
+    }
+}
+
+/// The paths that the words after `gather` say.
+pub(crate) fn paths_of(alloc: Global, gather: &ArgMatches<'_>) -> Result<Paths, AllocError> {
+    Ok(Paths {
+        settings: path_of(alloc, gather, "settings")?,
+        aliases: paths_named(alloc, gather, "aliases")?,
+        mailboxes: path_of(alloc, gather, "mailboxes")?,
+        transport: paths_named(alloc, gather, "transport")?,
+        mx: path_of(alloc, gather, "mx")?,
+        envelope: path_of(alloc, gather, "envelope")?,
+    })
+}
