@@ -14,6 +14,9 @@ use std::thread::Threads;
 /// Two rings, and a node between them.
 const RINGS: &[u8] = b"a: b, c\nb: a\nc: e\ne: f, y@example.net\nf: e\n";
 
+/// A ring of two nodes of five.
+const SMALL_RING: &[u8] = b"a: b, k@example.net, l@example.net, m@example.net\nb: a\n";
+
 /// The numbers of all nodes, which are a closed part.
 fn all_nodes(alloc: Global, graph: &Graph) -> Result<Vec<u32>, Unready>
     ensures all { IfOk result (λ nodes. nodes.items ≡ range_with_len 0 (length graph.now.nodes)) }
@@ -27,11 +30,17 @@ fn all_nodes(alloc: Global, graph: &Graph) -> Result<Vec<u32>, Unready>
     Ok(nodes)
 }
 
-fn are_loops<R: Threads + Sync>(rt: &R, alloc: Global, graph: &Graph, nodes: &[u32]) -> Answer
+fn are_loops<R: Threads + Sync>(
+    rt: &R,
+    alloc: Global,
+    graph: &Graph,
+    nodes: &[u32],
+    wanted: &[u32],
+) -> Answer
     requires { IsClosedPart graph.now nodes.now }
 {
     match on_loops(rt, alloc, graph, nodes, 2, 1, &NoGate) {
-        Ok(loops) => Answer::given(loops.as_slice() == [0, 1, 3, 4].as_slice()),
+        Ok(loops) => Answer::given(loops.as_slice() == wanted),
         Err(_) => Answer::Refused,
     }
 }
@@ -40,9 +49,10 @@ fn finds_its_loops<R: Threads + Sync>(
     rt: &R,
     alloc: Global,
     graph: &Graph,
+    wanted: &[u32],
 ) -> Result<Seen, Unready> {
     let nodes = all_nodes(alloc, graph)?;
-    Ok(twice!(are_loops(rt, alloc, graph, &nodes)))
+    Ok(twice!(are_loops(rt, alloc, graph, &nodes, wanted)))
 }
 
 fn graph_of(alloc: Global, tables: &Tables) -> Result<Graph, Unready> {
@@ -50,18 +60,32 @@ fn graph_of(alloc: Global, tables: &Tables) -> Result<Graph, Unready> {
     Ok(graph)
 }
 
-fn graph(alloc: Global) -> Result<Graph, Unready> {
-    let tables = tables(alloc, false, RINGS)?;
+fn graph(alloc: Global, aliases: &[u8]) -> Result<Graph, Unready> {
+    let tables = tables(alloc, false, aliases)?;
     lent(tables, |tables| graph_of(alloc, tables))
 }
 
-fn finds_loops<R: Threads + Sync>(rt: &R, alloc: Global) -> Result<Seen, Unready> {
-    let graph = graph(alloc)?;
-    lent(graph, |graph| finds_its_loops(rt, alloc, graph))
+fn finds_loops<R: Threads + Sync>(
+    rt: &R,
+    alloc: Global,
+    aliases: &[u8],
+    wanted: &[u32],
+) -> Result<Seen, Unready> {
+    let graph = graph(alloc, aliases)?;
+    lent(graph, |graph| finds_its_loops(rt, alloc, graph, wanted))
 }
 
 pub(crate) fn tell<R: Print + AllocGlobal + Threads + Sync>(teller: &mut Teller<'_, R>) {
     let rt = teller.rt;
     let alloc = rt.alloc();
-    case!(teller, "on_loops", finds_loops(rt, alloc));
+    case!(
+        teller,
+        "on_loops",
+        finds_loops(rt, alloc, RINGS, &[0, 1, 3, 4])
+    );
+    case!(
+        teller,
+        "on_loops, few lead on",
+        finds_loops(rt, alloc, SMALL_RING, &[0, 1])
+    );
 }

@@ -10,7 +10,7 @@ use growth_answers::inputs::{address, is_address};
 use growth_answers::{Answer, Seen, Teller, Unready, call, case, judged, lent, twice};
 use relay_aliasfile::{AliasFile, MailboxFile, parse_aliases, parse_include, parse_mailboxes};
 use relay_tables::{
-    Graph, IncludeEntry, Local, Node, TableCounts, TableFault, Tables, parsed_files,
+    Graph, IncludeEntry, Local, Node, TableCounts, TableFault, Tables, TwoWayGraph, parsed_files,
 };
 use relay_text::{Address, Seq, Text};
 use std::alloc::{AllocError, Global};
@@ -210,7 +210,6 @@ fn are_steps(graph: &Graph) -> bool {
         && graph.children(0) == [1, 3].as_slice()
         && graph.children(1) == [3, 4].as_slice()
         && graph.children(2) == [5].as_slice()
-        && graph.parents(3) == [0, 1].as_slice()
 }
 
 /// Whether the senders are the envelope's and the owner's.
@@ -265,6 +264,26 @@ fn builds_a_graph(alloc: Global) -> Result<Seen, Unready> {
         tables,
         |tables| Ok(twice!(is_built(alloc, tables, &message))),
     )
+}
+
+/// Each node's parents beside its children.
+fn is_turned(alloc: Global, graph: &Graph) -> Answer {
+    match TwoWayGraph::of(alloc, graph) {
+        Ok(graph) => judged(graph, |graph| {
+            graph.nodes() == 6
+                && graph.children(0) == [1, 3].as_slice()
+                && graph.parents(3) == [0, 1].as_slice()
+                && graph.parents(0).is_empty()
+        }),
+        Err(_) => Answer::Refused,
+    }
+}
+
+fn turns_a_graph(alloc: Global) -> Result<Seen, Unready> {
+    let message = message_to(alloc, b"outer")?;
+    let tables = tables(alloc, false, OWNED)?;
+    let graph = Graph::build(alloc, &tables, None, &message.recipients, 6, 1)?;
+    lent(graph, |graph| Ok(twice!(is_turned(alloc, graph))))
 }
 
 /// One node and one owner fewer than there are.
@@ -339,5 +358,6 @@ pub(crate) fn tell<R: Print + AllocGlobal>(teller: &mut Teller<'_, R>) {
         builds_no_larger_graph(alloc)
     );
     case!(teller, "Graph::reached", builds_what_is_reached(alloc));
+    case!(teller, "TwoWayGraph::of", turns_a_graph(alloc));
     case!(teller, "TableCounts::of", counts_names(alloc));
 }

@@ -9,3 +9,4 @@ pub mod Judging
 pub mod Answering
 pub mod Naming
 pub mod Whole
+pub mod Trimming

@@ -4,3 +4,4 @@ pub mod Bounds
 pub mod Searches
 pub mod Judging
 pub mod Naming
+pub mod Leading

@@ -3,7 +3,7 @@ ghost use Rattle.std.specs.Prelude.{◌≡◌, ◌<◌, length};
 ghost use Rattle.relay_loops.specs.Places.{is_open, met_place, near_numbers};
 
 use crate::place::Place;
-use relay_tables::Graph;
+use relay_tables::TwoWayGraph;
 
 // Where to a search goes, from nodes of which places, and how it marks them.
 #[derive(Clone, Copy)]
@@ -16,7 +16,7 @@ pub(crate) enum Direction {
 
 impl Direction {
     // The nodes that are one step from a node.
-    pub(crate) fn near(self, graph: &Graph, node: u32) -> &[u32]
+    pub(crate) fn near<'g>(self, graph: &'g TwoWayGraph<'_>, node: u32) -> &'g [u32]
         requires { node < length graph.now.nodes }
         ensures { result.now ≡ near_numbers graph.now self node }
     {

@@ -9,7 +9,7 @@ use crate::direction::Direction;
 use crate::place::{Place, place_of};
 use crate::spreading::spread;
 use relay_rounds::Gate;
-use relay_tables::Graph;
+use relay_tables::TwoWayGraph;
 use std::alloc::{AllocError, Global};
 use std::thread::Threads;
 
@@ -34,7 +34,7 @@ fn settle_ahead(places: &mut [Place], ahead: &[u32])
 // Answers a pivot that is left, and all that share a loop with it. What it leads to else is left as before.
 pub(crate) fn divide<G: Gate, R: Threads + Sync>(
     crew: &Crew<G, R>,
-    graph: &Graph,
+    graph: &TwoWayGraph<'_>,
     pivot: u32,
     places: &mut [Place],
     found: &mut Found,

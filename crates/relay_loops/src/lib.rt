@@ -24,26 +24,27 @@
 mod crew;
 mod direction;
 mod dividing;
-mod edges;
 mod laws;
+mod leading;
 mod pivots;
 mod place;
 mod settling;
 mod spreading;
 mod steps;
 
-ghost use Rattle.std.specs.Prelude.{◌≤◌, [], IfOk};
+ghost use Rattle.std.specs.Prelude.{◌≤◌, ◌<◌, ℕ, List, [], length, All, IfOk};
 ghost use Rattle.relay_loops.specs.declared.place.Place.TheVariants.{Left};
+ghost use Rattle.relay_loops.specs.Leading.{HasLoops};
 ghost use Rattle.relay_loops.specs.Loops.{IsClosedPart, AreLoopsOf};
 ghost use Rattle.relay_loops.specs.Places.{HasPlaces, IsChangedAt};
 
 use crew::Crew;
-use edges::lead_on;
 pub use laws::whole_graphs;
+use leading::leading_nodes;
 use pivots::pivot_order;
 use place::Place;
 use relay_rounds::Gate;
-use relay_tables::Graph;
+use relay_tables::{Graph, TwoWayGraph};
 use settling::{first_places, looped, settle};
 use std::alloc::{AllocError, Global};
 use std::thread::Threads;
@@ -67,8 +68,9 @@ pub fn on_loops<G: Gate, R: Threads + Sync>(
     requires cut { 1 ≤ cut }
     ensures { IfOk result (λ loops. AreLoopsOf graph.now reached.now loops.items) }
 {
-    if !lead_on(graph, reached) {
-        return Ok(Vec::new(alloc));
+    let nodes = leading_nodes(alloc, graph, reached)?;
+    if nodes.is_empty() {
+        return Ok(nodes);
     }
     let crew = Crew {
         rt,
@@ -77,23 +79,24 @@ pub fn on_loops<G: Gate, R: Threads + Sync>(
         cut,
         gate,
     };
-    let mut places = first_places(alloc, graph, reached)?;
-    loops_among(&crew, graph, reached, &mut places)
+    let graph = TwoWayGraph::of(alloc, graph)?;
+    let mut places = first_places(alloc, &graph, &nodes)?;
+    loops_among(&crew, &graph, &nodes, &mut places)
 }
 
 // Those of the nodes that are on a loop, where each is left.
 fn loops_among<G: Gate, R: Threads + Sync>(
     crew: &Crew<G, R>,
-    graph: &Graph,
-    reached: &[u32],
+    graph: &TwoWayGraph<'_>,
+    nodes: &[u32],
     places: &mut [Place],
 ) -> Result<Vec<u32>, AllocError>
-    requires reached { IsClosedPart graph.now reached.now }
+    requires nodes { All (λ n. n < length graph.now.nodes) nodes.now }
     requires sized { HasPlaces graph.now places.old }
-    requires left { IsChangedAt (λ _. Left) reached.now [] places.old }
-    ensures { IfOk result (λ loops. AreLoopsOf graph.now reached.now loops.items) }
+    requires left { IsChangedAt (λ _. Left) nodes.now [] places.old }
+    ensures { IfOk result (λ loops. (part : List ℕ) → IsClosedPart graph.now part → HasLoops graph.now part nodes.now → AreLoopsOf graph.now part loops.items) }
 {
-    let order = pivot_order(crew.alloc, graph, reached)?;
+    let order = pivot_order(crew.alloc, graph, nodes)?;
     settle(crew, graph, &order, places)?;
-    looped(crew.alloc, reached, places)
+    looped(crew.alloc, nodes, places)
 }

@@ -2,7 +2,7 @@
 ghost use Rattle.std.specs.Prelude.{◌≡◌, ◌<◌, ◌≤◌, ◌++◌, ◌∷◌, [], true, false, ℕ, length, All, Contains, IfOk, OnOk, MatchOption, ⊤, slice_index};
 ghost use Rattle.relay_loops.specs.Naming.{is_fresh, work_left, GoesOn};
 
-use relay_tables::Graph;
+use relay_tables::TwoWayGraph;
 use std::alloc::{AllocError, Global};
 
 // A node on the path of the walk, and how many of its parents were looked at.
@@ -25,7 +25,7 @@ pub(crate) struct Walk {
 
 impl Walk {
     // A walk that has not begun, among these nodes.
-    fn new(alloc: Global, graph: &Graph, reached: &[u32]) -> Result<Walk, AllocError>
+    fn new(alloc: Global, graph: &TwoWayGraph<'_>, reached: &[u32]) -> Result<Walk, AllocError>
         requires { All (λ n. n < length graph.now.nodes) reached.now }
         ensures path { IfOk result (λ walk. walk.path.items ≡ []) }
         ensures sized { IfOk result (λ walk. length walk.fresh.items ≡ length graph.now.nodes) }
@@ -77,7 +77,7 @@ impl Walk {
     }
 
     // Goes on from the node that the walk came to last: to one of its parents, or back.
-    fn go_on(&mut self, graph: &Graph, last: Visit) -> Result<(), AllocError>
+    fn go_on(&mut self, graph: &TwoWayGraph<'_>, last: Visit) -> Result<(), AllocError>
         requires last { last.node < length self.old.fresh.items }
         requires sized { length self.old.fresh.items ≡ length graph.now.nodes }
         ensures onward { OnOk result (GoesOn self.old.fresh.items (self.old.path.items ++ last ∷ []) self.old.order.items self.new.fresh.items self.new.path.items self.new.order.items) }
@@ -98,7 +98,7 @@ impl Walk {
     }
 
     // Comes to a fresh node and to all that lead to it, and leaves each.
-    fn walk_from(&mut self, graph: &Graph, root: u32) -> Result<(), AllocError>
+    fn walk_from(&mut self, graph: &TwoWayGraph<'_>, root: u32) -> Result<(), AllocError>
         requires root { is_fresh self.old.fresh.items root ≡ true }
         requires path { self.old.path.items ≡ [] }
         requires sized { length self.old.fresh.items ≡ length graph.now.nodes }
@@ -117,7 +117,7 @@ impl Walk {
 // The nodes in the order in which they become pivots: the last that the walk leaves comes first.
 pub(crate) fn pivot_order(
     alloc: Global,
-    graph: &Graph,
+    graph: &TwoWayGraph<'_>,
     reached: &[u32],
 ) -> Result<Vec<u32>, AllocError>
     requires { All (λ n. n < length graph.now.nodes) reached.now }

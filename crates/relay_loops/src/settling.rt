@@ -8,14 +8,14 @@ use crate::crew::Crew;
 use crate::dividing::{Found, divide};
 use crate::place::{Place, place_of};
 use relay_rounds::Gate;
-use relay_tables::Graph;
+use relay_tables::TwoWayGraph;
 use std::alloc::{AllocError, Global};
 use std::thread::Threads;
 
 // The places as each of the nodes is left.
 pub(crate) fn first_places(
     alloc: Global,
-    graph: &Graph,
+    graph: &TwoWayGraph<'_>,
     reached: &[u32],
 ) -> Result<Vec<Place>, AllocError>
     requires { All (λ n. n < length graph.now.nodes) reached.now }
@@ -33,7 +33,7 @@ pub(crate) fn first_places(
 // Takes one node of the order after another as a pivot, until each has its answer.
 pub(crate) fn settle<G: Gate, R: Threads + Sync>(
     crew: &Crew<G, R>,
-    graph: &Graph,
+    graph: &TwoWayGraph<'_>,
     order: &[u32],
     places: &mut [Place],
 ) -> Result<(), AllocError>

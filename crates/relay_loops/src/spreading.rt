@@ -12,7 +12,7 @@ use crate::direction::Direction;
 use crate::place::{Place, place_of};
 use crate::steps::NearSteps;
 use relay_rounds::{Gate, ReachFault, reach};
-use relay_tables::Graph;
+use relay_tables::TwoWayGraph;
 use std::alloc::{AllocError, Global};
 use std::thread::Threads;
 
@@ -69,7 +69,7 @@ fn take_keys(
 
 // Goes on from the first few of the nodes found, and says from how many.
 fn walk(
-    graph: &Graph,
+    graph: &TwoWayGraph<'_>,
     direction: Direction,
     places: &mut [Place],
     found: &mut Vec<u32>,
@@ -110,7 +110,7 @@ fn keys_of(alloc: Global, nodes: &[u32]) -> Result<Vec<u64>, AllocError>
 // What the search comes to from these nodes, and they themselves.
 fn reach_open<G: Gate, R: Threads + Sync>(
     crew: &Crew<G, R>,
-    graph: &Graph,
+    graph: &TwoWayGraph<'_>,
     direction: Direction,
     places: &[Place],
     nodes: &[u32],
@@ -140,7 +140,7 @@ fn reach_open<G: Gate, R: Threads + Sync>(
 // Goes on from each of the nodes found that has not been passed.
 fn go_on<G: Gate, R: Threads + Sync>(
     crew: &Crew<G, R>,
-    graph: &Graph,
+    graph: &TwoWayGraph<'_>,
     direction: Direction,
     places: &mut [Place],
     passed: usize,
@@ -158,7 +158,7 @@ fn go_on<G: Gate, R: Threads + Sync>(
 // Finds all that a search comes to from the starts: those of them that it goes to, and what is led to from there.
 pub(crate) fn spread<G: Gate, R: Threads + Sync>(
     crew: &Crew<G, R>,
-    graph: &Graph,
+    graph: &TwoWayGraph<'_>,
     direction: Direction,
     starts: &[u32],
     places: &mut [Place],

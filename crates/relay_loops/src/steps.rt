@@ -5,13 +5,13 @@ ghost use Rattle.relay_loops.specs.Places.{open_key, open_keys};
 use crate::direction::Direction;
 use crate::place::{Place, place_of};
 use relay_rounds::Steps;
-use relay_tables::Graph;
+use relay_tables::TwoWayGraph;
 use std::alloc::AllocError;
 
 // From a node to those near it that the search goes to. Each other one counts as the node itself, which leads nowhere new.
 #[derive(Drop)]
 pub(crate) struct NearSteps<'a> {
-    pub(crate) graph: &'a Graph,
+    pub(crate) graph: &'a TwoWayGraph<'a>,
     pub(crate) direction: Direction,
     pub(crate) places: &'a [Place],
     ghost numbered: { length places.now ≤ 2 ^ 32 },

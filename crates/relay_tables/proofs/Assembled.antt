@@ -66,13 +66,10 @@ row_below {X} target nodes (k ∷ ks) (x ∷ xs) e =
     let rest : nodes_in nodes ks ≡ map (λ (y : X). Some (target y)) xs = cc in
     All-cons (λ n. n < length nodes) k ks (slice_get_within nodes k (target x) first) (row_below target nodes ks xs rest)
 
-pub rows_below : (nodes : List Node) (rows : List (List ℕ)) (tss : List (List Node)) → LeadTo nodes rows tss → All (λ n. n < length nodes) (concat rows)
-rows_below nodes [] tss e = All-nil (λ n. n < length nodes)
-rows_below nodes (k ∷ ks) [] e = cc
-rows_below nodes (k ∷ ks) (t ∷ ts) e =
-    let first : nodes_in nodes k ≡ some_of t = cc in
-    let rest : map (nodes_in nodes) ks ≡ map some_of ts = cc in
-    All-append (λ n. n < length nodes) k (concat ks) (row_below (λ (n : Node). n) nodes k t first) (rows_below nodes ks ts rest)
+-- what holds of the numbers of each row holds of all of them
+pub rows_hold : (P : ℕ → Type 0) (rows : List (List ℕ)) → ((n : ℕ) → n < length rows → All P (row_of rows n)) → All P (concat rows)
+rows_hold P [] each = All-nil P
+rows_hold P (row ∷ rows) each = All-append P row (concat rows) (each 0 (omega arith)) (rows_hold P rows (λ n below. each (suc n) (omega (arith, below))))
 
 module _ (d : Directory) where
   pub alias_past : (j : ℕ) → length d.aliases ≤ j → targets_of d (Alias j) ≡ []

@@ -31,7 +31,7 @@ use Rattle.relay_tables.proofs.Numbers.{length-entries, entry_alias, entry_inclu
 use Rattle.relay_tables.proofs.RowSteps.{row_stays, rows_push}
 use Rattle.relay_tables.proofs.Turning.{map_after}
 use Rattle.relay_tables.proofs.SenderSteps.{of_stays, owned_stays, owned_none}
-use Rattle.relay_tables.proofs.Assembled.{alias_past, include_past, sets_sender, rows_below}
+use Rattle.relay_tables.proofs.Assembled.{alias_past, include_past, sets_sender}
 
 -- nodes that come one by one are distinct, and what is true of each of them stays so
 one_distinct : (nodes : List Node) (n : Node) → AllPairs (λ x y. x ≢ y) nodes → AllPairs (λ x y. x ≢ y) (with_node nodes n)
@@ -317,7 +317,3 @@ module _ (d : Directory) where
               ∙ sets_sender d found.senders (get_or found.owners.items k None) (owner_at d n) s a (r.owned k n below at_k) at_s
               ∙ ap (λ (x : Sender). Some x) (past_owner a n);
         }
-
-    -- all children are nodes
-    pub reach_below : (found : Reach) → IsReach d sender recipients found → All (λ n. n < length found.names.nodes) (concat found.children)
-    reach_below found r = rows_below found.names.nodes found.children (map (targets_of d) (take (length found.children) found.names.nodes)) r.rows

@@ -15,10 +15,10 @@ pub record AreParents (count : ℕ) (children parents : List (List ℕ)) : Type 
   pub few : length children ≤ count
   pub parents_are : parents ≡ map (rows_with children) (range_with_len 0 count)
 
--- What is true of every graph, and of the parents that are kept beside it.
-pub record IsGraphWith (g : GraphParts) (parents : List (List ℕ)) : Type 0 where
+-- What is true of every graph: no more rows than nodes, and all numbers are those of nodes and senders.
+pub record IsGraph (g : GraphParts) : Type 0 where
   pub closed : IsClosedGraph g
-  pub turned : AreParents (length g.nodes) g.children parents
+  pub few_rows : length g.children ≤ length g.nodes
 
 -- the nodes of a directory and recipients, a row for each entry, and the recipients' targets
 pub record AreRows (d : Directory) (recipients : List AddressParts) (nodes : List Node) (rows : List (List ℕ)) (roots : List ℕ) : Type 0 where

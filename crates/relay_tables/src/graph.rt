@@ -1,6 +1,6 @@
 //! The numbered graph of what leads to what.
 ghost use Rattle.std.specs.Prelude.{◌≡◌, ◌<◌, ◌≤◌, ◌^◌, ◌+◌, ◌++◌, length, slice_get, Some, Err, IfOk, OnOk, option_map, option_copied};
-ghost use Rattle.relay_tables.specs.Graphs.{IsClosedGraph, IsGraphOf, IsGraphFrom, nodes_of, owner_count, refusal_of, Refuses, child_numbers, parent_numbers, sender_number_after};
+ghost use Rattle.relay_tables.specs.Graphs.{IsClosedGraph, IsGraphOf, IsGraphFrom, nodes_of, owner_count, refusal_of, Refuses, child_numbers, sender_number_after};
 
 use crate::adjacency::Adjacency;
 use crate::building::{Rows, number_all};
@@ -9,7 +9,6 @@ use crate::node::Node;
 use crate::reaching::{Reach, reach_all};
 use crate::sending::{SenderList, count_owners, number_owners};
 use crate::tables::Tables;
-use crate::transpose::transposed;
 use relay_text::Address;
 use std::alloc::Global;
 use std::marker::Model;
@@ -17,13 +16,12 @@ use std::marker::Model;
 /// The aliases of the tables, the include files and the targets of items and recipients as numbered nodes, and which leads to which; and
 /// the senders that owners give, numbered too. `build` takes all of them, and `reached` what the recipients lead to.
 ///
-/// Children and parents are rows of numbers: 4 bytes for a node of one or none, and for another 12, and 4 for each number. Most nodes
-/// have one, which then takes one read of memory.
+/// Children are rows of numbers: 4 bytes for an entry of one or none, and for another 12, and 4 for each number. Most entries have one,
+/// which then takes one read of memory.
 #[derive(Drop)]
 pub struct Graph {
     nodes: Vec<Node>,
-    children: Adjacency,
-    parents: Adjacency,
+    pub(crate) children: Adjacency,
     roots: Vec<u32>,
     senders: Vec<Option<Address>>,
     owners: Vec<Option<u32>>,
@@ -31,13 +29,13 @@ pub struct Graph {
 
 impl Model for Graph {
     ghost use Rattle.relay_tables.specs.GraphParts.{GraphParts};
-    ghost use Rattle.relay_tables.specs.Building.{IsGraphWith};
+    ghost use Rattle.relay_tables.specs.Building.{IsGraph};
 
     ghost Value = { GraphParts };
 
     ghost view = { λ a. record { nodes = a.nodes.items; children = a.children; roots = a.roots.items; senders = a.senders.items; owners = a.owners.items } };
 
-    ghost invariant = { λ a. IsGraphWith (record { nodes = a.nodes.items; children = a.children; roots = a.roots.items; senders = a.senders.items; owners = a.owners.items }) a.parents };
+    ghost invariant = { λ a. IsGraph (record { nodes = a.nodes.items; children = a.children; roots = a.roots.items; senders = a.senders.items; owners = a.owners.items }) };
 }
 
 impl Graph {
@@ -73,14 +71,11 @@ impl Graph {
             children,
             roots,
         } = rows;
-        let count = nodes.len();
-        let parents = transposed(alloc, &children, count)?;
         let mut senders = SenderList::new(alloc, owned + 1, sender)?;
         let numbers = number_owners(alloc, tables, owned, &mut senders)?;
         Ok(Graph {
             nodes,
             children,
-            parents,
             roots,
             senders: senders.into_vec(),
             owners: numbers,
@@ -107,8 +102,6 @@ impl Graph {
         ensures owners { result ≡ Err TableFault.TooManyOwners → ⊥ }
     {
         let found = reach_all(alloc, tables, sender, recipients, names)?;
-        let count = found.names.len();
-        let parents = transposed(alloc, &found.children, count)?;
         let Reach {
             names: numbering,
             roots,
@@ -120,7 +113,6 @@ impl Graph {
         Ok(Graph {
             nodes: numbering.into_nodes(),
             children,
-            parents,
             roots,
             senders: list.into_vec(),
             owners,
@@ -149,14 +141,6 @@ impl Graph {
         ensures { result.now ≡ child_numbers self.now n }
     {
         self.children.row(n as usize)
-    }
-
-    /// The nodes with this child, ascending, each once.
-    pub fn parents(&self, n: u32) -> &[u32]
-        requires { n < length self.now.nodes }
-        ensures { result.now ≡ parent_numbers self.now n }
-    {
-        self.parents.row(n as usize)
     }
 
     /// The recipients' targets, in the recipients' order, with repeats.

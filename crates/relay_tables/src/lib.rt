@@ -25,6 +25,7 @@ mod sending;
 pub mod tables;
 pub mod target;
 mod transpose;
+pub mod two_way;
 
 pub use counting::{TableCounts, names_are_counted};
 pub use fault::TableFault;
@@ -35,3 +36,4 @@ pub use node::Node;
 pub use parsed::parsed_files;
 pub use tables::Tables;
 pub use target::Target;
+pub use two_way::TwoWayGraph;

@@ -1,32 +1,13 @@
 use Rattle.std.proofs.Common.{arith, ◌≡◌, ◌^◌, ◌<◌, ◌≤◌, List, Err, length, map, ap}
-use Rattle.std.specs.List.{concat}
-use Rattle.std.proofs.lemmas.List.Elements.{All-weaker}
 use Rattle.std.proofs.lemmas.Result.{err_from_is_err_and}
 use Rattle.relay_tables.specs.declared.fault.TableFault.{TableFault}
 use Rattle.relay_tables.specs.GraphParts.{GraphParts}
-use Rattle.relay_tables.specs.Targets.{targets_of}
 use Rattle.relay_tables.specs.Senders.{Sender}
 use Rattle.relay_tables.specs.Graphs.{entry_nodes}
-use Rattle.relay_tables.proofs.Assembled.{rows_below, rows_count, entries_within, graph_is, too_many_owners, not_refused, refused_by}
+use Rattle.relay_tables.proofs.Assembled.{rows_count, entries_within, graph_is, too_many_owners, not_refused, refused_by}
 use Rattle.relay_tables.proofs.ClosedGraphs.{closed_graph}
 use Rattle.relay_tables.proofs.GraphsFrom.{from_whole}
 use Rattle.relay_tables.proofs.graph.Graph.build.Goals as goal
-
-pub transposed-requires-clause-numbers : goal.transposed-requires-clause-numbers
-transposed-requires-clause-numbers c =
-    let r = c.in_ok-rows.rows in
-    let d = c.args.tables.now in
-    let all = rows_below r.nodes.items r.children (map (targets_of d) (entry_nodes d)) c.in_ok-rows.ensures.rows.rows_are in
-    All-weaker (λ n. n < length r.nodes.items) (λ n. n < c.len-count.result) (λ n below. omega (arith, c.len-count.ensures, r.nodes.ok.0)) (concat r.children) all
-
-pub transposed-requires-clause-rows : goal.transposed-requires-clause-rows
-transposed-requires-clause-rows c =
-    let r = c.in_ok-rows.rows in
-    let d = c.args.tables.now in
-    let rs = c.args.recipients.now in
-    let count = rows_count d rs r.nodes.items r.children r.roots.items c.in_ok-rows.ensures.rows in
-    let within = entries_within d rs r.nodes.items r.children r.roots.items c.in_ok-rows.ensures.rows in
-    omega (arith, ap length c.in_ok-rows.ensures.rows.nodes_are, c.in_ok-rows.ensures.within, c.requires.names)
 
 pub returns-in_err-rows-clause-refusal : goal.returns-in_err-rows-clause-refusal
 returns-in_err-rows-clause-refusal c =
@@ -46,7 +27,6 @@ invariant_of-result c =
     let rs = c.args.recipients.now in
     let count = rows_count d rs r.nodes.items r.children r.roots.items c.in_ok-rows.ensures.rows in
     let within = entries_within d rs r.nodes.items r.children r.roots.items c.in_ok-rows.ensures.rows in
-    let size : c.len-count.result ≡ length r.nodes.items = omega (arith, c.len-count.ensures, r.nodes.ok.0) in
     let senders : List Sender = c.number_owners.new.senders in
     let graph = graph_is d rs r.nodes.items r.children r.roots.items c.in_ok-rows.ensures.rows _ senders c.in_ok-numbers.numbers.items
     (c.in_ok-numbers.ensures.owned _ c.in_ok-senders.ensures) c.into_vec.ensures.distinct in
@@ -54,7 +34,7 @@ invariant_of-result c =
     let few_senders : length senders ≤ 2 ^ 32 = omega (arith, c.in_ok-numbers.ensures.few, c.count_owners-owned.ensures, c.if-owned-owners.false, c.requires.owners) in
     record {
       closed = rw c.into_vec.ensures.senders (closed_graph d _ rs _ (from_whole d _ rs _ graph) few_nodes few_senders);
-      turned = record { few = omega arith; parents_are = rw size at c.in_ok-parents.ensures };
+      few_rows = omega (arith, count, within);
     }
 
 pub returns-clause-graph : goal.returns-clause-graph
