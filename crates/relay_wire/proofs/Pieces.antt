@@ -12,6 +12,12 @@ pub spaced_after : (w : List ℕ) (ws : List (List ℕ)) → join_with_byte 32 (
 spaced_after w [] = search (rules, append-nil)
 spaced_after w (x ∷ xs) = ap (λ l. w ++ (32 ∷ l)) (spaced_after x xs)
 
+-- a word behind others, and those behind it
+pub words_behind : (out front word : List ℕ) (ws : List (List ℕ)) → (out ++ (front ++ word)) ++ after_spaces ws ≡ out ++ (front ++ spaced (word ∷ ws))
+words_behind out front word ws =
+    append_assoc out (front ++ word) (after_spaces ws)
+    ∙ ap (λ (l : List ℕ). out ++ l) (append_assoc front word (after_spaces ws) ∙ ap (λ (l : List ℕ). front ++ l) (sym (spaced_after word ws)))
+
 one_more : {X : Type 0} (f : X → List ℕ) (xs : List X) (x : X) → flat_map f (xs ++ x ∷ []) ≡ flat_map f xs ++ f x
 one_more f xs x = rw flat_map-append (ap (λ l. flat_map f xs ++ l) (append-nil (f x)))
 

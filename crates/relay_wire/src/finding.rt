@@ -1,10 +1,10 @@
 //! What a plan reports.
-ghost use Rattle.std.specs.Prelude.{◌≡◌, [], ◌∷◌, ◌++◌, codes, decimal, IfOk, OnOk};
-ghost use Rattle.relay_text.specs.Addresses.{local_text_of};
-ghost use Rattle.relay_wire.specs.Findings.{after_spaces, place_words, reason_words, refusal_words, line_word, finding_words, finding_text_of};
+ghost use Rattle.std.specs.Prelude.{◌≡◌, [], ◌∷◌, ◌++◌, Some, decimal, length, take, IfOk, OnOk, OnErr};
+ghost use Rattle.relay_text.specs.Addresses.{local_text_of, path_text_of};
+ghost use Rattle.relay_wire.specs.Findings.{after_spaces, spaced, place_words, reason_words, line_word, finding_text_of};
 
-use crate::words::{put_name, put_number, put_path, put_word};
-use relay_text::{Address, Text};
+use itoa::Buffer;
+use relay_text::{Address, Text, write_local, write_path};
 use std::alloc::{AllocError, Global};
 
 /// Where an item or a recipient stands.
@@ -80,34 +80,102 @@ pub enum Finding {
 }
 
 impl LineWord {
-    // How a line of the report spells it.
+    // How a line of the report spells it, with the space before it.
     fn text(self) -> &'static [u8]
-        ensures { result.now ≡ line_word self }
+        ensures { result.now ≡ 32 ∷ line_word self }
     {
         match self {
-            LineWord::BadLine => b"badline",
-            LineWord::BadItem => b"baditem",
-            LineWord::Duplicate => b"duplicate",
-            LineWord::Empty => b"empty",
+            LineWord::BadLine => b" badline",
+            LineWord::BadItem => b" baditem",
+            LineWord::Duplicate => b" duplicate",
+            LineWord::Empty => b" empty",
         }
     }
 }
 
+impl Reason {
+    // The word that a finding has for it, with a space before it, and what the transport table says of it, which may be nothing. Where
+    // it says something, the word has a space behind it too.
+    fn words(&self) -> (&'static [u8], &[u8])
+        ensures { result.0.now ++ result.1.now ≡ after_spaces (reason_words self.now) }
+    {
+        match self {
+            Reason::Domain => (b" domain", b""),
+            Reason::MxSelf => (b" mxself", b""),
+            Reason::Transport => (b" transport", b""),
+            Reason::Refused(text) if text.is_empty() => (b" refused", b""),
+            Reason::Refused(text) => (b" refused ", text.as_bytes()),
+            Reason::NullMx => (b" nullmx", b""),
+        }
+    }
+}
+
+// Writes words, and a text behind them.
+fn put_text(words: &[u8], text: &[u8], out: &mut Vec<u8>) -> Result<(), AllocError>
+    ensures ok { OnOk result (out.new.items ≡ out.old.items ++ (words.now ++ text.now)) }
+    ensures kept { take (length out.old.items) out.new.items ≡ out.old.items }
+{
+    out.extend_from_slice(words)?;
+    out.extend_from_slice(text)
+}
+
+// Writes words, and a name behind them, in the one spelling of a local part.
+fn put_local(words: &[u8], name: &[u8], out: &mut Vec<u8>) -> Result<(), AllocError>
+    ensures ok { OnOk result (out.new.items ≡ out.old.items ++ (words.now ++ local_text_of name.now)) }
+    ensures kept { take (length out.old.items) out.new.items ≡ out.old.items }
+{
+    out.extend_from_slice(words)?;
+    write_local(name, out)
+}
+
+// Writes words, the number of a line behind them, and what is wrong with the line.
+fn put_fault(
+    words: &[u8],
+    number: usize,
+    word: LineWord,
+    out: &mut Vec<u8>,
+) -> Result<(), AllocError>
+    ensures ok { OnOk result (out.new.items ≡ out.old.items ++ (words.now ++ spaced (decimal number ∷ line_word word ∷ []))) }
+    ensures kept { take (length out.old.items) out.new.items ≡ out.old.items }
+{
+    out.extend_from_slice(words)?;
+    out.extend_from_slice(Buffer::new().format(number).as_bytes())?;
+    out.extend_from_slice(word.text())
+}
+
 // Writes where an item or a recipient stands.
 fn put_place(place: &Place, out: &mut Vec<u8>) -> Result<(), AllocError>
-    ensures { OnOk result (out.new.items ≡ out.old.items ++ after_spaces (place_words place.now)) }
+    ensures ok { OnOk result (out.new.items ≡ out.old.items ++ after_spaces (place_words place.now)) }
+    ensures kept { take (length out.old.items) out.new.items ≡ out.old.items }
 {
     match place {
-        Place::Alias(name) => {
-            put_word(b"in alias", out)?;
-            put_name(name.as_bytes(), out)
-        }
-        Place::Include(path) => {
-            put_word(b"in include", out)?;
-            put_word(path.as_bytes(), out)
-        }
-        Place::Envelope => put_word(b"in envelope", out),
+        Place::Alias(name) => put_local(b" in alias ", name.as_bytes(), out),
+        Place::Include(path) => put_text(b" in include ", path.as_bytes(), out),
+        Place::Envelope => out.extend_from_slice(b" in envelope"),
     }
+}
+
+// Writes words, the text of an item behind them, and where it stands.
+fn put_item(words: &[u8], text: &[u8], place: &Place, out: &mut Vec<u8>) -> Result<(), AllocError>
+    ensures ok { OnOk result (out.new.items ≡ out.old.items ++ (words.now ++ spaced (text.now ∷ place_words place.now))) }
+    ensures kept { take (length out.old.items) out.new.items ≡ out.old.items }
+{
+    put_text(words, text, out)?;
+    put_place(place, out)
+}
+
+// Writes words, a name that is missing behind them, and where it stands.
+fn put_missing(
+    words: &[u8],
+    name: &[u8],
+    place: &Place,
+    out: &mut Vec<u8>,
+) -> Result<(), AllocError>
+    ensures ok { OnOk result (out.new.items ≡ out.old.items ++ (words.now ++ spaced (local_text_of name.now ∷ place_words place.now))) }
+    ensures kept { take (length out.old.items) out.new.items ≡ out.old.items }
+{
+    put_local(words, name, out)?;
+    put_place(place, out)
 }
 
 /// Puts why an address has no route at the end, in the words of a finding, each with a space before it. `Err` where memory runs out; then
@@ -115,112 +183,78 @@ fn put_place(place: &Place, out: &mut Vec<u8>) -> Result<(), AllocError>
 pub fn put_reason(reason: &Reason, out: &mut Vec<u8>) -> Result<(), AllocError>
     ensures { OnOk result (out.new.items ≡ out.old.items ++ after_spaces (reason_words reason.now)) }
 {
-    match reason {
-        Reason::Domain => put_word(b"domain", out),
-        Reason::MxSelf => put_word(b"mxself", out),
-        Reason::Transport => put_word(b"transport", out),
-        Reason::Refused(text) => put_refusal(text.as_bytes(), out),
-        Reason::NullMx => put_word(b"nullmx", out),
-    }
+    let (word, text) = reason.words();
+    put_text(word, text, out)
 }
 
-// Writes `refused`, and the text where there is one.
-fn put_refusal(text: &[u8], out: &mut Vec<u8>) -> Result<(), AllocError>
-    ensures { OnOk result (out.new.items ≡ out.old.items ++ after_spaces (refusal_words text.now)) }
-{
-    put_word(b"refused", out)?;
-    if text.is_empty() {
-        return Ok(());
-    }
-    put_word(text, out)
-}
-
-// Writes what stands at a place.
-fn put_item(kind: &[u8], text: &[u8], place: &Place, out: &mut Vec<u8>) -> Result<(), AllocError>
-    ensures { OnOk result (out.new.items ≡ out.old.items ++ after_spaces (kind.now ∷ text.now ∷ place_words place.now)) }
-{
-    put_word(kind, out)?;
-    put_word(text, out)?;
-    put_place(place, out)
-}
-
-// Writes what is wrong with the entry of a name.
-fn put_alias(kind: &[u8], name: &[u8], out: &mut Vec<u8>) -> Result<(), AllocError>
-    ensures { OnOk result (out.new.items ≡ out.old.items ++ after_spaces (kind.now ∷ codes "alias" ∷ local_text_of name.now ∷ [])) }
-{
-    put_word(kind, out)?;
-    put_word(b"alias", out)?;
-    put_name(name, out)
-}
-
-// Writes what is wrong with an include file.
-fn put_include(kind: &[u8], path: &[u8], out: &mut Vec<u8>) -> Result<(), AllocError>
-    ensures { OnOk result (out.new.items ≡ out.old.items ++ after_spaces (kind.now ∷ codes "include" ∷ path.now ∷ [])) }
-{
-    put_word(kind, out)?;
-    put_word(b"include", out)?;
-    put_word(path, out)
-}
-
-// Writes words that name a file, the number of a line of it and what is wrong with the line.
-fn put_fault(
+// Writes words, an address without a route behind them, and why it has none.
+fn put_unrouted(
     words: &[u8],
-    number: usize,
-    word: LineWord,
+    address: &Address,
+    reason: &Reason,
     out: &mut Vec<u8>,
 ) -> Result<(), AllocError>
-    ensures { OnOk result (out.new.items ≡ out.old.items ++ (words.now ++ after_spaces (decimal number ∷ line_word word ∷ []))) }
+    ensures ok { OnOk result (out.new.items ≡ out.old.items ++ (words.now ++ path_text_of (Some address.now) ++ after_spaces (reason_words reason.now))) }
+    ensures kept { take (length out.old.items) out.new.items ≡ out.old.items }
 {
+    let (word, text) = reason.words();
     out.extend_from_slice(words)?;
-    put_number(number, out)?;
-    put_word(word.text(), out)
+    write_path(Some(address), out)?;
+    put_text(word, text, out)
 }
 
-// Writes the words of a finding.
+// Writes the line of a finding. The words with which each kind begins stand here alone, each kind's in one piece. Where memory runs out,
+// some front of the line stands behind what was there.
 fn put_finding(finding: &Finding, out: &mut Vec<u8>) -> Result<(), AllocError>
-    ensures { OnOk result (out.new.items ≡ out.old.items ++ after_spaces (finding_words finding.now)) }
+    ensures ok { OnOk result (out.new.items ≡ out.old.items ++ finding_text_of finding.now) }
+    ensures kept { take (length out.old.items) out.new.items ≡ out.old.items }
 {
     match finding {
         Finding::Missing(name, place) => {
-            put_word(b"missing", out)?;
-            put_name(name.as_bytes(), out)?;
-            put_place(place, out)
+            put_missing(b"finding missing ", name.as_bytes(), place, out)
         }
-        Finding::NoInclude(path, place) => put_item(b"noinclude", path.as_bytes(), place, out),
-        Finding::File(path, place) => put_item(b"file", path.as_bytes(), place, out),
-        Finding::Command(text, place) => put_item(b"command", text.as_bytes(), place, out),
-        Finding::EmptyAlias(name) => put_alias(b"empty", name.as_bytes(), out),
-        Finding::EmptyInclude(path) => put_include(b"empty", path.as_bytes(), out),
-        Finding::LoopAlias(name) => put_alias(b"loop", name.as_bytes(), out),
-        Finding::LoopInclude(path) => put_include(b"loop", path.as_bytes(), out),
+        Finding::NoInclude(path, place) => {
+            put_item(b"finding noinclude ", path.as_bytes(), place, out)
+        }
+        Finding::File(path, place) => put_item(b"finding file ", path.as_bytes(), place, out),
+        Finding::Command(text, place) => put_item(b"finding command ", text.as_bytes(), place, out),
+        Finding::EmptyAlias(name) => put_local(b"finding empty alias ", name.as_bytes(), out),
+        Finding::EmptyInclude(path) => put_text(b"finding empty include ", path.as_bytes(), out),
+        Finding::LoopAlias(name) => put_local(b"finding loop alias ", name.as_bytes(), out),
+        Finding::LoopInclude(path) => put_text(b"finding loop include ", path.as_bytes(), out),
         Finding::Unrouted(address, reason) => {
-            put_word(b"unrouted", out)?;
-            put_path(Some(address), out)?;
-            put_reason(reason, out)
+            put_unrouted(b"finding unrouted ", address, reason, out)
         }
-        Finding::Aliases(number, word) => put_fault(b" aliases line", *number, *word, out),
+        Finding::Aliases(number, word) => put_fault(b"finding aliases line ", *number, *word, out),
         Finding::Include(path, number, word) => {
-            put_word(b"include", out)?;
-            put_word(path.as_bytes(), out)?;
-            put_fault(b" line", *number, *word, out)
+            put_text(b"finding include ", path.as_bytes(), out)?;
+            put_fault(b" line ", *number, *word, out)
         }
-        Finding::Mailboxes(number, word) => put_fault(b" mailboxes line", *number, *word, out),
-        Finding::Mx(number, word) => put_fault(b" mx line", *number, *word, out),
-        Finding::Transport(number, word) => put_fault(b" transport line", *number, *word, out),
+        Finding::Mailboxes(number, word) => {
+            put_fault(b"finding mailboxes line ", *number, *word, out)
+        }
+        Finding::Mx(number, word) => put_fault(b"finding mx line ", *number, *word, out),
+        Finding::Transport(number, word) => {
+            put_fault(b"finding transport line ", *number, *word, out)
+        }
     }
+}
+
+/// Puts the line of a finding, without its end, at the end. `Err` where memory runs out; `out` is then as it was.
+pub(crate) fn put_finding_line(finding: &Finding, out: &mut Vec<u8>) -> Result<(), AllocError>
+    ensures ok { OnOk result (out.new.items ≡ out.old.items ++ finding_text_of finding.now) }
+    ensures err { OnErr result (out.new.items ≡ out.old.items) }
+{
+    let before = out.len();
+    let put = put_finding(finding, out);
+    if put.is_err() {
+        out.truncate(before);
+    }
+    put
 }
 
 // Most lines are no longer than this many bytes, and take memory once.
 const USUAL_LEN: usize = 64;
-
-/// Puts the line of a finding, without its end, at the end.
-#[tactic(auto, using(crate::proofs::Pieces::spaced_after))]
-pub(crate) fn put_finding_line(finding: &Finding, out: &mut Vec<u8>) -> Result<(), AllocError>
-    ensures { OnOk result (out.new.items ≡ out.old.items ++ finding_text_of finding.now) }
-{
-    out.extend_from_slice(b"finding")?;
-    put_finding(finding, out)
-}
 
 /// The line of a finding, without its end: words with one space between each two, an alias's name in the one spelling of a local
 /// part, an address as a path.

@@ -4,6 +4,7 @@ ghost use Rattle.relay_text.specs.Addresses.{local_text_of, path_text_of};
 ghost use Rattle.relay_wire.specs.Findings.{after_spaces};
 ghost use Rattle.relay_wire.specs.PlanText.{lines_of};
 
+use crate::lengths::texts_len;
 use itoa::Buffer;
 use relay_text::{Address, Text, write_local, write_path};
 use std::alloc::AllocError;
@@ -52,9 +53,11 @@ pub fn put_count(number: usize, counted: &[u8], out: &mut Vec<u8>) -> Result<(),
 pub fn put_lines(lines: &[Text], out: &mut Vec<u8>) -> Result<(), AllocError>
     ensures { OnOk result (out.new.items ≡ out.old.items ++ lines_of lines.now) }
 {
+    // Room for all at once, so that a line's end is put without a look for room.
+    out.reserve(texts_len(lines, b"\n".len()))?;
     for text in lines {
         out.extend_from_slice(text.as_bytes())?;
-        out.push(b'\n')?;
+        out.push_reserved(b'\n');
     }
     Ok(())
 }
