@@ -12,7 +12,9 @@ use std::alloc::{AllocError, Global};
 const TRANSPORTS: &[u8] =
     b"example.net smtp:[gw.example.com]\n.example.net relay:hub.a-department-with-a-long-name.example.com:2525\npostmaster@example.net lmtp:\n";
 
-const FAULTY_TRANSPORTS: &[u8] = b"  orphan\n* smtp\n* relay:\nexample.net smtp:[gw.example.com]\n";
+/// Long enough for room to be taken ahead of its lines.
+const FAULTY_TRANSPORTS: &[u8] = b"  orphan\n* smtp\n* relay:\nexample.net smtp:[gw.example.com]\n\
+    # A table with as many bytes as this one has room for an entry before its first line is read.\n";
 
 const EXCHANGES: &[u8] = b"hub.a-department-with-a-long-name.example.com A\n";
 

@@ -11,6 +11,7 @@ pub mod StableSorts
 pub mod Numbering
 pub mod MxPlaces
 pub mod MxLookups
+pub mod FieldReadings
 pub mod MxFields
 pub mod FirstHosts
 pub mod Runs

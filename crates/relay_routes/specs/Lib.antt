@@ -12,3 +12,5 @@ pub mod Routes
 pub mod Destinations
 pub mod DecidingLines
 pub mod ExchangerLines
+pub mod Fields
+pub mod FieldReadings

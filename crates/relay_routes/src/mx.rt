@@ -5,6 +5,7 @@ use crate::hosts::Hosts;
 use crate::mx_line::record_in;
 use crate::mx_records::MxRecords;
 use crate::preferences::{before_relay, hosts_in_order, without_null};
+use crate::room::BYTES_FOR_LINE;
 use crate::text_key::key_of;
 use crate::unrouted::Unrouted;
 use relay_text::{KeptLines, Seq, Text, TextSet};
@@ -41,7 +42,7 @@ impl MxTable {
     pub fn parse(alloc: Global, bytes: &[u8]) -> Result<MxTable, AllocError>
         ensures { IfOk result (λ table. table ≡ mx_table_of bytes.now) }
     {
-        let mut records = Vec::new(alloc);
+        let mut records = Vec::with_capacity(alloc, bytes.len() / BYTES_FOR_LINE)?;
         let mut faults: Vec<LineFault> = Vec::new(alloc);
         let mut lines = KeptLines::new(bytes);
         while let Some(line) = lines.next_line() {

@@ -6,39 +6,43 @@ ghost use Rattle.relay_text.specs.Numbers.{number_within};
 ghost use Rattle.relay_routes.specs.Exchanges.{fields_of, record_of, exchange_of, is_exchange_host};
 
 use crate::exchange::Exchange;
+use crate::field::Field;
 use crate::mx_record::MxRecord;
-use relay_text::{Text, begins_with_word, is_domain_name, number_within, trimmed_start};
+use relay_text::{begins_with_word, number_within, trimmed_start};
 use std::alloc::{AllocError, Global};
 
 /// The record that a line spells, `None` where it spells none. `Err` where memory runs out.
 pub(crate) fn record_in(alloc: Global, line: &[u8]) -> Result<Option<MxRecord>, AllocError>
     ensures { IfOk result (λ r. r ≡ record_of (fields_of line.now)) }
 {
-    let Some((domain, rest)) = split_field(line) else {
+    let Some((domain, rest)) = Field::split(line) else {
         return Ok(None);
     };
     let Some((word, rest)) = split_field(rest) else {
         return Ok(None);
     };
     let Some((number, rest)) = split_field(rest) else {
-        return address_record(alloc, domain, word);
+        return address_record(alloc, &domain, word);
     };
-    let Some((host, rest)) = split_field(rest) else {
+    let Some((host, rest)) = Field::split(rest) else {
         return Ok(None);
     };
     if split_field(rest).is_some() {
         return Ok(None);
     }
-    exchange_record(alloc, domain, word, number, host)
+    exchange_record(alloc, &domain, word, number, &host)
 }
 
 /// The record of a line `domain A`.
-fn address_record(alloc: Global, domain: &[u8], word: &[u8]) -> Result<Option<MxRecord>, AllocError>
+fn address_record(
+    alloc: Global,
+    domain: &Field<'_>,
+    word: &[u8],
+) -> Result<Option<MxRecord>, AllocError>
     ensures { IfOk result (λ r. r ≡ record_of (domain.now ∷ word.now ∷ [])) }
 {
-    if is_word(b"a", word) && is_domain_name(domain) {
-        let folded = Text::folded_copy_of(alloc, domain)?;
-        Ok(Some(MxRecord::Address(folded)))
+    if is_word(b"a", word) && domain.is_domain_name() {
+        Ok(Some(MxRecord::Address(domain.folded_copy(alloc)?)))
     } else {
         Ok(None)
     }
@@ -47,10 +51,10 @@ fn address_record(alloc: Global, domain: &[u8], word: &[u8]) -> Result<Option<Mx
 /// The record of a line `domain MX number host`.
 fn exchange_record(
     alloc: Global,
-    domain: &[u8],
+    domain: &Field<'_>,
     word: &[u8],
     number: &[u8],
-    host: &[u8],
+    host: &Field<'_>,
 ) -> Result<Option<MxRecord>, AllocError>
     ensures { IfOk result (λ r. r ≡ record_of (domain.now ∷ word.now ∷ number.now ∷ host.now ∷ [])) }
 {
@@ -58,9 +62,9 @@ fn exchange_record(
         return Ok(None);
     }
     match preference_of(number) {
-        Some(preference) if is_domain_name(domain) && is_exchange_host(preference, host) => {
-            let domain = Text::folded_copy_of(alloc, domain)?;
-            let host = Text::folded_copy_of(alloc, host)?;
+        Some(preference) if domain.is_domain_name() && is_exchange_host(preference, host) => {
+            let domain = domain.folded_copy(alloc)?;
+            let host = host.folded_copy(alloc)?;
             Ok(Some(MxRecord::Mx(Exchange {
                 domain,
                 preference,
@@ -80,10 +84,10 @@ fn preference_of(digits: &[u8]) -> Option<u16>
 }
 
 /// Whether a text is a domain name, or the `.` of the null MX, whose preference is 0 (RFC 7505 section 3).
-fn is_exchange_host(preference: u16, host: &[u8]) -> bool
+fn is_exchange_host(preference: u16, host: &Field<'_>) -> bool
     ensures { result ≡ is_exchange_host preference host.now }
 {
-    is_domain_name(host) || (host == b".".as_slice() && preference == 0)
+    host.is_domain_name() || (host.text() == b".".as_slice() && preference == 0)
 }
 
 /// Whether a text is a word, which is given in lower case; its letters may be in any case.

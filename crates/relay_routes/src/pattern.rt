@@ -1,15 +1,12 @@
 //! Patterns of a transport table, and addresses as its keys.
-ghost use Rattle.std.specs.Prelude.{◌≡◌, ◌&&◌, codes, drop, IfOk};
-ghost use Rattle.relay_text.specs.Bytes.{begins_with};
-ghost use Rattle.relay_text.specs.Addresses.{is_domain_name, is_literal, spelling_of};
+ghost use Rattle.std.specs.Prelude.{◌≡◌, IfOk};
+ghost use Rattle.relay_text.specs.Addresses.{is_literal, spelling_of};
 ghost use Rattle.relay_routes.specs.Transports.{address_key, address_pattern, pattern_of};
 ghost use Rattle.relay_routes.specs.TableSteps.{names_domain};
 
 use crate::copies::folded_text;
-use relay_text::{
-    Text, TextFault, is_domain, is_domain_name, is_literal_content, parse_address, parse_name,
-    write_local,
-};
+use crate::field::Field;
+use relay_text::{Text, TextFault, is_literal_content, parse_address, parse_name, write_local};
 use std::alloc::{AllocError, Global};
 
 /// An address as a key or a pattern: folded, in its one spelling.
@@ -24,25 +21,17 @@ pub(crate) fn address_key(alloc: Global, local: &[u8], domain: &[u8]) -> Result<
     Ok(folded_text(key))
 }
 
-/// The pattern that a text spells (transport(5), "TABLE FORMAT"): `*`, `.` and a domain name, a domain, or an address with a
+/// The pattern that a field spells (transport(5), "TABLE FORMAT"): `*`, `.` and a domain name, a domain, or an address with a
 /// domain. Patterns are folded, and an address has its one spelling.
-pub(crate) fn pattern_of(alloc: Global, text: &[u8]) -> Result<Option<Text>, AllocError>
-    ensures { IfOk result (λ pattern. pattern ≡ pattern_of text.now) }
+#[tactic(auto, unfolding(relay_text::specs::Addresses::is_domain))]
+pub(crate) fn pattern_of(alloc: Global, field: &Field<'_>) -> Result<Option<Text>, AllocError>
+    ensures { IfOk result (λ pattern. pattern ≡ pattern_of field.now) }
 {
-    if text == b"*".as_slice() || is_parent(text) || is_domain(text) {
-        return Ok(Some(Text::folded_copy_of(alloc, text)?));
+    let text = field.text();
+    if field.is_parent() || field.is_domain_name() || text == b"*".as_slice() || is_literal(text) {
+        return Ok(Some(field.folded_copy(alloc)?));
     }
     address_pattern(alloc, text)
-}
-
-/// Whether a text is `.` and a domain name.
-fn is_parent(text: &[u8]) -> bool
-    ensures { result ≡ (begins_with (codes ".") text.now && is_domain_name (drop 1 text.now)) }
-{
-    match text {
-        [b'.', domain @ ..] => is_domain_name(domain),
-        _ => false,
-    }
 }
 
 /// The pattern of an address with a domain.

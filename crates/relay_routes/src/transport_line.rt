@@ -8,11 +8,12 @@ pub struct TransportLine {
     pub result: Text,
 }
 
-ghost use Rattle.std.specs.Prelude.{◌≡◌, ◌≤◌, ◌&&◌, not, length, drop, Some, None, option_map, IfOk, if◌then◌else◌, codes};
-ghost use Rattle.std.specs.List.{list_all, prefix_len};
+ghost use Rattle.std.specs.Prelude.{◌≡◌, ◌&&◌, not, drop, Some, None, option_map, IfOk, if◌then◌else◌, codes};
+ghost use Rattle.std.specs.List.{list_all};
 ghost use Rattle.relay_text.specs.Bytes.{is_white, begins_with};
 ghost use Rattle.relay_routes.specs.Transports.{line_of, is_result, is_result_byte};
 
+use crate::field::Field;
 use crate::pattern::pattern_of;
 use relay_text::trimmed;
 use std::alloc::{AllocError, Global};
@@ -21,12 +22,12 @@ use std::alloc::{AllocError, Global};
 pub(crate) fn line_of(alloc: Global, line: &[u8]) -> Result<Option<TransportLine>, AllocError>
     ensures { IfOk result (λ read. read ≡ line_of line.now) }
 {
-    let (pattern, rest) = line.split_at(pattern_len(line));
-    let result = trimmed(rest);
+    let pattern = Field::at_front(line);
+    let result = trimmed(&line[pattern.text().len()..]);
     if !is_result(result) {
         return Ok(None);
     }
-    let Some(pattern) = pattern_of(alloc, pattern)? else {
+    let Some(pattern) = pattern_of(alloc, &pattern)? else {
         return Ok(None);
     };
     let result = Text::copy_of(alloc, result)?;
@@ -38,16 +39,6 @@ pub(crate) fn refusal(text: &[u8]) -> Option<&[u8]>
     ensures { option_map (λ rest. rest.now) result ≡ (if begins_with (codes "error:") text.now then Some (drop 6 text.now) else None) }
 {
     text.strip_prefix(b"error:")
-}
-
-/// How many bytes stand before the first white space.
-fn pattern_len(line: &[u8]) -> usize
-    ensures len { result ≡ prefix_len (λ b. not (is_white b)) line.now }
-    ensures within { result ≤ length line.now }
-{
-    line.iter()
-        .position(|byte| *byte == b' ' || *byte == b'\t')
-        .unwrap_or(line.len())
 }
 
 /// Whether a text may be a result: bytes that print, and tabs; white space only where it begins with `error:`.

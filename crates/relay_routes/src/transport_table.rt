@@ -34,6 +34,7 @@ ghost use Rattle.relay_routes.specs.TableSteps.{with_line, domain_keys, has_addr
 use crate::choice::Choice;
 use crate::fault::FaultKind;
 use crate::pattern::{address_key, is_literal};
+use crate::room::{BYTES_FOR_HEAD, BYTES_FOR_LINE};
 use crate::text_key::{MOST_TEXTS, key_of};
 use crate::transport_line::line_of;
 use relay_text::{Address, LogicalLine, LogicalLines, split_place};
@@ -46,7 +47,7 @@ impl TransportTable {
         ensures { IfOk result (λ table. table ≡ transport_table_of bytes.now) }
     {
         let mut lines = LogicalLines::new(alloc, bytes)?;
-        let mut table = TransportTable::without_lines(alloc, key_of(bytes), lines.orphans())?;
+        let mut table = TransportTable::without_lines(alloc, bytes, lines.orphans())?;
         let mut joined = Vec::new(alloc);
         while let Some(line) = lines.next_line(&mut joined)? {
             table.add(alloc, line)?;
@@ -163,14 +164,16 @@ impl TransportTable {
         Some(self.entries[number as usize].result.as_bytes())
     }
 
-    /// A table without entries, at fault where lines continue none. The key is that of the hashes of its patterns.
+    /// A table without entries, at fault where lines continue none. Its text gives the key of the hashes of its patterns, and says by its
+    /// length how much room is taken ahead.
     fn without_lines(
         alloc: Global,
-        key: u64,
+        bytes: &[u8],
         orphans: &[usize],
     ) -> Result<TransportTable, AllocError>
         ensures { IfOk result (λ table. table ≡ record { entries = []; faults = map (λ number. fault number BadLine) orphans.now }) }
     {
+        let heads = bytes.len() / BYTES_FOR_HEAD + 1;
         let mut faults = Vec::with_capacity(alloc, orphans.len())?;
         for number in orphans {
             faults.push(LineFault {
@@ -179,8 +182,8 @@ impl TransportTable {
             })?;
         }
         Ok(TransportTable {
-            entries: Vec::new(alloc),
-            patterns: Interner::with_key(alloc, key, 1, MOST_TEXTS)?,
+            entries: Vec::with_capacity(alloc, bytes.len() / BYTES_FOR_LINE)?,
+            patterns: Interner::with_key(alloc, key_of(bytes), heads, MOST_TEXTS)?,
             faults,
             has_addresses: false,
         })
