@@ -1,12 +1,14 @@
 pub mod Faults
-pub mod ContentFacts
 pub mod EnvelopeFacts
 pub mod HeadingFacts
 pub mod JobFacts
 pub mod LineEndFacts
+pub mod LineFeeds
 pub mod ParseFacts
 pub mod TablesFacts
 pub mod PathFacts
+pub mod PathSets
+pub mod PercentLineFacts
 pub mod Rows
 pub mod SectionFacts
 pub mod SettingFacts

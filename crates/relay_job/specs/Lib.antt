@@ -11,3 +11,5 @@ pub mod Reasons
 pub mod LocatedLines
 pub mod RecipientLines
 pub mod Envelopes
+pub mod PercentLines
+pub mod PathSets

@@ -3,7 +3,9 @@ ghost use Rattle.std.specs.Prelude.{◌≡◌, flat_map, IfOk, IfSome};
 ghost use Rattle.relay_job.specs.JobText.{content_of};
 ghost use Rattle.relay_job.specs.Places.{content_at};
 
+use crate::percent_line::percent_line_place;
 use crate::place::Place;
+use crate::raw_line::is_doubled;
 use relay_text::Text;
 use std::alloc::{AllocError, Global};
 
@@ -11,14 +13,11 @@ use std::alloc::{AllocError, Global};
 fn plain_bytes<'a>(section: &Place<'a>) -> Option<&'a [u8]>
     ensures { IfSome result (λ bytes. bytes.now ≡ flat_map (λ l. content_of l.raw) (content_at section.now)) }
 {
-    let mut place = *section;
-    while let Some((line, after)) = place.split_content() {
-        if line.is_doubled() {
-            return None;
-        }
-        place = after;
+    let (front, rest) = section.rest.split_at(percent_line_place(section.rest));
+    if is_doubled(rest) {
+        return None;
     }
-    Some(&section.rest[..section.rest.len() - place.rest.len()])
+    Some(front)
 }
 
 /// The bytes of the section behind a place, each line as it stands for itself. Most sections have no line that begins with `%%`, and

@@ -2,9 +2,9 @@
 use crate::fault::RunFault;
 use crate::heading::Heading;
 use crate::include_place::IncludePlace;
+use crate::path_set::PathSet;
 use crate::place::Place;
 use crate::sections::Sections;
-use relay_text::TextSet;
 use std::alloc::{AllocError, Global};
 
 /// Where the sections and the include files of a job begin.
@@ -14,7 +14,7 @@ pub struct Parts<'a> {
     /// In the order of their headings.
     pub includes: Vec<IncludePlace<'a>>,
     /// Their paths.
-    paths: TextSet,
+    paths: PathSet<'a>,
 }
 
 impl<'a> Parts<'a> {
@@ -32,7 +32,7 @@ impl<'a> Parts<'a> {
         Parts {
             sections: Sections::none(),
             includes: Vec::new(alloc),
-            paths: TextSet::new(alloc),
+            paths: PathSet::new(alloc),
         }
     }
 
@@ -56,7 +56,7 @@ impl<'a> Parts<'a> {
                 Ok(is_new)
             }
             Heading::Include(path) => {
-                let is_new = self.paths.insert(Vec::from_slice(alloc, path)?)?;
+                let is_new = self.paths.insert(path)?;
                 if is_new {
                     self.includes.push(IncludePlace { path, place })?;
                 }
@@ -80,11 +80,14 @@ impl<'a> Parts<'a> {
                 let Some(heading) = Heading::of(line.text()) else {
                     return Err(RunFault::BadJob(line.number));
                 };
-                if !found.take(alloc, heading, place)? {
+                if !found.take(alloc, heading, after)? {
                     return Err(RunFault::BadJob(line.number));
                 }
                 started = true;
-            } else if !started && !line.is_blank() {
+                place = after.before_percent_line();
+            } else if started {
+                place = after.before_percent_line();
+            } else if !line.is_blank() {
                 return Err(RunFault::BadJob(line.number));
             }
         }

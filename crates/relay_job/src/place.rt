@@ -1,6 +1,8 @@
 //! Places in a job.
 ghost use Rattle.std.specs.Prelude.{◌+◌, ◌^◌, ◌<◌, length};
 
+use crate::line_feeds::line_feeds;
+use crate::percent_line::percent_line_place;
 use crate::raw_line::RawLine;
 use relay_text::split_line;
 
@@ -15,9 +17,10 @@ pub struct Place<'a> {
 }
 
 impl<'a> Place<'a> {
-    ghost use Rattle.std.specs.Prelude.{◌≡◌, [], ◌∷◌, ◌++◌, IfSome, IfNone};
+    ghost use Rattle.std.specs.Prelude.{◌≡◌, ◌≤◌, [], ◌∷◌, ◌++◌, IfSome, IfNone};
     ghost use Rattle.relay_job.specs.JobText.{job_lines};
     ghost use Rattle.relay_job.specs.Places.{line_of, lines_at, content_at};
+    ghost use Rattle.relay_job.specs.PercentLines.{from_percent_line};
 
     /// The start of a job.
     pub fn start(bytes: &'a [u8]) -> Place<'a>
@@ -42,6 +45,17 @@ impl<'a> Place<'a> {
         let (raw, rest) = split_line(self.rest)?;
         let number = self.line + 1;
         Some((RawLine { number, raw }, Place { line: number, rest }))
+    }
+
+    /// The place before the next line that begins with `%`, or the job's end. The lines on the way are counted by their LFs, and none of
+    /// them is cut: at the job's end the number is one less where the last line has no LF.
+    pub(crate) fn before_percent_line(&self) -> Place<'a>
+        ensures lines { lines_at result ≡ from_percent_line (lines_at self.now) }
+        ensures no_longer { length result.rest.now ≤ length self.now.rest.now }
+    {
+        let (front, rest) = self.rest.split_at(percent_line_place(self.rest));
+        let line = self.line + line_feeds(front);
+        Place { line, rest }
     }
 
     /// The next line of this section, and the place behind it; `None` at the next heading and at the job's end.

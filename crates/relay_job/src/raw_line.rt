@@ -55,19 +55,12 @@ impl<'a> RawLine<'a> {
         without_end(self.content())
     }
 
-    /// Whether the line begins with `%%`, and so stands for another.
-    pub(crate) fn is_doubled(&self) -> bool
-        ensures { result ≡ begins_with (codes "%%") self.now.raw.now }
-    {
-        matches!(self.raw, [b'%', b'%', ..])
-    }
-
     /// The line's bytes as they stand for themselves: without the first `%` of a leading `%%`.
     pub(crate) fn content(&self) -> &'a [u8]
         ensures bytes { result.now ≡ content_of self.now.raw.now }
         ensures ends_once { length result.now ≤ position_or_len (λ b. b == 10) result.now + 1 }
     {
-        if self.is_doubled() {
+        if is_doubled(self.raw) {
             &self.raw[1..]
         } else {
             self.raw
@@ -75,8 +68,16 @@ impl<'a> RawLine<'a> {
     }
 }
 
-ghost use Rattle.std.specs.Prelude.{◌≡◌, ◌-◌, take, slice_index, if◌then◌else◌};
+ghost use Rattle.std.specs.Prelude.{◌≡◌, ◌-◌, codes, take, slice_index, if◌then◌else◌};
+ghost use Rattle.relay_text.specs.Bytes.{begins_with};
 ghost use Rattle.relay_text.specs.Lines.{line_text};
+
+/// Whether a text begins with `%%`, and so its first line stands for another.
+pub(crate) fn is_doubled(text: &[u8]) -> bool
+    ensures { result ≡ begins_with (codes "%%") text.now }
+{
+    matches!(text, [b'%', b'%', ..])
+}
 
 /// A line without its end, where an LF stands at the line's end or nowhere: no more than the last two bytes are looked at.
 fn without_end(line: &[u8]) -> &[u8]
