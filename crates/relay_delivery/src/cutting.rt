@@ -28,7 +28,7 @@ fn limits_by_key(
     let mut by_key = Vec::with_capacity(alloc, groups.len())?;
     for group in groups {
         let transport = routes[group.route as usize].transport;
-        by_key.push(limits.of(transport))?;
+        by_key.push_reserved(limits.of(transport));
     }
     Ok(by_key)
 }
@@ -52,7 +52,7 @@ pub(crate) fn cut(
     let mut transactions = Vec::with_capacity(alloc, cuts.len())?;
     for t in &cuts {
         let items = t.items.as_slice();
-        transactions.push(planned(alloc, placing, groups[t.key as usize], items)?)?;
+        transactions.push_reserved(planned(alloc, placing, groups[t.key as usize], items)?);
     }
     Ok(transactions)
 }

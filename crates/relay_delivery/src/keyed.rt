@@ -33,10 +33,10 @@ impl Keyed {
             if groups.last().copied() != Some(group) {
                 groups.push(group)?;
             }
-            placed.push(Placed {
+            placed.push_reserved(Placed {
                 key: (groups.len() - 1) as u32,
                 item: stop.recipient,
-            })?;
+            });
         }
         Ok(Keyed { groups, placed })
     }

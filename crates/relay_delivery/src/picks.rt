@@ -14,7 +14,7 @@ pub(crate) fn picked<T: Copy>(
 {
     let mut picks = Vec::with_capacity(alloc, numbers.len())?;
     for number in numbers {
-        picks.push(from[*number as usize])?;
+        picks.push_reserved(from[*number as usize]);
     }
     Ok(picks)
 }

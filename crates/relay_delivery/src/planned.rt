@@ -22,7 +22,7 @@ fn addresses(
 {
     let mut to = Vec::with_capacity(alloc, items.len())?;
     for item in items {
-        to.push(recipients[*item as usize].address.copy(alloc)?)?;
+        to.push_reserved(recipients[*item as usize].address.copy(alloc)?);
     }
     Ok(to)
 }

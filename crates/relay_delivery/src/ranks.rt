@@ -25,7 +25,7 @@ impl Ranks {
         let mut order = Vec::with_capacity(alloc, keys.len())?;
         for (index, key) in keys.iter().enumerate() {
             if index == 0 || *key != keys[index - 1] {
-                order.push(key.number)?;
+                order.push_reserved(key.number);
             }
             place_of[key.number as usize] = (order.len() - 1) as u32;
         }

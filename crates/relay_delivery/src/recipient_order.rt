@@ -31,10 +31,10 @@ pub(crate) fn with_routes<'a>(
 {
     let mut moved = Vec::with_capacity(alloc, recipients.len())?;
     for recipient in recipients {
-        moved.push(Routed {
+        moved.push_reserved(Routed {
             route: route_places[recipient.route as usize],
             address: recipient.address,
-        })?;
+        });
     }
     Ok(moved)
 }
@@ -68,7 +68,7 @@ fn recipient_keys<'t>(
             return Err(AllocError);
         };
         let (path, behind) = split_path(rest, Some(recipient.address));
-        keys.push(SortKey::new(recipient.route, path, number))?;
+        keys.push_reserved(SortKey::new(recipient.route, path, number));
         rest = behind;
     }
     Ok(keys)

@@ -39,7 +39,7 @@ fn route_keys<'t>(alloc: Global, routes: &'t [Route]) -> Result<Vec<SortKey<'t>>
             return Err(AllocError);
         };
         let nexthop = route.nexthop.as_bytes();
-        keys.push(SortKey::new(transport_rank(route.transport), nexthop, number))?;
+        keys.push_reserved(SortKey::new(transport_rank(route.transport), nexthop, number));
     }
     Ok(keys)
 }

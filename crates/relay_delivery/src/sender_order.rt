@@ -48,7 +48,7 @@ fn sender_keys<'t>(
             return Err(AllocError);
         };
         let (path, behind) = split_path(rest, *sender);
-        keys.push(SortKey::new(0, path, number))?;
+        keys.push_reserved(SortKey::new(0, path, number));
         rest = behind;
     }
     Ok(keys)

@@ -86,7 +86,10 @@ loop-t-preserved c =
     let write : GroupNumbers → List ℕ → Planned = planned_of (senders_of p.senders.items) (routes_of p.routes.items) p.recipients.items in
     let group_is = c.index.ensures ∙ get_or_default k.groups.items t.key c.index.result.now no_numbers inside in
     let written = c.in_ok-planned.ensures ∙ ap (λ g. write g c.as_slice-items.result.now) group_is ∙ ap (write (numbers_at k.groups.items t.key)) c.as_slice-items.ensures in
-    written_more (λ (u : Transaction). write (numbers_at k.groups.items u.key) u.items) c.deref-t-items.result.now c.loop-t.t-index t c.loop-t-test.true c.t-item.is c.loop-t.transactions.items c.push.new.self.items c.in_ok-planned.field-0 c.loop-t.invariant written c.in_ok-push.ensures.items
+    record {
+      transactions = written_more (λ (u : Transaction). write (numbers_at k.groups.items u.key) u.items) c.deref-t-items.result.now c.loop-t.t-index t c.loop-t-test.true c.t-item.is c.loop-t.transactions.items c.push_reserved.new.self.items c.in_ok-planned.field-0 c.loop-t.invariant.transactions written c.push_reserved.ensures.items;
+      room = omega (arith, c.loop-t.invariant.room, c.loop-t-test.true, c.push_reserved.ensures.len, c.push_reserved.ensures.capacity);
+    }
 
 pub returns-clause-transactions : goal.returns-clause-transactions
 returns-clause-transactions c =
@@ -97,7 +100,7 @@ returns-clause-transactions c =
     let keyed = subst (λ ps. AreKeyed p.recipients.items p.stops.items k.groups.items ps) (sym c.deref-3.ensures.value) c.in_ok-groups.ensures.keyed in
     let by_key_is = limits_read c.args.limits p.routes.items c.deref.result.now k.groups.items c.deref-2.result.now c.in_ok-by_key.by_key.items c.deref-4.result.now c.deref.ensures.value c.deref-2.ensures.value c.in_ok-by_key.ensures c.deref-4.ensures.value in
     let write : Transaction → Planned = λ t. planned_of (senders_of p.senders.items) (routes_of p.routes.items) p.recipients.items (numbers_at k.groups.items t.key) t.items in
-    let written = l.invariant ∙ ap (map write) (take_all l.t-index c.deref-t-items.result.now c.loop-t-test.false ∙ c.deref-t-items.ensures.value) in
+    let written = l.invariant.transactions ∙ ap (map write) (take_all l.t-index c.deref-t-items.result.now c.loop-t-test.false ∙ c.deref-t-items.ensures.value) in
     written_are p c.requires.order k.groups.items placed keyed c.in_ok-groups.ensures.range c.args.limits c.requires.limits c.deref-4.result.now by_key_is l.transactions.items c.in_ok-cuts.cuts.items c.in_ok-cuts.ensures.batches written
 
 pub returns-clause-sound : goal.returns-clause-sound
@@ -109,7 +112,7 @@ returns-clause-sound c =
     let keyed = subst (λ ps. AreKeyed p.recipients.items p.stops.items k.groups.items ps) (sym c.deref-3.ensures.value) c.in_ok-groups.ensures.keyed in
     let by_key_is = limits_read c.args.limits p.routes.items c.deref.result.now k.groups.items c.deref-2.result.now c.in_ok-by_key.by_key.items c.deref-4.result.now c.deref.ensures.value c.deref-2.ensures.value c.in_ok-by_key.ensures c.deref-4.ensures.value in
     let write : Transaction → Planned = λ t. planned_of (senders_of p.senders.items) (routes_of p.routes.items) p.recipients.items (numbers_at k.groups.items t.key) t.items in
-    let written = l.invariant ∙ ap (map write) (take_all l.t-index c.deref-t-items.result.now c.loop-t-test.false ∙ c.deref-t-items.ensures.value) in
+    let written = l.invariant.transactions ∙ ap (map write) (take_all l.t-index c.deref-t-items.result.now c.loop-t-test.false ∙ c.deref-t-items.ensures.value) in
     written_sound p c.requires.order k.groups.items placed keyed c.in_ok-groups.ensures.range c.args.limits c.requires.limits c.deref-4.result.now by_key_is l.transactions.items c.in_ok-cuts.cuts.items c.in_ok-cuts.ensures.batches written
 
 pub returns-clause-fewest : goal.returns-clause-fewest
@@ -121,5 +124,5 @@ returns-clause-fewest c =
     let keyed = subst (λ ps. AreKeyed p.recipients.items p.stops.items k.groups.items ps) (sym c.deref-3.ensures.value) c.in_ok-groups.ensures.keyed in
     let by_key_is = limits_read c.args.limits p.routes.items c.deref.result.now k.groups.items c.deref-2.result.now c.in_ok-by_key.by_key.items c.deref-4.result.now c.deref.ensures.value c.deref-2.ensures.value c.in_ok-by_key.ensures c.deref-4.ensures.value in
     let write : Transaction → Planned = λ t. planned_of (senders_of p.senders.items) (routes_of p.routes.items) p.recipients.items (numbers_at k.groups.items t.key) t.items in
-    let written = l.invariant ∙ ap (map write) (take_all l.t-index c.deref-t-items.result.now c.loop-t-test.false ∙ c.deref-t-items.ensures.value) in
+    let written = l.invariant.transactions ∙ ap (map write) (take_all l.t-index c.deref-t-items.result.now c.loop-t-test.false ∙ c.deref-t-items.ensures.value) in
     written_fewest p c.requires.order k.groups.items placed keyed c.in_ok-groups.ensures.range c.args.limits c.requires.limits c.deref-4.result.now by_key_is l.transactions.items c.in_ok-cuts.cuts.items c.in_ok-cuts.ensures.batches written c.in_ok-cuts.ensures.fewest

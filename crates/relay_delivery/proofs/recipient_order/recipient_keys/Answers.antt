@@ -41,7 +41,8 @@ loop-index-preserved c =
     let small : i < 2 ^ 32 = omega arith in
     let number : k.number ≡ i = c.new.ensures.number ∙ omega arith in
     record {
-      keys = subst (λ ks. AreSoFar recipient_key (λ (r : Routed). IsTrue (is_address r.address.now)) given ks (i + 1)) (sym c.in_ok-push.ensures.items)
+      keys = subst (λ ks. AreSoFar recipient_key (λ (r : Routed). IsTrue (is_address r.address.now)) given ks (i + 1)) (sym c.push_reserved.ensures.items)
           (so_far_more recipient_key (λ (r : Routed). IsTrue (is_address r.address.now)) given keys i k r c.loop-index.invariant.keys before c.index-recipients-index.is parts number small c.split_path.ensures.valid);
       left = paths_behind senders i x inside is c.loop-index.rest.now c.split_path.result.1.now c.loop-index.invariant.left c.split_path.ensures.behind;
+      room = omega (arith, c.loop-index.invariant.room, before, c.push_reserved.ensures.len, c.push_reserved.ensures.capacity);
     }

@@ -1,4 +1,4 @@
-use Rattle.std.proofs.Common.{◌≡◌, ◌-◌, Vec, Global, [], ◌∷◌, ◌++◌, length, get_or, sym, ap, ◌∙◌, arith}
+use Rattle.std.proofs.Common.{◌≡◌, ◌+◌, ◌-◌, ◌≤◌, Vec, Global, [], ◌∷◌, ◌++◌, length, get_or, vec_capacity, vec_len, sym, ap, ◌∙◌, arith}
 use Rattle.std.specs.List.{slice_get}
 use Rattle.std.specs.Prelude.{option_copied}
 use Rattle.std.specs.Borrow.{Bor}
@@ -24,24 +24,27 @@ loop-stop-preserved c =
     let after = c.if-ne.groups.items in
     let last = c.copied.ensures ∙ c.last.ensures.value ∙ ap (λ gs. slice_get gs (length gs - 1)) c.deref.ensures.value in
     let len_is : c.len-in-loop-stop.result ≡ length after = omega (arith, c.len-in-loop-stop.ensures, c.if-ne.groups.ok.0) in
-    let more_is = c.in_ok-push-2.ensures.items ∙ ap (λ n. l.placed.items ++ record { key = n - 1; item = (get_or read l.stop-index no_stop).recipient } ∷ []) len_is in
+    let more_is = c.push_reserved.ensures.items ∙ ap (λ n. l.placed.items ++ record { key = n - 1; item = (get_or read l.stop-index no_stop).recipient } ∷ []) len_is in
     let senders_are = length-map p.senders.items option_copied in
     let routes_are = length-map p.routes.items (λ (r : Bor Route). r.now) in
+    let room : vec_len c.push_reserved.new.self + (length stops - (l.stop-index + 1)) ≤ vec_capacity c.push_reserved.new.self = omega (arith, l.invariant.room, c.loop-stop-test.true, ap length read_is, c.push_reserved.ensures.len, c.push_reserved.ensures.capacity) in
     elim c.if-ne.branch [
       | then-ne+in_ok-push w ↦
           let is = ap (λ (v : Vec GroupNumbers Global). v.items) w.groups-is ∙ w.in_ok-push.ensures.items in
           record {
             keyed = turn_new senders routes recipients stops c.requires.order l.stop-index l.groups.items l.placed.items l.invariant.keyed read read_is c.loop-stop-test.true c.index.result.now c.index.ensures after
-                c.copied.result last c.push-in-loop-stop.new.self.items more_is (sym c.ne.ensures ∙ w.if-ne.true) is;
+                c.copied.result last c.push_reserved.new.self.items more_is (sym c.ne.ensures ∙ w.if-ne.true) is;
             range = range_new senders routes recipients stops c.requires.order l.stop-index l.groups.items l.placed.items l.invariant.keyed read read_is c.loop-stop-test.true c.index.result.now c.index.ensures after
                 (length p.senders.items) (length p.routes.items) senders_are routes_are l.invariant.range is;
+            room = room;
           }
       | else-ne w ↦
           let is = ap (λ (v : Vec GroupNumbers Global). v.items) w.groups-is in
           record {
             keyed = turn_same senders routes recipients stops c.requires.order l.stop-index l.groups.items l.placed.items l.invariant.keyed read read_is c.loop-stop-test.true c.index.result.now c.index.ensures after
-                c.copied.result last c.push-in-loop-stop.new.self.items more_is (sym c.ne.ensures ∙ w.if-ne.false) is;
+                c.copied.result last c.push_reserved.new.self.items more_is (sym c.ne.ensures ∙ w.if-ne.false) is;
             range = range_same senders routes recipients stops c.requires.order l.stop-index l.groups.items l.placed.items l.invariant.keyed read read_is c.loop-stop-test.true c.index.result.now c.index.ensures after
                 (length p.senders.items) (length p.routes.items) senders_are routes_are l.invariant.range is;
+            room = room;
           }
     ]

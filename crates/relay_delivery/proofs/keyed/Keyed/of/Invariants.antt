@@ -1,4 +1,4 @@
-use Rattle.std.proofs.Common.{◌<◌, length}
+use Rattle.std.proofs.Common.{◌+◌, ◌-◌, ◌<◌, ◌≤◌, length, vec_capacity, vec_len}
 use Rattle.std.specs.List.{All}
 use Rattle.relay_delivery.specs.declared.group_numbers.GroupNumbers.{GroupNumbers}
 use Rattle.relay_delivery.proofs.KeyedSteps.{IsKeyedUpTo}
@@ -8,4 +8,5 @@ abbrev pub invariant-loop-stop : goal.invariant-loop-stop
 invariant-loop-stop l = record {
   keyed : IsKeyedUpTo l.placing.recipients.items l.placing.stops.items l.stop-index l.groups.items l.placed.items;
   range : All (λ (g : GroupNumbers). (g.sender < length l.placing.senders.items) × (g.route < length l.placing.routes.items)) l.groups.items;
+  room : vec_len l.placed + (length l.placing.stops.items - l.stop-index) ≤ vec_capacity l.placed;
 }

@@ -1,8 +1,8 @@
-use Rattle.std.proofs.Common.{◌≡◌, ℕ, ◌-◌, ◌∙◌, List, get_or, sym, ap, subst, arith}
+use Rattle.std.proofs.Common.{◌≡◌, ℕ, ◌+◌, ◌-◌, ◌≤◌, ◌∙◌, List, length, get_or, vec_capacity, vec_len, sym, ap, subst, arith}
 use Rattle.std.proofs.lemmas.Bool.{not-true, not-false}
 use Rattle.relay_delivery.proofs.RankFacts.{AreSorted, IsGrown, parts_of, number_within, grown_first, grown_past, grown_tied, ranked_step, ranked_all}
 use Rattle.relay_delivery.proofs.ranks.Ranks.of.Goals as goal
-use Rattle.relay_delivery.proofs.ranks.Ranks.of.Goals.{then-index-eq0+in_ok-push, then-index-eq0-via-then-index-eq0, then-index-eq0-via-else-index-eq0+then-ne, else-index-eq0+else-ne}
+use Rattle.relay_delivery.proofs.ranks.Ranks.of.Goals.{then-index-eq0, then-index-eq0-via-then-index-eq0, then-index-eq0-via-else-index-eq0+then-ne, else-index-eq0+else-ne}
 
 pub index_mut-requires : goal.index_mut-requires
 index_mut-requires c =
@@ -11,7 +11,7 @@ index_mut-requires c =
     let s : AreSorted keys sorted =
     subst (λ xs. AreSorted keys xs) (sym c.deref-key-items.ensures.value)
     (record { numbered = c.requires.numbered; moved = c.sort_unstable.ensures.permutation; up = c.sort_unstable.ensures.sorted }) in
-    let within = number_within keys sorted s c.loop-index.order.items c.loop-index.place_of.items c.loop-index.index c.loop-index.invariant c.key-item.result c.loop-index-test.true c.key-item.is in
+    let within = number_within keys sorted s c.loop-index.order.items c.loop-index.place_of.items c.loop-index.index c.loop-index.invariant.ranked c.key-item.result c.loop-index-test.true c.key-item.is in
     omega (arith, within, c.loop-index.place_of.ok.0)
 
 pub loop-index-preserved : goal.loop-index-preserved
@@ -21,7 +21,7 @@ loop-index-preserved c =
     let order = c.loop-index.order.items in
     let place_of = c.loop-index.place_of.items in
     let i = c.loop-index.index in
-    let r = c.loop-index.invariant in
+    let r = c.loop-index.invariant.ranked in
     let x = c.key-item.result in
     let inside = c.loop-index-test.true in
     let is = c.key-item.is in
@@ -30,11 +30,20 @@ loop-index-preserved c =
     subst (λ xs. AreSorted keys xs) (sym c.deref-key-items.ensures.value)
     (record { numbered = c.requires.numbered; moved = c.sort_unstable.ensures.permutation; up = c.sort_unstable.ensures.sorted }) in
     let Grown : List ℕ → Type 0 = λ xs. IsGrown (parts_of keys) order xs x i in
+    let room : vec_len c.if-index-eq0.order + (length sorted - (i + 1)) ≤ vec_capacity c.if-index-eq0.order =
+    elim c.if-index-eq0.branch [
+      | then-index-eq0 w ↦
+          (let is_next : c.if-index-eq0.order ≡ w.push_reserved.new.self = w.order-is in
+          omega (arith, c.loop-index.invariant.room, inside, ap vec_len is_next, ap vec_capacity is_next, w.push_reserved.ensures.len, w.push_reserved.ensures.capacity))
+      | else-index-eq0+else-ne w ↦
+          (let is_next : c.if-index-eq0.order ≡ c.loop-index.order = w.order-is in
+          omega (arith, c.loop-index.invariant.room, ap vec_len is_next, ap vec_capacity is_next))
+    ] in
     let grown : Grown next =
     elim c.if-index-eq0.branch [
-      | then-index-eq0+in_ok-push w ↦
-          (let is_next : next ≡ w.push.new.self.items = ap (λ (v : _). v.items) w.order-is in
-          subst Grown (sym (is_next ∙ w.in_ok-push.ensures.items)) (elim w.then-index-eq0.branch [
+      | then-index-eq0 w ↦
+          (let is_next : next ≡ w.push_reserved.new.self.items = ap (λ (v : _). v.items) w.order-is in
+          subst Grown (sym (is_next ∙ w.push_reserved.ensures.items)) (elim w.then-index-eq0.branch [
             | then-index-eq0-via-then-index-eq0 v ↦ grown_first keys sorted s order place_of i r x inside is v.if-index-eq0.true
             | then-index-eq0-via-else-index-eq0+then-ne v ↦
                 grown_past keys sorted s order place_of i r x inside is v.index.result.now (omega (arith, v.if-index-eq0.false))
@@ -48,7 +57,10 @@ loop-index-preserved c =
           (w.index.ensures ∙ ap (λ xs. get_or xs (i - 1) w.index.result.now) (sym c.deref-key-items.ensures.value))
           (not-false _ (sym w.ne.ensures ∙ w.if-ne.false))))
     ] in
-    ranked_step keys sorted s order place_of i r x inside is next c.len-in-loop-index.result (c.len-in-loop-index.ensures ∙ c.if-index-eq0.order.ok.0) grown
+    record {
+      ranked = ranked_step keys sorted s order place_of i r x inside is next c.len-in-loop-index.result (c.len-in-loop-index.ensures ∙ c.if-index-eq0.order.ok.0) grown;
+      room = room;
+    }
 
 pub returns : goal.returns
 returns c =
@@ -57,4 +69,4 @@ returns c =
     let s : AreSorted keys sorted =
     subst (λ xs. AreSorted keys xs) (sym c.deref-key-items.ensures.value)
     (record { numbered = c.requires.numbered; moved = c.sort_unstable.ensures.permutation; up = c.sort_unstable.ensures.sorted }) in
-    ranked_all keys sorted c.loop-index.order.items c.loop-index.place_of.items c.loop-index.index s c.loop-index.invariant c.loop-index-test.false
+    ranked_all keys sorted c.loop-index.order.items c.loop-index.place_of.items c.loop-index.index s c.loop-index.invariant.ranked c.loop-index-test.false
