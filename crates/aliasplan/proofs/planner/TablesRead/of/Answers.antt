@@ -17,7 +17,7 @@ returns-in-Ok-counts_of-clause-read c =
       names = counts.names;
       few = omega (arith, counts.names, counts.within.names, c.requires.limits.names);
       owners = counts.owners;
-      batches = (c.parsed_is_readable.ensures.tables c.args.limits.bytes c.args.job.now c.requires.limits.bytes c.requires.tables).batches;
+      batches = c.parsed_is_readable.ensures.table_batches c.args.limits.bytes c.args.job.now c.requires.tables;
     }
 
 pub returns-in-Ok-counts_of-clause-findings : goal.returns-in-Ok-counts_of-clause-findings
