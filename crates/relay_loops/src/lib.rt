@@ -1,6 +1,7 @@
 //! The nodes that are on a loop.
 //!
-//! One node after another becomes a pivot, unless it has its answer. A search goes from the pivot to children, among the
+//! Nodes that lead to none that leads on are left out first (`leading`): of a job without loops mostly all of them are. Of the others one
+//! after another becomes a pivot, unless it has its answer. A search goes from the pivot to children, among the
 //! nodes that are left: what it comes to is ahead. Where it doesn't come back to the pivot, the pivot is on no loop. Where
 //! it does, another goes from the pivot to parents, among the nodes ahead: what it comes to is around, and that is all
 //! that shares a loop with the pivot. A loop is answered as a whole, so one through a node that is left has such nodes only,
@@ -8,7 +9,7 @@
 //!
 //! # Time
 //!
-//! It matters to the time, and is one in which the whole time is linear in the nodes and edges, whatever the graph: that of
+//! It matters to the time, and is one in which all searches take time linear in the nodes and edges, whatever the graph: that of
 //! Kosaraju's strongly connected components. A walk in depth goes from nodes to their parents, and names each when it
 //! leaves it; the last one named is the first pivot. Nodes that lead to one another are a component. Let an edge lead from
 //! one component into another. Of the latter, the node that the walk comes to first is named behind each node of the former:
