@@ -23,3 +23,4 @@ pub mod TextSets
 pub mod Firsts
 pub mod Sizes
 pub mod PlainTexts
+pub mod LongerTexts

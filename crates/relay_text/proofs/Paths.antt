@@ -196,7 +196,7 @@ not_at c bad b good = elim (cases_Bool (b == c)) [
   | inr e ↦ e
 ]
 
-no_at : (l : List ℕ) → list_all is_plain l ≡ true → list_any (λ b. b == 64) l ≡ false
+pub no_at : (l : List ℕ) → list_all is_plain l ≡ true → list_any (λ b. b == 64) l ≡ false
 no_at [] good = refl
 no_at (b ∷ bs) good =
     let parts : (is_plain b ≡ true) × (list_all is_plain bs ≡ true) = and_parts (is_plain b) (list_all is_plain bs) good in

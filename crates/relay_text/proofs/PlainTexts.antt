@@ -46,14 +46,17 @@ plain_cuts n text good =
     let P : List ℕ → Type 0 = λ t. CutsTo t (take n text) (drop n text) in
     subst P (take-append-drop n text) (cuts_open (take n text) (drop n text) (plain_behind (drop n text) parts.rest) parts.some parts.bytes)
 
-pub plain_passes : (n : ℕ) (text : List ℕ) → IsTrue (is_plain_text n text) → local_check (local_cut text) ≡ Ok tt
-plain_passes n text good =
-    let parts = plain_parts n text good in
+-- behind such a cut stands nothing or an `@`, so that no check of the local part finds a fault
+pub cut_passes : (text local rest : List ℕ) → CutsTo text local rest → Behind rest → local_check (local_cut text) ≡ Ok tt
+cut_passes text local rest cuts behind =
     let none : List Check = [] in
     ap (λ (checks : List Check). checked checks tt) (sym (append-nil (local_checks (local_cut text))))
-    ∙ checks_pass (local_cut text) (take n text) (drop n text) (plain_cuts n text good) (plain_behind (drop n text) parts.rest) none tt
+    ∙ checks_pass (local_cut text) local rest cuts behind none tt
 
-some_left : (n : ℕ) (text : List ℕ) → n < length text → is_empty (drop n text) ≡ false
+pub plain_passes : (n : ℕ) (text : List ℕ) → IsTrue (is_plain_text n text) → local_check (local_cut text) ≡ Ok tt
+plain_passes n text good = cut_passes text (take n text) (drop n text) (plain_cuts n text good) (plain_behind (drop n text) ((plain_parts n text good).rest))
+
+pub some_left : (n : ℕ) (text : List ℕ) → n < length text → is_empty (drop n text) ≡ false
 some_left n text more = by_length (drop n text) (omega (arith, length-drop n text)) where
   by_length : (xs : List ℕ) → 0 < length xs → is_empty xs ≡ false
   by_length [] h = absurd (omega arith)
@@ -249,5 +252,5 @@ front_split bytes text h = elim (cases_Bool (is_empty (run_in Local bytes))) [
   | inr e ↦ split_behind bytes (run_in Local bytes) (drop (run_len Local bytes) bytes) text (sym (take-append-drop (run_len Local bytes) bytes)) (h ∙ rw e refl)
 ]
 
-pub front_whole : (bytes text : List ℕ) → Some text ≡ plain_front bytes → length text ≡ length bytes → text ≡ bytes
-front_whole bytes text h all = sym (append-nil text) ∙ ap (λ (t : List ℕ). text ++ t) (sym (drop_all (length text) bytes (omega (arith, all)))) ∙ front_split bytes text h
+pub front_whole : (bytes text : List ℕ) → Some text ≡ plain_front bytes → length bytes ≤ length text → text ≡ bytes
+front_whole bytes text h all = sym (append-nil text) ∙ ap (λ (t : List ℕ). text ++ t) (sym (drop_all (length text) bytes all)) ∙ front_split bytes text h

@@ -10,7 +10,7 @@ use Rattle.relay_text.specs.declared.run.Part.{Part}
 use Rattle.relay_text.proofs.Writing.{runs_on, runs_from, and_assoc}
 
 -- the bytes at the front that pass a test
-take_more : (q : ℕ → Bool) (b : ℕ) (bs : List ℕ) → q b ≡ true → take (prefix_len q (b ∷ bs)) (b ∷ bs) ≡ b ∷ take (prefix_len q bs) bs
+pub take_more : (q : ℕ → Bool) (b : ℕ) (bs : List ℕ) → q b ≡ true → take (prefix_len q (b ∷ bs)) (b ∷ bs) ≡ b ∷ take (prefix_len q bs) bs
 take_more q b bs h = rw h (let more : 1 + prefix_len q bs ≡ suc (prefix_len q bs) = omega arith in ap (λ k. take k (b ∷ bs)) more)
 
 take_none : (q : ℕ → Bool) (b : ℕ) (bs : List ℕ) → q b ≡ false → take (prefix_len q (b ∷ bs)) (b ∷ bs) ≡ []

@@ -1,8 +1,9 @@
 -- Addresses and names that are written without quotes: a local part of atext and dots, and where an `@` follows it, a domain name.
-use Rattle.std.specs.Prelude.{ℕ, Bool, true, not, ◌&&◌, ◌||◌, ◌==◌, List, [], ◌∷◌, ◌++◌, take, drop, Option, Some, None, if◌then◌else◌}
+use Rattle.std.specs.Prelude.{◌≡◌, ℕ, Bool, true, not, ◌&&◌, ◌||◌, ◌==◌, List, [], ◌∷◌, ◌++◌, take, drop, Option, Some, None, Err, if◌then◌else◌}
 use Rattle.std.specs.List.{list_all}
-use Rattle.relay_text.specs.Addresses.{is_empty}
+use Rattle.relay_text.specs.Addresses.{is_empty, name_of, address_of}
 use Rattle.relay_text.specs.Runs.{run_byte, run_len, run_in, is_joined}
+use Rattle.relay_text.specs.declared.fault.TextFault.{TextFault}
 use Rattle.relay_text.specs.declared.run.Part.TheVariants.{Local, Domain}
 
 -- what may follow the local part
@@ -21,6 +22,10 @@ front_behind local (b ∷ bs) = if b == 64 then (if is_joined Domain (run_in Dom
 
 abbrev pub plain_front : List ℕ → Option (List ℕ)
 plain_front bytes = if is_empty (run_in Local bytes) then None else front_behind (run_in Local bytes) (drop (run_len Local bytes) bytes)
+
+-- that a text has this fault, read as a name and as an address, whatever the origin
+abbrev pub HasFault : TextFault → List ℕ → Type 0
+HasFault fault text = (name_of text ≡ Err fault) × ((origin : List ℕ) → address_of origin text ≡ Err fault)
 
 -- at least one byte, each of which may stand in a local part without quotes, or is `@`
 abbrev pub is_open_byte : ℕ → Bool

@@ -41,6 +41,7 @@ impl Model for Address {
 ghost use Rattle.std.specs.Prelude.{◌≡◌, IsTrue, IfOk, length};
 ghost use Rattle.relay_text.specs.AddressParts.{AddressParts};
 ghost use Rattle.relay_text.specs.Addresses.{is_address, is_dot_string};
+ghost use Rattle.relay_text.specs.Bytes.{folded};
 ghost use Rattle.relay_text.specs.JoinedAddresses.{joined_text_of, parts_at};
 
 impl Address {
@@ -52,6 +53,26 @@ impl Address {
     {
         let text = InlineBytes::joined_of(alloc, (), local, b'@', domain)?;
         Ok(Address::from_joined(text, local.len(), is_dot_string(local)))
+    }
+
+    /// The address of a local part without quotes and escapes, and of a domain as it is spelled, before it is folded. `Err` where memory
+    /// runs out.
+    pub(crate) fn of_spelled(
+        alloc: Global,
+        local: &[u8],
+        domain: &[u8],
+        is_plain: bool,
+    ) -> Result<Address, AllocError>
+        requires plain { is_plain ≡ is_dot_string local.now }
+        requires valid { IsTrue (is_address (record { local = local.now; domain = folded domain.now })) }
+        ensures { IfOk result (λ a. a ≡ record { local = local.now; domain = folded domain.now }) }
+    {
+        let head = AddressHead {
+            local_len: local.len() as u8,
+            is_plain,
+        };
+        let text = InlineBytes::joined_folded_of(alloc, head, local, b'@', domain)?;
+        Ok(Address { text })
     }
 
     /// The address whose local part is the first `local_len` bytes of a text, and whose domain follows the `@` behind it.

@@ -120,6 +120,46 @@ impl<H: Copy, const N: usize> InlineBytes<H, N> {
         }
     }
 
+    /// Copies of two pieces in a row with a byte between them, the second folded. `Err` where memory runs out.
+    pub(crate) fn joined_folded_of(
+        alloc: Global,
+        head: H,
+        front: &[u8],
+        between: u8,
+        back: &[u8],
+    ) -> Result<Self, AllocError>
+        ensures head { IfOk result (λ a. a.head ≡ head) }
+        ensures bytes { IfOk result (λ a. a.bytes ≡ front.now ++ between ∷ folded back.now) }
+    {
+        let len = front.len() + back.len() + 1;
+        if let Some(len) = inline_len(len, N) {
+            return Ok(InlineBytes::short_joined_folded(head, len, front, between, back));
+        }
+        let mut joined = InlineBytes::joined_of(alloc, head, front, between, back)?;
+        joined.fold_from(front.len() + 1);
+        Ok(joined)
+    }
+
+    /// The same of pieces that have few bytes together. All of the room is folded before the front is written over it, since a loop
+    /// of fixed length compiles without a remainder.
+    fn short_joined_folded(head: H, len: u8, front: &[u8], between: u8, back: &[u8]) -> Self
+        requires len { length front.now + length back.now + 1 ≡ len }
+        requires few { len ≤ N }
+        ensures head { result.head ≡ head }
+        ensures bytes { result.bytes ≡ front.now ++ between ∷ folded back.now }
+    {
+        let mut bytes = [0; N];
+        let room = &mut bytes[..];
+        let place = front.len();
+        room[place + 1..place + 1 + back.len()].copy_from_slice(back);
+        room.make_ascii_lowercase();
+        room[..place].copy_from_slice(front);
+        room[place] = between;
+        InlineBytes {
+            kept: Kept::Short { head, len, bytes },
+        }
+    }
+
     /// Copies of these pieces in a row, which have few bytes together.
     fn short(head: H, len: u8, front: &[u8], more: &[u8]) -> Self
         requires len { length front.now + length more.now ≡ len }

@@ -39,8 +39,11 @@ pub fn parse_address(alloc: Global, bytes: &[u8], origin: &[u8]) -> Result<Addre
     ensures spelled { Answers result (address_of origin.now bytes.now) }
     ensures valid { IfOk result (λ a. IsTrue (is_address a)) }
 {
-    if let Some(plain) = PlainText::whole(bytes) {
-        return plain.address(alloc, origin);
+    if let Some(front) = PlainText::at_front(bytes) {
+        if front.text().len() < bytes.len() {
+            return Err(front.fault_of_longer());
+        }
+        return front.address(alloc, origin);
     }
     let cut = Cut::of(bytes);
     cut.check()?;
@@ -90,8 +93,11 @@ pub fn parse_path(alloc: Global, bytes: &[u8], origin: &[u8]) -> Result<Option<A
 pub fn parse_name(alloc: Global, bytes: &[u8]) -> Result<Text, TextFault>
     ensures spelled { Answers result (name_of bytes.now) }
 {
-    if let Some(plain) = PlainText::whole(bytes) {
-        return plain.name(alloc);
+    if let Some(front) = PlainText::at_front(bytes) {
+        if front.text().len() < bytes.len() {
+            return Err(front.fault_of_longer());
+        }
+        return front.name(alloc);
     }
     let cut = Cut::of(bytes);
     cut.check()?;

@@ -2,12 +2,11 @@
 
 use crate::address::Address;
 use crate::fault::TextFault;
-use crate::inline_bytes::InlineBytes;
 use crate::local::written_len;
 use crate::parse::{MAX_DOMAIN, MAX_LOCAL, MAX_PATH};
 use crate::run::{Part, run_at};
 use crate::text::Text;
-use std::alloc::{AllocError, Global};
+use std::alloc::Global;
 use std::marker::Model;
 
 /// A text without quotes: a local part of atext and dots, and where an `@` follows it, a domain name (RFC 5321 section 4.1.2).
@@ -31,10 +30,10 @@ impl<'a> Model for PlainText<'a> {
     ghost invariant = { λ p. (p.local_len ≤ length p.text.now) × IsTrue (is_plain_text p.local_len p.text.now) × (p.is_joined ≡ is_dot_string (take p.local_len p.text.now)) };
 }
 
-ghost use Rattle.std.specs.Prelude.{◌≡◌, ◌∷◌, ◌++◌, IsTrue, unwrap_or, IfSome, IfOk};
+ghost use Rattle.std.specs.Prelude.{◌≡◌, ◌<◌, ℕ, List, length, IsTrue, unwrap_or, IfOk};
 ghost use Rattle.relay_text.specs.Bytes.{folded};
 ghost use Rattle.relay_text.specs.Addresses.{Answers, is_address, is_origin, address_of, name_of, spelled_domain};
-ghost use Rattle.relay_text.specs.PlainTexts.{is_open_text, plain_front};
+ghost use Rattle.relay_text.specs.PlainTexts.{HasFault, is_open_text, plain_front};
 
 impl<'a> PlainText<'a> {
     /// The longest such text at the front of some bytes; `None` where no byte of a local part stands there, or where no domain name
@@ -64,25 +63,24 @@ impl<'a> PlainText<'a> {
         })
     }
 
-    /// All of these bytes, where they are such a text.
-    #[tactic(auto, using(crate::proofs::PlainTexts::front_whole))]
-    pub fn whole(bytes: &'a [u8]) -> Option<PlainText<'a>>
-        ensures { IfSome result (λ text. text ≡ bytes.now) }
-    {
-        let front = PlainText::at_front(bytes)?;
-        if front.text().len() == bytes.len() {
-            Some(front)
-        } else {
-            None
-        }
-    }
-
     /// Its bytes: at least one, each of which is atext, a dot or an `@`.
     pub fn text(&self) -> &'a [u8]
         ensures value { result.now ≡ self.now }
         ensures open { IsTrue (is_open_text self.now) }
     {
         self.text
+    }
+
+    /// The first fault of every longer text with this front, as a name and as an address: behind a domain name stands a byte that it
+    /// can't have, and behind a local part one that is neither its own nor an `@`.
+    pub(crate) fn fault_of_longer(&self) -> TextFault
+        ensures { (bytes : List ℕ) → plain_front bytes ≡ Some self.now → length self.now < length bytes → HasFault result bytes }
+    {
+        if self.local_len < self.text.len() {
+            TextFault::BadDomain
+        } else {
+            TextFault::BadByte
+        }
     }
 
     /// The name that it spells; the faults are `parse_name`'s.
@@ -116,10 +114,10 @@ impl<'a> PlainText<'a> {
         if written_len > MAX_LOCAL || written_len + domain.len() + 3 > MAX_PATH {
             return Err(TextFault::TooLong);
         }
-        let Ok(text) = row(alloc, local, domain) else {
+        let Ok(address) = Address::of_spelled(alloc, local, domain, self.is_joined) else {
             return Err(TextFault::Memory);
         };
-        Ok(Address::from_joined(text, local.len(), self.is_joined))
+        Ok(address)
     }
 }
 
@@ -132,13 +130,4 @@ fn domain_behind<'a>(rest: &'a [u8], origin: &'a [u8]) -> &'a [u8]
         [_, domain @ ..] => domain,
         [] => origin,
     }
-}
-
-/// A local part, `@` and a domain, folded, in a row. `Err` where memory runs out.
-fn row(alloc: Global, local: &[u8], domain: &[u8]) -> Result<InlineBytes<(), 44>, AllocError>
-    ensures { IfOk result (λ text. text.bytes ≡ local.now ++ 64 ∷ folded domain.now) }
-{
-    let mut text = InlineBytes::joined_of(alloc, (), local, b'@', domain)?;
-    text.fold_from(local.len());
-    Ok(text)
 }

@@ -1,18 +1,25 @@
-use Rattle.std.proofs.Common.{◌++◌, ◌∷◌, ◌∙◌, sym, ap, subst, arith, Err, Ok, length}
+use Rattle.std.proofs.Common.{ℕ, List, ◌++◌, ◌∷◌, ◌∙◌, sym, ap, subst, arith, Err, Ok, length}
 use Rattle.std.specs.Bool.{IsTrue}
 use Rattle.std.proofs.lemmas.Result.{err_from_is_err_and}
 use Rattle.relay_text.specs.AddressParts.{AddressParts}
-use Rattle.relay_text.specs.Addresses.{local_of, local_cut, is_bad_domain, spelled_domain, is_address}
+use Rattle.relay_text.specs.Addresses.{Answers, address_of, local_of, local_cut, is_bad_domain, spelled_domain, is_address}
 use Rattle.relay_text.specs.JoinedAddresses.{joined_text_of}
 use Rattle.relay_text.specs.Bytes.{folded}
 use Rattle.relay_text.proofs.Faults.{answers_fault, address-local_fault, address-domain_fault}
 use Rattle.relay_text.proofs.Limits.{check_of, read_of, origin_parts, fault_long_local, fault_long_domain, fault_long_written, fault_long_path, address_of-read, is_address-read, written_is}
 use Rattle.relay_text.proofs.JoinedAddresses.{row_parts}
+use Rattle.relay_text.proofs.PlainTexts.{front_whole}
 use Rattle.relay_text.proofs.parse.parse_address.Goals as goal
 use Rattle.relay_text.proofs.parse.parse_address.Goals.{then-local_len-gt-MAX_LOCAL-via-then-local_len-gt-MAX_LOCAL, then-local_len-gt-MAX_LOCAL-via-else-local_len-gt-MAX_LOCAL+then-domain-gt-MAX_DOMAIN, then-written_len-gt-MAX_LOCAL-via-then-written_len-gt-MAX_LOCAL, then-written_len-gt-MAX_LOCAL-via-else-written_len-gt-MAX_LOCAL+then-written_len-domain-gt-MAX_PATH}
 
 pub domain_in-requires : goal.domain_in-requires
 domain_in-requires c = (origin_parts c.args.origin.now c.requires).1
+
+pub returns-in-Some-clause-spelled : goal.returns-in-Some-clause-spelled
+returns-in-Some-clause-spelled c =
+    let whole = front_whole c.args.bytes.now c.in-Some.front c.in-Some.ensures (omega (arith, ap length c.text.ensures.value, c.if-text-bytes.false)) in
+    let P : List ℕ → Type 0 = λ t. Answers c.address.result (address_of c.args.origin.now t) in
+    subst P whole c.address.ensures.spelled
 
 pub returns-in_err-check-clause-spelled : goal.returns-in_err-check-clause-spelled
 returns-in_err-check-clause-spelled c =

@@ -1,10 +1,17 @@
-use Rattle.std.proofs.Common.{◌≡◌, ◌∙◌, sym, ap, refl, arith, Ok, length}
+use Rattle.std.proofs.Common.{◌≡◌, ◌∙◌, ℕ, List, sym, ap, subst, refl, arith, Ok, length}
 use Rattle.std.proofs.lemmas.Result.{err_from_is_err_and}
-use Rattle.relay_text.specs.Addresses.{local_of, local_cut, local_text_of}
+use Rattle.relay_text.specs.Addresses.{Answers, local_of, local_cut, local_text_of, name_of}
 use Rattle.relay_text.proofs.Faults.{answers_fault, name-local_fault, name-domain_fault, name-too_long, name-ok}
 use Rattle.relay_text.proofs.Limits.{check_of, rest_is, local_too_long, local_fits}
+use Rattle.relay_text.proofs.PlainTexts.{front_whole}
 use Rattle.relay_text.proofs.Writing.{local_text_longer}
 use Rattle.relay_text.proofs.parse.parse_name.Goals as goal
+
+pub returns-in-Some : goal.returns-in-Some
+returns-in-Some c =
+    let whole = front_whole c.args.bytes.now c.in-Some.front c.in-Some.ensures (omega (arith, ap length c.text.ensures.value, c.if-text-bytes.false)) in
+    let P : List ℕ → Type 0 = λ t. Answers c.name.result (name_of t) in
+    record { spelled = subst P whole c.name.ensures }
 
 pub returns-in_err-check : goal.returns-in_err-check
 returns-in_err-check c =
