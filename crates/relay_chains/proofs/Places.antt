@@ -47,6 +47,18 @@ number_of-at same decides keys key d distinct number below here =
     (λ k before. false_from_ne_true _ (λ t. distinct k number d before below (sym ((decides key (get_or keys k d)).0 t) ∙ sym here)))
     ((decides key (get_or keys number d)).1 (sym here))
 
+-- among distinct keys, where the last number that has the key's hash and is the key's is told, it's the key's only one
+pub number_of-last : {X : Type 0} (same : X → X → Bool) → ((a b : X) → Decides (same a b) (a ≡ b)) → (keys : List X) (key d : X) (h : X → ℕ) (found : Option ℕ)
+    → AllPairs (λ a b. a ≢ b) keys
+    → IfSome found (λ k. (k < length (map h keys)) × (get_or (map h keys) k 0 ≡ h key) × (true ≡ same key (get_or keys k d)))
+    → ((k : ℕ) → IfSome found (λ n. n < k) → k < length (map h keys) → get_or (map h keys) k 0 ≡ h key → false ≡ same key (get_or keys k d))
+    → found ≡ number_of same keys key
+number_of-last same decides keys key d h None distinct found after =
+    sym (number_of-none same decides keys key d (λ k below here.
+    both_ways _ (sym (after k tt (omega (arith, length-map keys h)) (get_or-map h keys k d 0 below ∙ ap h here))) ((decides key (get_or keys k d)).1 (sym here))))
+number_of-last same decides keys key d h (Some n) distinct found after =
+    sym (number_of-at same decides keys key d distinct n (omega (arith, found.0, length-map keys h)) (sym ((decides key (get_or keys n d)).0 (sym found.2))))
+
 -- a key that has no number keeps the keys distinct
 pub distinct-push : {X : Type 0} (same : X → X → Bool) → ((a b : X) → Decides (same a b) (a ≡ b)) → (keys : List X) (key : X)
     → AllPairs (λ a b. a ≢ b) keys → number_of same keys key ≡ None → AllPairs (λ a b. a ≢ b) (keys ++ key ∷ [])
@@ -70,31 +82,29 @@ inserts-full same keys limit key none full =
     let given = ap (λ (place : Option ℕ). insertion_at same place keys limit key) none ∙ cond-true _ _ _ (eq-eqb (length keys) limit full) in
     (ap (λ i. i.answer) given, refl)
 
--- where the first number whose hash agrees and that passes is told, it's the place of the first element that passes
-pub position-found : {X : Type 0} (p : X → Bool) (xs : List X) (d : X) (h : X → ℕ) (hash : ℕ) (found : Option ℕ) (Tells : ℕ → Bool → Type 0)
-    → ((x : X) → p x ≡ true → h x ≡ hash) → ((k : ℕ) (b : Bool) → k < length xs → Tells k b → b ≡ p (get_or xs k d))
-    → IfSome found (λ k. (k < length (map h xs)) × (get_or (map h xs) k 0 ≡ hash) × Tells k true)
-    → ((k : ℕ) → k < unwrap_or found (length (map h xs)) → get_or (map h xs) k 0 ≡ hash → Tells k false)
-    → found ≡ position p xs
-position-found p xs d h hash None Tells alike told found before =
-    sym (position-none p xs d (λ k below. false_from_ne_true _ (λ t.
-    both_ways _ (sym (told k false below (before k (omega (arith, length-map xs h)) (get_or-map h xs k d 0 below ∙ alike _ t)))) t)))
-position-found p xs d h hash (Some n) Tells alike told found before =
-    let within : n < length xs = omega (arith, found.0, length-map xs h) in
-    sym (position-at p xs n d within
-    (λ k below. false_from_ne_true _ (λ t. both_ways _ (sym (told k false (omega arith) (before k below (get_or-map h xs k d 0 (omega arith) ∙ alike _ t)))) t))
-    (sym (told n true within found.2)))
-
 -- what a test of the element of a number tells
 told : {X : Type 0} (p : X → Bool) (xs : List X) (d : X) (k : ℕ) (b : Bool) → k < length xs → option_map p (slice_get xs k) ≡ Some b → b ≡ p (get_or xs k d)
 told p xs d k b below tells = sym (same_Some (p (get_or xs k d)) b (ap (option_map p) (sym (slice_get-get_or xs k d below)) ∙ tells))
 
--- the same where the test is told of the elements themselves
+-- the next, with an element to stand where there is none
+position-found : {X : Type 0} (p : X → Bool) (xs : List X) (d : X) (h : X → ℕ) (hash : ℕ) (found : Option ℕ) → ((x : X) → p x ≡ true → h x ≡ hash)
+    → IfSome found (λ k. (k < length (map h xs)) × (get_or (map h xs) k 0 ≡ hash) × (option_map p (slice_get xs k) ≡ Some true))
+    → ((k : ℕ) → k < unwrap_or found (length (map h xs)) → get_or (map h xs) k 0 ≡ hash → option_map p (slice_get xs k) ≡ Some false)
+    → found ≡ position p xs
+position-found p xs d h hash None alike found before =
+    sym (position-none p xs d (λ k below. false_from_ne_true _ (λ t.
+    both_ways _ (sym (told p xs d k false below (before k (omega (arith, length-map xs h)) (get_or-map h xs k d 0 below ∙ alike _ t)))) t)))
+position-found p xs d h hash (Some n) alike found before =
+    let within : n < length xs = omega (arith, found.0, length-map xs h) in
+    sym (position-at p xs n d within
+    (λ k below. false_from_ne_true _ (λ t. both_ways _ (sym (told p xs d k false (omega arith) (before k below (get_or-map h xs k d 0 (omega arith) ∙ alike _ t)))) t))
+    (sym (told p xs d n true within found.2)))
+
+-- where the first number whose hash agrees and that passes is told, it's the place of the first element that passes
 pub position-tested : {X : Type 0} (p : X → Bool) (xs : List X) (h : X → ℕ) (hash : ℕ) (found : Option ℕ) → ((x : X) → p x ≡ true → h x ≡ hash)
     → IfSome found (λ k. (k < length (map h xs)) × (get_or (map h xs) k 0 ≡ hash) × (option_map p (slice_get xs k) ≡ Some true))
     → ((k : ℕ) → k < unwrap_or found (length (map h xs)) → get_or (map h xs) k 0 ≡ hash → option_map p (slice_get xs k) ≡ Some false)
     → found ≡ position p xs
 position-tested p [] h hash None alike found before = refl
 position-tested p [] h hash (Some n) alike found before = absurd (omega (arith, found.0))
-position-tested p (x ∷ xs) h hash found alike tells before =
-    position-found p (x ∷ xs) x h hash found (λ k b. option_map p (slice_get (x ∷ xs) k) ≡ Some b) alike (told p (x ∷ xs) x) tells before
+position-tested p (x ∷ xs) h hash found alike tells before = position-found p (x ∷ xs) x h hash found alike tells before

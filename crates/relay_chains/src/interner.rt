@@ -19,10 +19,10 @@ const ANY_KEY: u64 = 0x243f_6a88_85a3_08d3;
 
 /// A list of distinct texts, of any bytes, numbered from 0 up in the order in which they came.
 ///
-/// A call hashes its text once, under the key, and walks the chain of one bucket, two or three nodes where the hashes spread. Who chooses
-/// the texts and knows the key can put them all in one bucket, and then a call walks all of them: where texts come from strangers,
-/// take a key that they didn't know when they wrote them. Memory is 4 bytes for each head, which are doubled when there are half as
-/// many texts, 16 for each text and the texts' own bytes, which grow by doubling.
+/// A call hashes its text once, under the key, and walks the chain of one bucket from its newest node to the text's own, if there is one:
+/// two or three nodes where the hashes spread. Who chooses the texts and knows the key can put them all in one bucket, and then a call
+/// may walk all of them: where texts come from strangers, take a key that they didn't know when they wrote them. Memory is 4 bytes for
+/// each head, which are doubled when there are half as many texts, 16 for each text and the texts' own bytes, which grow by doubling.
 #[derive(Drop)]
 pub struct Interner {
     links: Links,
@@ -177,9 +177,10 @@ fn search(
     requires cut { AreCut bytes.now ends.now }
     requires hashed { links.now ≡ map (text_hash key) (texts_from bytes.now 0 ends.now) }
     requires hash { hash ≡ text_hash key text.now }
+    requires distinct { AllPairs (λ a b. a ≢ b) (texts_from bytes.now 0 ends.now) }
     ensures { result ≡ number_of bytes_eq (texts_from bytes.now 0 ends.now) text.now }
 {
-    links.find(
+    links.find_last(
         hash,
         |number: u32| -> bool
             requires cut { AreCut bytes.now ends.now }

@@ -109,6 +109,25 @@ impl Links {
         found
     }
 
+    /// The last number under a hash for which the test holds, which is asked of numbers under the hash alone, the newest first.
+    ///
+    /// The search ends there: where no two texts are alike, take this and not `find`, which goes on to the oldest.
+    pub fn find_last<F: Fn(u32) -> bool>(&self, hash: u32, is_sought: F) -> Option<u32>
+        requires { (k : ℕ) → k < length self.now → F.pre is_sought k }
+        ensures found { IfSome result (λ k. (k < length self.now) × (slice_index self.now k ≡ hash) × F.post is_sought k true) }
+        ensures after { (k : ℕ) → IfSome result (λ n. n < k) → k < length self.now → slice_index self.now k ≡ hash → F.post is_sought k false }
+    {
+        let mut word = self.newest(hash);
+        while word != 0 {
+            let number = word - 1;
+            if is_sought(number) {
+                return Some(number);
+            }
+            word = self.older(word, hash);
+        }
+        None
+    }
+
     /// The word of the last number under a hash.
     pub fn newest(&self, hash: u32) -> u32
         ensures { result ≡ last_under self.now hash (length self.now) }

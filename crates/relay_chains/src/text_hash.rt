@@ -1,6 +1,6 @@
 //! Hashes of texts, under a key.
 ghost use Rattle.std.specs.Prelude.{◌≡◌};
-ghost use Rattle.relay_chains.specs.TextHash.{folded, short_word, text_hash};
+ghost use Rattle.relay_chains.specs.TextHash.{folded, last_word, short_word, text_hash};
 
 // An odd number whose bits look drawn at random: the golden ratio's first 64 bits.
 const MULTIPLIER: u64 = 0x9e37_79b9_7f4a_7c15;
@@ -8,8 +8,9 @@ const MULTIPLIER: u64 = 0x9e37_79b9_7f4a_7c15;
 /// The hash of a text under a key.
 ///
 /// Eight bytes at a time are joined to the state by xor, and the halves of the 128 bits of the state's product with a fixed number by
-/// another. Which texts have one hash depends on the key: it isn't known of any two texts that they have one under many keys. Who knows
-/// the key can find such texts at will.
+/// another. The text's last eight bytes come last, of which some or all may have come before; a text of fewer bytes is one word. Which
+/// texts have one hash depends on the key: it isn't known of any two texts that they have one under many keys. Who knows the key can
+/// find such texts at will.
 pub fn hash_text(key: u64, text: &[u8]) -> u32
     ensures { result ≡ text_hash key text.now }
 {
@@ -19,7 +20,7 @@ pub fn hash_text(key: u64, text: &[u8]) -> u32
         state = mixed(state ^ u64::from_le_bytes(*word));
         rest = behind;
     }
-    (mixed(state ^ tail_word(rest)) >> 32) as u32
+    (mixed(state ^ last_word(text)) >> 32) as u32
 }
 
 // Each bit of the state has a part in each bit of this.
@@ -31,8 +32,18 @@ fn mixed(state: u64) -> u64
     (product & 0xFFFF_FFFF_FFFF_FFFF) as u64 ^ (product >> 64) as u64
 }
 
+// The last eight bytes as one number, or all of a text that has fewer.
+fn last_word(text: &[u8]) -> u64
+    ensures { result ≡ last_word text.now }
+{
+    match text.last_chunk::<8>() {
+        Some(word) => u64::from_le_bytes(*word),
+        None => short_word(text),
+    }
+}
+
 // Up to seven bytes as one number.
-fn tail_word(bytes: &[u8]) -> u64
+fn short_word(bytes: &[u8]) -> u64
     ensures { result ≡ short_word bytes.now }
 {
     bytes.iter().fold(

@@ -136,7 +136,7 @@ fn find_number(links: &Links, hash: u32, number: u32) -> Option<u32> {
     links.find(hash, |found| found == number)
 }
 
-// The second of two numbers of one hash is not found before it is there itself, and the first is found first.
+// The second of two numbers of one hash is not found before it is there itself, and the first is found first, or last where the newest is.
 fn push_apart(rt: &impl Abort, links: &mut Links) -> Result<(), AllocError> {
     for (i, (first, _)) in ALIKE.iter().enumerate() {
         let number = 2 * (i as u32);
@@ -146,6 +146,7 @@ fn push_apart(rt: &impl Abort, links: &mut Links) -> Result<(), AllocError> {
         push_hash(rt, links, hash)?;
         expect(rt, find_number(links, hash, number + 1), Some(number + 1));
         expect(rt, links.find(hash, |_| true), Some(number));
+        expect(rt, links.find_last(hash, |_| true), Some(number + 1));
     }
     Ok(())
 }
