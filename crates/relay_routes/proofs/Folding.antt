@@ -8,7 +8,7 @@ use Rattle.relay_text.specs.Bytes.{folded}
 use Rattle.relay_text.specs.Addresses.{is_run_of, is_dot, is_domain_name}
 use Rattle.relay_text.proofs.Folds.{IsFoldable, same_folded, is_run_of-folded, slice_split-folded}
 
-abbrev is_label_byte : ℕ → Bool
+abbrev pub is_label_byte : ℕ → Bool
 is_label_byte b = is_ascii_alphanumeric b || (b == 45) || (b == 95)
 
 is_label_byte-folds : IsFoldable is_label_byte

@@ -20,6 +20,11 @@ found_first es key keys r h = ap (λ o. first_of (o ∷ map (result_at es) keys)
 pub found_next : (es : List TransportLine) (key : List ℕ) (keys : List (List ℕ)) → None ≡ result_at es key → found_result es keys ≡ found_result es (key ∷ keys)
 found_next es key keys h = ap (λ o. first_of (o ∷ map (result_at es) keys)) h
 
+-- no key has a result in a table without entries
+pub found_nothing : (keys : List (List ℕ)) → None ≡ found_result [] keys
+found_nothing [] = refl
+found_nothing (key ∷ keys) = found_nothing keys
+
 pub found_front : (es : List TransportLine) (xs ys : List (List ℕ)) (r : List ℕ) → Some r ≡ found_result es xs → Some r ≡ found_result es (xs ++ ys)
 found_front es [] ys r h = absurd (let bad : ⊥ = cc in bad)
 found_front es (x ∷ xs) ys r h = at (result_at es x) (found_front es xs ys r) h where

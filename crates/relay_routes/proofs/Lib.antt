@@ -3,6 +3,7 @@ pub mod Readings
 pub mod ViaFacts
 pub mod Folding
 pub mod NexthopFacts
+pub mod NameFacts
 pub mod BracketFacts
 pub mod RouteFacts
 pub mod DestinationFacts

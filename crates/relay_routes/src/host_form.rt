@@ -62,6 +62,15 @@ pub(crate) fn after_word<'a>(word: &[u8], text: &'a [u8]) -> Option<&'a [u8]>
 fn named_host(text: &[u8]) -> Option<HostForm<'_>>
     ensures { option_map hosted result ≡ named_host text.now }
 {
+    // Most nexthops are a name alone, and no name has a colon.
+    if is_domain_name(text) {
+        return Some(HostForm {
+            text,
+            host: text,
+            port: b"",
+            looks_up: true,
+        });
+    }
     let (host, port) = text.split_at(place_of(b':', text));
     if is_domain_name(host) && is_port(port) {
         Some(HostForm {

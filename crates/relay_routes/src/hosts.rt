@@ -20,6 +20,7 @@ impl Model for Hosts {
 }
 
 ghost use Rattle.std.specs.Prelude.{◌≡◌, [], ◌∷◌, ◌++◌, ◌==◌, length, map, IfOk, OnOk};
+ghost use Rattle.relay_text.specs.Bytes.{folded};
 
 impl Hosts {
     /// No hosts, without taking memory.
@@ -58,15 +59,19 @@ impl Hosts {
         Ok(())
     }
 
-    /// The hosts, each with the same bytes behind it.
-    pub(crate) fn each_with(self, alloc: Global, more: &[u8]) -> Result<Hosts, AllocError>
-        ensures { IfOk result (λ hosts. hosts ≡ map (λ host. host ++ more.now) self) }
+    /// The hosts, each with a port behind it, which is put into lower case. Without a port they stay as they are.
+    pub(crate) fn each_with_port(self, alloc: Global, port: &[u8]) -> Result<Hosts, AllocError>
+        ensures { IfOk result (λ hosts. hosts ≡ map (λ host. host ++ folded port.now) self) }
     {
+        if port.is_empty() {
+            return Ok(self);
+        }
+        let port = Text::folded_copy_of(alloc, port)?;
         let Hosts { hosts: bare } = self;
         let mut hosts = Hosts::new(alloc);
         for host in bare {
             let mut longer = host;
-            longer.append(alloc, more)?;
+            longer.append(alloc, port.as_bytes())?;
             hosts.push(longer)?;
         }
         Ok(hosts)

@@ -3,52 +3,73 @@ use relay_text::{Text, TextSet};
 use std::alloc::{AllocError, Global};
 use std::marker::Model;
 
-/// Distinct host names in the order in which they came. A set of copies in the order of their bytes finds the repeats: its work is
-/// bounded whatever hosts a table names.
+/// Of up to so many hosts a repeat is looked for among those before it, which takes no memory.
+const FEW_HOSTS: usize = 8;
+
+/// Distinct host names in the order in which they came. Where many may come, a set of copies in the order of their bytes finds the
+/// repeats: its work is bounded whatever hosts a table names.
 #[derive(Drop)]
 pub(crate) struct DistinctHosts {
     hosts: Vec<Text>,
-    seen: TextSet,
+    /// `None` where few come.
+    seen: Option<TextSet>,
 }
 
 impl Model for DistinctHosts {
-    ghost use Rattle.std.specs.Prelude.{◌≡◌, List, ℕ};
+    ghost use Rattle.std.specs.Prelude.{◌≡◌, List, ℕ, IfSome};
     ghost use Rattle.relay_text.specs.Bytes.{has_text};
 
     ghost Value = { List (List ℕ) };
 
     ghost view = { λ a. a.hosts.items };
 
-    ghost invariant = { λ a. (q : List ℕ) → has_text a.seen q ≡ has_text a.hosts.items q };
+    ghost invariant = { λ a. IfSome a.seen (λ seen. (q : List ℕ) → has_text seen q ≡ has_text a.hosts.items q) };
 }
 
-ghost use Rattle.std.specs.Prelude.{◌≡◌, [], OnOk};
+ghost use Rattle.std.specs.Prelude.{◌≡◌, [], IfOk, OnOk};
+ghost use Rattle.relay_text.specs.Bytes.{has_text};
 ghost use Rattle.relay_routes.specs.Preferences.{with_host};
 
 impl DistinctHosts {
-    /// No hosts, without taking memory.
-    pub(crate) fn new(alloc: Global) -> DistinctHosts
-        ensures { result ≡ [] }
+    /// No hosts, with room for so many. `Err` where memory runs out.
+    pub(crate) fn with_room(alloc: Global, count: usize) -> Result<DistinctHosts, AllocError>
+        ensures { IfOk result (λ hosts. hosts ≡ []) }
     {
-        DistinctHosts {
-            hosts: Vec::new(alloc),
-            seen: TextSet::new(alloc),
-        }
+        let seen = if count > FEW_HOSTS {
+            Some(TextSet::new(alloc))
+        } else {
+            None
+        };
+        Ok(DistinctHosts {
+            hosts: Vec::with_capacity(alloc, count)?,
+            seen,
+        })
     }
 
     /// Adds a host, where it isn't there already.
     pub(crate) fn add(&mut self, alloc: Global, host: &[u8]) -> Result<(), AllocError>
         ensures { OnOk result (self.new ≡ with_host self.old host.now) }
     {
-        if self.seen.contains(host) {
+        if self.has(host) {
             return Ok(());
         }
-        let copy = Vec::from_slice(alloc, host)?;
         let text = Text::copy_of(alloc, host)?;
         self.hosts.reserve(1)?;
-        self.seen.insert(copy)?;
+        if let Some(seen) = &mut self.seen {
+            seen.insert(Vec::from_slice(alloc, host)?)?;
+        }
         self.hosts.push_reserved(text);
         Ok(())
+    }
+
+    /// Whether a host is there.
+    fn has(&self, host: &[u8]) -> bool
+        ensures { result ≡ has_text self.now host.now }
+    {
+        match &self.seen {
+            Some(seen) => seen.contains(host),
+            None => self.hosts.iter().any(|text| text.as_bytes() == host),
+        }
     }
 
     pub(crate) fn into_vec(self) -> Vec<Text>

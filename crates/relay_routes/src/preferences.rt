@@ -132,7 +132,7 @@ fn rotated_hosts(alloc: Global, run: &[&Exchange], seed: u64) -> Result<Vec<Text
 fn distinct_hosts(alloc: Global, exchangers: &[&Exchange]) -> Result<Vec<Text>, AllocError>
     ensures { IfOk result (λ hosts. hosts.items ≡ firsts bytes_eq (map (λ e. e.host) (exchanges_of exchangers.now))) }
 {
-    let mut hosts = DistinctHosts::new(alloc);
+    let mut hosts = DistinctHosts::with_room(alloc, exchangers.len())?;
     for exchange in exchangers {
         hosts.add(alloc, exchange.host.as_bytes())?;
     }

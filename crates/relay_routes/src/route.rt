@@ -88,8 +88,7 @@ pub(crate) fn route_to_exchangers(
 ) -> Result<Route, AllocError>
     ensures { IfOk result (λ r. r ≡ route_with transport (hosted form.now) exchangers) }
 {
-    let port = Text::folded_copy_of(alloc, form.port)?;
-    let hosts = exchangers.each_with(alloc, port.as_bytes())?;
+    let hosts = exchangers.each_with_port(alloc, form.port)?;
     Ok(Route {
         transport,
         nexthop: Text::folded_copy_of(alloc, form.text)?,

@@ -86,7 +86,7 @@ impl<'r> RouteFinder<'r> {
             Some(Form::Host(form)) if form.looks_up && !form.port.is_empty() => {
                 self.route_to_port(alloc, transport, &form)
             }
-            _ => self.router.route_to(alloc, transport, nexthop),
+            form => self.router.route_by_form(alloc, transport, form),
         }
     }
 

@@ -35,9 +35,9 @@ impl Model for Router {
     ghost invariant = { λ a. (q : List ℕ) → has_text a.own_names q ≡ has_text a.settings.own_names q };
 }
 
-ghost use Rattle.std.specs.Prelude.{◌≡◌, Some, not, IsTrue, IfOk};
+ghost use Rattle.std.specs.Prelude.{◌≡◌, Some, option_map, not, IsTrue, IfOk};
 ghost use Rattle.relay_text.specs.AddressParts.{AddressParts};
-ghost use Rattle.relay_routes.specs.Forms.{hosted};
+ghost use Rattle.relay_routes.specs.Forms.{hosted, nexthop_from};
 ghost use Rattle.relay_routes.specs.Routes.{Answers, exchangers_of, route_by, route_to, route_of, route_via_of};
 ghost use Rattle.relay_routes.specs.TableSteps.{has_address};
 ghost use Rattle.relay_routes.specs.Destinations.{destination_of, destination_via_of};
@@ -143,7 +143,19 @@ impl Router {
     ) -> Result<Route, Unrouted>
         ensures { Answers result (route_to self.now transport nexthop.now) }
     {
-        match form_of(transport, nexthop) {
+        self.route_by_form(alloc, transport, form_of(transport, nexthop))
+    }
+
+    /// The route by a transport to a nexthop that was read: `None` is one that the transport doesn't take.
+    pub(crate) fn route_by_form(
+        &self,
+        alloc: Global,
+        transport: Transport,
+        form: Option<Form<'_>>,
+    ) -> Result<Route, Unrouted>
+        ensures { Answers result (route_by self.now transport (option_map nexthop_from form.entry)) }
+    {
+        match form {
             Some(Form::Host(form)) => self.route_to_host(alloc, transport, &form),
             Some(Form::Unix(path)) => {
                 let route = route_to_path(alloc, transport, path)?;

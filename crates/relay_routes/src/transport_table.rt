@@ -97,6 +97,9 @@ impl TransportTable {
     ) -> Result<Option<&[u8]>, AllocError>
         ensures { IfOk result (λ found. option_map (λ text. text.now) found ≡ found_result self.now.entries (keys_of address.now delimiter)) }
     {
+        if self.entries.is_empty() {
+            return Ok(None);
+        }
         if !self.has_addresses {
             return Ok(self.found_at_domain(address.domain()));
         }
