@@ -5,5 +5,6 @@ pub mod ScriptParts
 pub mod ScriptText
 pub mod LengthSums
 pub mod Fronts
+pub mod SharedFronts
 pub mod LineOrders
 pub mod LineCuts

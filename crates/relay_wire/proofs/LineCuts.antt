@@ -1,15 +1,11 @@
 -- Lines that stand one behind the other in some bytes.
-use Rattle.std.proofs.Common.{◌≡◌, ℕ, ◌+◌, ◌≤◌, true, false, Bool, ◌||◌, List, [], ◌∷◌, ◌++◌, length, take, drop, refl, sym, ap, subst, arith}
-use Rattle.std.specs.List.{AllByRecursion}
+use Rattle.std.proofs.Common.{◌≡◌, ℕ, ◌+◌, ◌≤◌, true, false, Bool, ◌||◌, List, [], ◌∷◌, ◌++◌, length, take, drop, refl, ap, arith}
 use Rattle.std.specs.Prelude.{sum}
 use Rattle.std.specs.Str.{bytes_eq}
 use Rattle.std.proofs.lemmas.List.{take-append-le, drop-append-le, length-drop, take_all, length-append}
 use Rattle.std.proofs.lemmas.List.Sums.{sum_by-append, sum_by-cons}
 use Rattle.relay_text.specs.Bytes.{has_text}
-use Rattle.relay_wire.specs.declared.finding.Finding.{Finding}
-use Rattle.relay_wire.specs.declared.finding.Finding.TheVariants.{Missing, NoInclude, File, Command, EmptyAlias, EmptyInclude, LoopAlias, LoopInclude, Unrouted, Aliases, Include, Mailboxes, Mx, Transport}
 use Rattle.relay_wire.specs.FindingLines.{AreLines, lines_cut}
-use Rattle.relay_wire.specs.Findings.{BeginsAsFinding, finding_text_of}
 
 no_bytes : (bytes line : List ℕ) → 0 ≡ length bytes → take (length line) (bytes ++ line) ≡ line
 no_bytes [] line e = take_all (length line) line (omega arith)
@@ -27,32 +23,8 @@ lines_cut-push (n ∷ lengths) bytes line whole =
     lines_cut-push lengths (drop n bytes) line (omega (arith, whole, first_and_rest, length-drop n bytes)) in
     rw (first, behind, rest) refl
 
-all_push : (lines : List (List ℕ)) (line : List ℕ) → AllByRecursion BeginsAsFinding lines → BeginsAsFinding line → AllByRecursion BeginsAsFinding (lines ++ line ∷ [])
-all_push [] line all one = (one, tt)
-all_push (l ∷ lines) line all one = (all.0, all_push lines line all.1 one)
-
-pub AreLines-push : (lengths bytes line : List ℕ) → AreLines lengths bytes → BeginsAsFinding line → AreLines (lengths ++ length line ∷ []) (bytes ++ line)
-AreLines-push lengths bytes line are one = (
-  omega (arith, are.0, sum_by-append (λ x. x) lengths (length line ∷ []), sum_by-cons (λ x. x) (length line) [], length-append bytes line),
-  subst (AllByRecursion BeginsAsFinding) (sym (lines_cut-push lengths bytes line are.0)) (all_push (lines_cut lengths bytes) line are.1 one),
-)
-
--- the line of any finding is one of these
-pub finding_begins : (f : Finding) → BeginsAsFinding (finding_text_of f)
-finding_begins (Missing name place) = refl
-finding_begins (NoInclude path place) = refl
-finding_begins (File path place) = refl
-finding_begins (Command text place) = refl
-finding_begins (EmptyAlias name) = refl
-finding_begins (EmptyInclude path) = refl
-finding_begins (LoopAlias name) = refl
-finding_begins (LoopInclude path) = refl
-finding_begins (Unrouted a reason) = refl
-finding_begins (Aliases number word) = refl
-finding_begins (Include path number word) = refl
-finding_begins (Mailboxes number word) = refl
-finding_begins (Mx number word) = refl
-finding_begins (Transport number word) = refl
+pub AreLines-push : (lengths bytes line : List ℕ) → AreLines lengths bytes → AreLines (lengths ++ length line ∷ []) (bytes ++ line)
+AreLines-push lengths bytes line are = omega (arith, are, sum_by-append (λ x. x) lengths (length line ∷ []), sum_by-cons (λ x. x) (length line) [], length-append bytes line)
 
 or_last : (a b : Bool) → (a || (b || false)) ≡ (a || b)
 or_last true b = refl

@@ -1,5 +1,5 @@
 -- The lines that report what is missing, empty, on a loop, unrouted or at fault.
-use Rattle.std.specs.Prelude.{◌≡◌, ℕ, List, [], ◌∷◌, codes, decimal, flat_map, take, Some}
+use Rattle.std.specs.Prelude.{ℕ, List, [], ◌∷◌, codes, decimal, flat_map, Some}
 use Rattle.std.specs.List.{join_with_byte}
 use Rattle.relay_text.specs.Addresses.{local_text_of, path_text_of}
 use Rattle.relay_wire.specs.declared.finding.Place.{Place}
@@ -63,7 +63,3 @@ finding_words (Transport number word) = codes "transport" ∷ line_words number 
 
 abbrev pub finding_text_of : Finding → List ℕ
 finding_text_of f = spaced (codes "finding" ∷ finding_words f)
-
--- what each line of a finding begins with
-abbrev pub BeginsAsFinding : List ℕ → Type 0
-BeginsAsFinding line = take 8 line ≡ codes "finding "

@@ -3,5 +3,7 @@ pub mod Script
 pub mod PlanText
 pub mod Lengths
 pub mod Fronts
+pub mod FrontedLines
+pub mod SharedFronts
 pub mod FindingLines
 pub mod CheckText

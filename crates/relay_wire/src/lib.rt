@@ -12,6 +12,7 @@ mod lengths;
 pub mod plan;
 mod reading;
 pub mod scripts;
+mod shared_front;
 mod sorting;
 pub mod wire;
 mod words;

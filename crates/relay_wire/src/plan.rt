@@ -4,7 +4,7 @@ ghost use Rattle.std.specs.List.{enumerate_from};
 ghost use Rattle.relay_wire.specs.PlanText.{line, lines_of, recipient_count, counts_line, via_line, host_line, host_lines, from_line, to_line, transaction_line, transaction_text, numbered_texts, plan_text_of};
 
 use crate::lengths::plan_len;
-use crate::words::{put_count, put_lines, put_number, put_path, put_word};
+use crate::words::{put_count, put_each_line, put_number, put_path, put_word};
 use relay_routes::{Hosts, Transport};
 use relay_text::{Address, Seq, Text, write_path};
 use std::alloc::{AllocError, Global};
@@ -173,7 +173,7 @@ pub fn plan_text(alloc: Global, plan: &Plan) -> Result<Text, AllocError>
         &mut out,
     )?;
     put_transactions(plan.transactions.as_slice(), &mut out)?;
-    put_lines(plan.findings.as_slice(), &mut out)?;
+    put_each_line(plan.findings.as_slice(), &mut out)?;
     out.extend_from_slice(b"end\n")?;
     Ok(Text::of(out))
 }

@@ -5,7 +5,7 @@ ghost use Rattle.relay_wire.specs.PlanText.{line, numbered_texts, script_line, s
 
 use crate::lengths::{script_len, wire_len};
 use crate::plan::{Plan, Planned, put_counts, put_route, put_transaction_line, recipient_count};
-use crate::words::{put_lines, put_number};
+use crate::words::{put_each_line, put_number};
 use crate::writing::put_script;
 use relay_text::Text;
 use std::alloc::{AllocError, Global};
@@ -76,7 +76,7 @@ pub fn wire_text(alloc: Global, plan: &Plan) -> Result<Text, AllocError>
         plan.hostname.as_bytes(),
         &mut out,
     )?;
-    put_lines(plan.findings.as_slice(), &mut out)?;
+    put_each_line(plan.findings.as_slice(), &mut out)?;
     out.extend_from_slice(b"end\n")?;
     Ok(Text::of(out))
 }

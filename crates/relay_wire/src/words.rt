@@ -53,11 +53,18 @@ pub fn put_count(number: usize, counted: &[u8], out: &mut Vec<u8>) -> Result<(),
 pub fn put_lines(lines: &[Text], out: &mut Vec<u8>) -> Result<(), AllocError>
     ensures { OnOk result (out.new.items ≡ out.old.items ++ lines_of lines.now) }
 {
-    // Room for all at once, so that a line's end is put without a look for room.
+    // Room for all at once, so that none of them moves what is there.
     out.reserve(texts_len(lines, b"\n".len()))?;
+    put_each_line(lines, out)
+}
+
+/// Puts lines at the end as `put_lines` does, where their room was reckoned before. `Err` as in `put_word`.
+pub(crate) fn put_each_line(lines: &[Text], out: &mut Vec<u8>) -> Result<(), AllocError>
+    ensures { OnOk result (out.new.items ≡ out.old.items ++ lines_of lines.now) }
+{
     for text in lines {
         out.extend_from_slice(text.as_bytes())?;
-        out.push_reserved(b'\n');
+        out.push(b'\n')?;
     }
     Ok(())
 }
