@@ -2,6 +2,7 @@ pub mod KeyFacts
 pub mod PickFacts
 pub mod PlaceFacts
 pub mod KeyOrder
+pub mod GroupFacts
 pub mod RankFacts
 pub mod RecipientFacts
 pub mod RouteFacts

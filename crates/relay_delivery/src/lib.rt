@@ -6,13 +6,16 @@
 //! many follows from what relay_rings says of its batches.
 #![tactic(auto)]
 
+mod by;
 mod counting;
 mod cutting;
 mod delivery;
 mod group_numbers;
+mod key_groups;
 mod keyed;
 mod limits;
 mod marks;
+mod numbering;
 mod picks;
 mod placing;
 mod planned;

@@ -2,6 +2,7 @@
 ghost use Rattle.std.specs.Prelude.{◌≤◌, ◌^◌, map, length, IfOk};
 ghost use Rattle.relay_delivery.specs.Ranks.{key_parts, AreNumbered, AreRanks};
 
+use crate::key_groups::sorted;
 use crate::sort_key::SortKey;
 use std::alloc::{AllocError, Global};
 
@@ -19,8 +20,7 @@ impl Ranks {
         requires few { length keys.items ≤ 2 ^ 32 }
         ensures { IfOk result (λ ranks. AreRanks (map key_parts keys.entry.items) ranks.order.items ranks.place_of.items) }
     {
-        let mut keys = keys;
-        keys.sort_unstable();
+        let keys = sorted(alloc, keys)?;
         let mut place_of = vec![in alloc; 0; keys.len()]?;
         let mut order = Vec::with_capacity(alloc, keys.len())?;
         for (index, key) in keys.iter().enumerate() {

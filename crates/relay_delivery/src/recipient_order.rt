@@ -1,5 +1,5 @@
 //! Recipients in the order of their routes and their written paths.
-ghost use Rattle.std.specs.Prelude.{◌≡◌, ◌<◌, ◌≤◌, ◌^◌, length, map, All, IfOk, IsTrue};
+ghost use Rattle.std.specs.Prelude.{◌≡◌, ◌<◌, ◌≤◌, ◌^◌, length, map, min, All, IfOk, IsTrue};
 ghost use Rattle.relay_text.specs.Addresses.{is_address};
 ghost use Rattle.relay_delivery.specs.Ranks.{AreKeysOf};
 ghost use Rattle.relay_delivery.specs.Orders.{recipient_key, sender_of, moved_to, AreRecipientsInOrder};
@@ -10,7 +10,7 @@ use crate::ranks::Ranks;
 use crate::routed::Routed;
 use crate::sort_key::SortKey;
 use crate::written_path::split_path;
-use relay_text::{one_spelling, write_path};
+use relay_text::{one_spelling, path_len, write_path};
 use std::alloc::{AllocError, Global};
 
 /// Recipients in order, each once, and where each of them stands there, by its old number.
@@ -39,11 +39,22 @@ pub(crate) fn with_routes<'a>(
     Ok(moved)
 }
 
+/// How many octets the written paths of recipients have, or the largest `usize` where they have more.
+fn paths_len(recipients: &[Routed]) -> usize
+    ensures { result ≡ min (length (paths_of (map sender_of recipients.now))) usize.MAX }
+{
+    let mut len = 0usize;
+    for recipient in recipients {
+        len = len.saturating_add(path_len(Some(recipient.address)));
+    }
+    len
+}
+
 /// The written paths of recipients, one behind the other.
 fn recipient_paths(alloc: Global, recipients: &[Routed]) -> Result<Vec<u8>, AllocError>
     ensures { IfOk result (λ paths. paths.items ≡ paths_of (map sender_of recipients.now)) }
 {
-    let mut paths = Vec::new(alloc);
+    let mut paths = Vec::with_capacity(alloc, paths_len(recipients))?;
     for recipient in recipients {
         write_path(Some(recipient.address), &mut paths)?;
     }

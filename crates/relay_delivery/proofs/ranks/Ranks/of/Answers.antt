@@ -1,5 +1,6 @@
-use Rattle.std.proofs.Common.{◌≡◌, ℕ, ◌+◌, ◌-◌, ◌≤◌, ◌∙◌, List, length, get_or, vec_capacity, vec_len, sym, ap, subst, arith}
+use Rattle.std.proofs.Common.{◌≡◌, ℕ, ◌+◌, ◌-◌, ◌≤◌, ◌∙◌, List, length, get_or, vec_capacity, vec_len, sym, ap, subst, arith, rules}
 use Rattle.std.proofs.lemmas.Bool.{not-true, not-false}
+use Rattle.std.proofs.lemmas.List.Sorted.{length_permutation}
 use Rattle.relay_delivery.proofs.RankFacts.{AreSorted, IsGrown, parts_of, number_within, grown_first, grown_past, grown_tied, ranked_step, ranked_all}
 use Rattle.relay_delivery.proofs.ranks.Ranks.of.Goals as goal
 use Rattle.relay_delivery.proofs.ranks.Ranks.of.Goals.{then-index-eq0, then-index-eq0-via-then-index-eq0, then-index-eq0-via-else-index-eq0+then-ne, else-index-eq0+else-ne}
@@ -10,9 +11,14 @@ index_mut-requires c =
     let sorted = c.deref-key-items.result.now in
     let s : AreSorted keys sorted =
     subst (λ xs. AreSorted keys xs) (sym c.deref-key-items.ensures.value)
-    (record { numbered = c.requires.numbered; moved = c.sort_unstable.ensures.permutation; up = c.sort_unstable.ensures.sorted }) in
+    (record { numbered = c.requires.numbered; moved = c.in_ok-keys.ensures.permutation; up = c.in_ok-keys.ensures.sorted }) in
     let within = number_within keys sorted s c.loop-index.order.items c.loop-index.place_of.items c.loop-index.index c.loop-index.invariant.ranked c.key-item.result c.loop-index-test.true c.key-item.is in
     omega (arith, within, c.loop-index.place_of.ok.0)
+
+pub overflow_cast-len : goal.overflow_cast-len
+overflow_cast-len c =
+    let same : length c.in_ok-keys.keys.items ≡ length c.args.keys.items = length_permutation c.args.keys.items c.in_ok-keys.keys.items c.in_ok-keys.ensures.permutation in
+    search rules
 
 pub loop-index-preserved : goal.loop-index-preserved
 loop-index-preserved c =
@@ -28,7 +34,7 @@ loop-index-preserved c =
     let next = c.if-index-eq0.order.items in
     let s : AreSorted keys sorted =
     subst (λ xs. AreSorted keys xs) (sym c.deref-key-items.ensures.value)
-    (record { numbered = c.requires.numbered; moved = c.sort_unstable.ensures.permutation; up = c.sort_unstable.ensures.sorted }) in
+    (record { numbered = c.requires.numbered; moved = c.in_ok-keys.ensures.permutation; up = c.in_ok-keys.ensures.sorted }) in
     let Grown : List ℕ → Type 0 = λ xs. IsGrown (parts_of keys) order xs x i in
     let room : vec_len c.if-index-eq0.order + (length sorted - (i + 1)) ≤ vec_capacity c.if-index-eq0.order =
     elim c.if-index-eq0.branch [
@@ -68,5 +74,5 @@ returns c =
     let sorted = c.deref-key-items.result.now in
     let s : AreSorted keys sorted =
     subst (λ xs. AreSorted keys xs) (sym c.deref-key-items.ensures.value)
-    (record { numbered = c.requires.numbered; moved = c.sort_unstable.ensures.permutation; up = c.sort_unstable.ensures.sorted }) in
+    (record { numbered = c.requires.numbered; moved = c.in_ok-keys.ensures.permutation; up = c.in_ok-keys.ensures.sorted }) in
     ranked_all keys sorted c.loop-index.order.items c.loop-index.place_of.items c.loop-index.index s c.loop-index.invariant.ranked c.loop-index-test.false
