@@ -9,8 +9,11 @@ use relay_job::RunFault;
 use relay_text::Text;
 use std::alloc::{AllocError, Global};
 
-/// How many bytes one read asks for at most.
-const CHUNK: usize = 65536;
+/// How many bytes one read asks for at most: few enough that they are still in the nearest cache when they are put behind the rest.
+const CHUNK: usize = 2048;
+
+/// For how many bytes there is room before the first read: most jobs are shorter, and of room that isn't filled no memory is touched.
+const FIRST_ROOM: usize = 1 << 20;
 
 // Room for some bytes.
 fn room_for(alloc: Global, len: usize) -> Result<Vec<u8>, AllocError>
@@ -57,7 +60,7 @@ pub fn read_job<F: Feed>(alloc: Global, reader: &mut F, max: usize) -> Result<Te
     ensures only { IfErr result (λ fault. IsReadFault fault) }
 {
     let mut chunk = room_for(alloc, CHUNK)?;
-    let mut text: Vec<u8> = Vec::new(alloc);
+    let mut text: Vec<u8> = Vec::with_capacity(alloc, FIRST_ROOM)?;
     for _ in 0..max + 1 {
         let room = (max + 1 - text.len()).min(chunk.len());
         let count = read_some(reader, &mut chunk[..room], &mut text)?;

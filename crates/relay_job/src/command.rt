@@ -1,6 +1,6 @@
 //! Commands of an envelope.
 use crate::place::Place;
-use relay_text::{Address, TextFault, begins_with_word, parse_path, trimmed_end};
+use relay_text::{Address, TextFault, begins_with_word, parse_path, same_bytes, trimmed_end};
 use std::alloc::{AllocError, Global};
 
 /// A line of an envelope that isn't of white space alone: its number, and its text as it stands for itself.
@@ -28,7 +28,10 @@ fn is_blank(text: &[u8]) -> bool
 fn begins_with_capitals(line: &[u8]) -> bool
     ensures { result ≡ true → begins_with_word (codes "rcpt to:") line.now ≡ true }
 {
-    matches!(line, [b'R', b'C', b'P', b'T', b' ', b'T', b'O', b':', ..])
+    match line.split_first_chunk::<8>() {
+        Some((front, _)) => same_bytes(front, b"RCPT TO:"),
+        None => false,
+    }
 }
 
 /// The path that stands behind a command's word; `None` where none does.

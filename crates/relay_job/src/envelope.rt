@@ -6,6 +6,9 @@ use crate::reason::Reason;
 use relay_text::{Address, Seq};
 use std::alloc::{AllocError, Global};
 
+/// Of how many bytes of an envelope one is a recipient's line: few lines are longer, and where many are shorter, their memory grows.
+const BYTES_FOR_RECIPIENT: usize = 64;
+
 /// The sender, none for the null path, and the recipients of an envelope (RFC 5321 section 4.1.1).
 #[derive(Drop)]
 pub struct Envelope {
@@ -32,7 +35,7 @@ fn read_recipients(
     ensures unbroken { IfOk result (λ recipients. bad_recipients origin.now (commands_at section.entry) ≡ []) }
     ensures err { IfErr result (λ fault. Stops (option_map RunFault.BadEnvelope (slice_get (bad_recipients origin.now (commands_at section.entry)) 0)) fault) }
 {
-    let mut recipients = Vec::new(alloc);
+    let mut recipients = Vec::with_capacity(alloc, section.rest.len() / BYTES_FOR_RECIPIENT)?;
     let mut place = section;
     while let Some((command, after)) = Command::split_from(&place) {
         place = after;

@@ -1,5 +1,6 @@
 //! The lines of what entries and recipients lead to and shouldn't.
-ghost use Rattle.std.specs.Prelude.{◌≡◌, ◌<◌, ℕ, List, None, length, All, IsTrue, OnOk};
+ghost use Rattle.std.specs.Prelude.{◌≡◌, ◌<◌, ℕ, List, None, false, length, All, IsTrue, OnOk};
+ghost use Rattle.relay_tables.specs.Directory.{Directory};
 ghost use Rattle.relay_tables.specs.Graphs.{child_numbers};
 ghost use Rattle.relay_loops.specs.Loops.{AreLoopsOf};
 ghost use Rattle.relay_planning.specs.Delivery.{directory_of, IsJobPart};
@@ -7,7 +8,7 @@ ghost use Rattle.relay_planning.specs.Reaching.{AreReachedNodes};
 ghost use Rattle.relay_planning.specs.Report.{IsLineOf};
 ghost use Rattle.relay_planning.specs.Report.{entries};
 ghost use Rattle.relay_wire.specs.declared.finding.Place as places;
-ghost use Rattle.relay_planning.specs.Listing.{place_at, target_finding};
+ghost use Rattle.relay_planning.specs.Listing.{place_at, place_of, target_finding};
 ghost use Rattle.relay_planning.specs.Findings.{Reports};
 ghost use Rattle.relay_planning.specs.Entries.{LeadsWithin, IsLineIn, HaveLine, IsTargetLine, IsListLine, IsNodeLine, IsLoopLine};
 
@@ -56,6 +57,20 @@ fn are_reachable(graph: &Graph, targets: &[u32]) -> bool
     !targets.is_empty()
 }
 
+/// Adds the line of a target of a listing to which no mail can go, nor on from it.
+#[inline(never)]
+fn report_lost(
+    alloc: Global,
+    listing: Listing,
+    target: &Node,
+    lines: &mut FindingLines,
+) -> Result<(), AllocError>
+    ensures { OnOk result (Reports lines.old lines.new (IsLineIn (target_finding (place_at listing.entry) target.now))) }
+{
+    let finding = listing.target(alloc, target)?;
+    report_any(alloc, finding, lines)
+}
+
 /// Adds the line of one target of a listing, if it is a missing name, a missing include file, a file or a command (aliases(5)). `Err` where
 /// memory runs out.
 pub fn report_target(
@@ -72,8 +87,7 @@ pub fn report_target(
     if is_reachable(node) {
         return Ok(());
     }
-    let finding = listing.target(alloc, node)?;
-    report_any(alloc, finding, lines)
+    report_lost(alloc, listing, node, lines)
 }
 
 /// Adds the lines of the targets of a listing.
@@ -111,8 +125,16 @@ fn report_list(
     report_targets(alloc, graph, listing, targets, lines)
 }
 
-/// Adds the lines of the targets of an entry or include file, or the line that says that it has none. `Err` where memory runs out.
-pub fn report_node(
+/// Whether a node is an entry or an include file, by which alone targets are listed.
+fn is_listed_by(node: &Node) -> bool
+    ensures { result ≡ false → (d : Directory) → place_of d node.now ≡ None }
+{
+    matches!(node, Node::Alias(_) | Node::Include(_))
+}
+
+/// Adds the lines of the targets that an entry or include file lists, or the line that says that it lists none.
+#[inline(never)]
+fn report_listed(
     alloc: Global,
     tables: &Tables,
     graph: &Graph,
@@ -131,6 +153,24 @@ pub fn report_node(
         Some(listing) => report_list(alloc, graph, listing, targets, lines),
         None => Ok(()),
     }
+}
+
+/// Adds the lines of the targets of an entry or include file, or the line that says that it has none. `Err` where memory runs out.
+pub fn report_node(
+    alloc: Global,
+    tables: &Tables,
+    graph: &Graph,
+    node: u32,
+    lines: &mut FindingLines,
+) -> Result<(), AllocError>
+    requires node { node < length graph.now.nodes }
+    requires children { All (λ c. c < length graph.now.nodes) (child_numbers graph.now node) }
+    ensures { OnOk result (Reports lines.old lines.new (IsNodeLine graph.now tables.now node)) }
+{
+    if !is_listed_by(graph.node(node)) {
+        return Ok(());
+    }
+    report_listed(alloc, tables, graph, node, lines)
 }
 
 /// Adds the lines of the targets of nodes.

@@ -50,6 +50,7 @@ use relay_wire::{Finding, FindingLines};
 use std::alloc::{AllocError, Global};
 
 /// Adds the line of an address that has no route.
+#[inline(never)]
 fn add_unrouted(
     alloc: Global,
     unrouted: &Unrouted,
@@ -120,11 +121,12 @@ pub fn recipient_of<'a>(
 }
 
 impl<'a> Gathering<'a> {
-    /// Nothing yet.
+    /// Nothing yet, with room for so many stops.
     pub fn new(
         alloc: Global,
         graph: &'a Graph,
         destinations: Destinations<'a>,
+        stops: usize,
     ) -> Result<Gathering<'a>, AllocError>
         ensures graph { IfOk result (λ gathering. gathering.graph.now ≡ graph.now) }
         ensures destinations { IfOk result (λ gathering. gathering.destinations ≡ destinations.entry) }
@@ -135,7 +137,7 @@ impl<'a> Gathering<'a> {
             graph,
             destinations,
             recipients: Vec::new(alloc),
-            stops: Vec::new(alloc),
+            stops: Vec::with_capacity(alloc, stops)?,
             known: vec![in alloc; Known::Unseen; graph.nodes()]?,
         })
     }
@@ -253,7 +255,7 @@ pub fn gather_pairs<'a>(
     ensures lines { OnOk result (Reports lines.old lines.new (HaveLine job.now graph.now pairs.now)) }
     ensures few { IfOk result (λ gathering. length gathering.stops.items ≤ length pairs.now) }
 {
-    let mut gathering = Gathering::new(alloc, graph, destinations)?;
+    let mut gathering = Gathering::new(alloc, graph, destinations, pairs.len())?;
     for pair in pairs {
         gathering.add(alloc, job, *pair, lines)?;
     }
