@@ -57,7 +57,8 @@ fn are_reachable(graph: &Graph, targets: &[u32]) -> bool
     !targets.is_empty()
 }
 
-/// Adds the line of a target of a listing to which no mail can go, nor on from it.
+/// Adds the line of a target of a listing to which no mail can go, nor on from it. It stands apart, since most targets are passed, and then
+/// the room for a finding isn't made ready.
 #[inline(never)]
 fn report_lost(
     alloc: Global,
@@ -132,7 +133,8 @@ fn is_listed_by(node: &Node) -> bool
     matches!(node, Node::Alias(_) | Node::Include(_))
 }
 
-/// Adds the lines of the targets that an entry or include file lists, or the line that says that it lists none.
+/// Adds the lines of the targets that an entry or include file lists, or the line that says that it lists none. It stands apart, since most
+/// nodes of a long list are no entries.
 #[inline(never)]
 fn report_listed(
     alloc: Global,

@@ -49,7 +49,7 @@ use relay_text::Address;
 use relay_wire::{Finding, FindingLines};
 use std::alloc::{AllocError, Global};
 
-/// Adds the line of an address that has no route.
+/// Adds the line of an address that has no route, which few lack: it stands apart, so that the others' way stays short.
 #[inline(never)]
 fn add_unrouted(
     alloc: Global,
