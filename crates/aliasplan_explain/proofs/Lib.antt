@@ -8,3 +8,4 @@ pub mod UnreachedFacts
 pub mod AskingFacts
 pub mod AskedTargets
 pub mod RunFacts
+pub mod StretchFacts

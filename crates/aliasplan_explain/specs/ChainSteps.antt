@@ -9,8 +9,8 @@ use Rattle.relay_tables.specs.Targets.{targets_of, recipient_target}
 use Rattle.relay_tables.specs.Senders.{owner_entry}
 use Rattle.relay_trails.specs.Trails.{Trail}
 use Rattle.relay_job.specs.declared.job.Job.{Job}
-use Rattle.relay_explain.specs.declared.answer.GivenBy.{GivenBy}
-use Rattle.relay_explain.specs.declared.answer.GivenBy.TheVariants as given
+use Rattle.relay_explain.specs.declared.given_by.GivenBy.{GivenBy}
+use Rattle.relay_explain.specs.declared.given_by.GivenBy.TheVariants as given
 use Rattle.relay_explain.specs.declared.listed.Listed.{Listed}
 use Rattle.relay_explain.specs.declared.step.Mention.TheVariants as mentions
 use Rattle.relay_explain.specs.declared.step.Step.{Step}

@@ -12,11 +12,11 @@ use Rattle.relay_trails.specs.Chains.{IsBestBy}
 use Rattle.relay_wire.specs.declared.plan.Planned.{Planned}
 use Rattle.relay_wire.specs.declared.plan.Plan.{Plan}
 use Rattle.relay_job.specs.declared.job.Job.{Job}
-use Rattle.relay_explain.specs.declared.answer.Answer.{Answer}
-use Rattle.relay_explain.specs.declared.answer.Outcome.{Outcome}
-use Rattle.relay_explain.specs.declared.answer.Outcome.TheVariants.{Transaction, Unrouted}
+use Rattle.relay_explain.specs.Explanations.{Answer}
+use Rattle.relay_explain.specs.declared.outcome.Outcome.{Outcome}
+use Rattle.relay_explain.specs.declared.outcome.Outcome.TheVariants.{Transaction, Unrouted}
 use Rattle.relay_explain.specs.declared.asked.Asked.{Asked}
-use Rattle.relay_explain.specs.declared.explanation.Explanation.{Explanation}
+use Rattle.relay_explain.specs.Explanations.{Explanation}
 use Rattle.relay_planning.specs.Delivery.{directory_of, final_address, final_route, IsReachedPair}
 use Rattle.relay_planning.specs.Report.{reason_of}
 use Rattle.aliasplan_explain.specs.Targets.{target_at, stands_for, IsAskedFor}

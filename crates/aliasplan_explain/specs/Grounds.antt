@@ -1,20 +1,19 @@
 -- What an explanation rests on.
-use Rattle.std.specs.Prelude.{◌≡◌, IsTrue}
+use Rattle.std.specs.Prelude.{◌≡◌, ◌≤◌, length, IsTrue}
 use Rattle.relay_text.specs.Addresses.{is_origin}
 use Rattle.relay_pairs.specs.Pairs.{ArePairs}
 use Rattle.relay_job.specs.declared.job.Job.{Job}
-use Rattle.relay_planning.specs.declared.workings.Workings.{Workings}
-use Rattle.relay_planning.specs.Delivery.{directory_of, routing_of, IsJobGraph}
-use Rattle.relay_planning.specs.Plans.{IsPlanOf, IsSoundFor}
+use Rattle.relay_planning.specs.Delivery.{directory_of, routing_of, IsJobGraph, IsJobPart}
 use Rattle.relay_planning.specs.Reaching.{AreReachedPairs}
+use Rattle.aliasplan_explain.specs.declared.basis.Basis.{Basis}
 
--- a job's plan and what it is made from
-pub record AreWorkingsOf (job : Job) (w : Workings) : Type 0 where
+-- what a job's plan is made from
+pub record IsBasisOf (job : Job) (b : Basis) : Type 0 where
   pub origin : IsTrue (is_origin job.settings.origin)
-  pub tables : w.tables ≡ directory_of job
-  pub router : w.router ≡ routing_of job
-  pub graph : IsJobGraph job w.graph
-  pub pairs : ArePairs w.graph w.pairs.items
-  pub reached : AreReachedPairs job w.graph w.pairs.items
-  pub plan : IsPlanOf job w.plan
-  pub sound : IsSoundFor job w.plan.transactions
+  pub tables : b.sources.tables ≡ directory_of job
+  pub router : b.sources.router ≡ routing_of job
+  pub graph : IsJobGraph job b.graph
+  pub part : IsJobPart job b.graph
+  pub pairs : ArePairs b.graph b.pairs.items
+  pub reached : AreReachedPairs job b.graph b.pairs.items
+  pub few : length b.pairs.items ≤ 16777216

@@ -7,3 +7,6 @@ pub mod Explanations
 pub mod Grounds
 pub mod Endings
 pub mod Runs
+pub mod Stretches
+pub mod Sought
+pub mod Tellings

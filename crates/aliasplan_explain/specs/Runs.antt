@@ -6,7 +6,7 @@ use Rattle.relay_job.specs.declared.job.Job.{Job}
 use Rattle.relay_job.specs.JobText.{job_of}
 use Rattle.relay_job.specs.RecipientLines.{recipient_lines_of}
 use Rattle.relay_explain.specs.declared.asked.Asked.{Asked}
-use Rattle.relay_explain.specs.declared.explanation.Explanation.{Explanation}
+use Rattle.relay_explain.specs.Explanations.{Explanation}
 use Rattle.relay_explain.specs.ExplanationText.{explanation_text_of}
 use Rattle.relay_planning.specs.declared.options.Limits.{Limits}
 use Rattle.relay_planning.specs.Limits.{IsWithin}

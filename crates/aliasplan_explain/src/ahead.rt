@@ -14,7 +14,7 @@ pub(crate) const BLOCK: usize = 256;
 // The likely place of the line of the entry of a number. Each entry has a line, so as many lines stand before its own as entries before
 // it, and at most as many more as there are lines without an entry. The lengths are read as well: the texts are what the step is made of.
 fn likely_line(grounds: &Grounds<'_>, number: usize) -> usize {
-    let aliases = grounds.workings.tables.aliases();
+    let aliases = grounds.basis.sources.tables.aliases();
     let lines = grounds.alias_lines.as_slice();
     let Some(entry) = aliases.get(number) else {
         return 0;
@@ -35,11 +35,11 @@ fn entry_numbers(
     nodes: &[u32],
     numbers: &mut Vec<usize>,
 ) -> Result<(), AllocError>
-    requires { All (λ n. n < length grounds.now.workings.now.graph.nodes) nodes.now }
+    requires { All (λ n. n < length grounds.now.basis.now.graph.nodes) nodes.now }
 {
     numbers.clear();
     for node in nodes.iter().take(BLOCK) {
-        let number = match grounds.workings.graph.node(*node) {
+        let number = match grounds.basis.graph.node(*node) {
             Node::Alias(number) => *number as usize,
             _ => 0,
         };
@@ -54,7 +54,7 @@ pub(crate) fn places_ahead(
     nodes: &[u32],
     places: &mut Vec<usize>,
 ) -> Result<(), AllocError>
-    requires { All (λ n. n < length grounds.now.workings.now.graph.nodes) nodes.now }
+    requires { All (λ n. n < length grounds.now.basis.now.graph.nodes) nodes.now }
 {
     entry_numbers(grounds, nodes, places)?;
     for place in places.iter_mut() {

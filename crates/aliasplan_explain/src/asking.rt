@@ -3,7 +3,7 @@ ghost use Rattle.std.specs.Prelude.{◌≡◌, None, true, false, IsTrue, IfOk, 
 ghost use Rattle.relay_tables.specs.Parts.{is_local_part};
 ghost use Rattle.relay_tables.specs.Targets.{name_target};
 ghost use Rattle.relay_planning.specs.Delivery.{directory_of, IsReachedNode};
-ghost use Rattle.aliasplan_explain.specs.Grounds.{AreWorkingsOf};
+ghost use Rattle.aliasplan_explain.specs.Grounds.{IsBasisOf};
 ghost use Rattle.aliasplan_explain.specs.Targets.{delivered, stands_for, IsAskedFor};
 
 use crate::grounds::Grounds;
@@ -15,7 +15,7 @@ use std::alloc::{AllocError, Global};
 
 // A folded name's address at the origin.
 fn at_origin(alloc: Global, grounds: &Grounds<'_>, name: &[u8]) -> Result<Address, AllocError>
-    requires made { AreWorkingsOf grounds.now.job.now grounds.now.workings.now }
+    requires made { IsBasisOf grounds.now.job.now grounds.now.basis.now }
     requires name { IsTrue (is_local_part name.now) }
     ensures { IfOk result (λ a. a ≡ record { local = name.now; domain = grounds.now.job.now.settings.origin }) }
 {
@@ -24,12 +24,12 @@ fn at_origin(alloc: Global, grounds: &Grounds<'_>, name: &[u8]) -> Result<Addres
 
 // What a local name stands for as a recipient.
 fn named(alloc: Global, grounds: &Grounds<'_>, local: &[u8]) -> Result<Node, AllocError>
-    requires made { AreWorkingsOf grounds.now.job.now grounds.now.workings.now }
+    requires made { IsBasisOf grounds.now.job.now grounds.now.basis.now }
     requires local { IsTrue (is_local_part local.now) }
     ensures { IfOk result (λ node. node ≡ name_target (directory_of grounds.now.job.now) None local.now) }
 {
     let name = Text::folded_copy_of(alloc, local)?;
-    match grounds.workings.tables.resolve(name.as_bytes(), None) {
+    match grounds.basis.sources.tables.resolve(name.as_bytes(), None) {
         Target::Alias(number) => Ok(Node::Alias(number)),
         Target::Mailbox => Ok(Node::Mailbox(at_origin(alloc, grounds, name.as_bytes())?)),
         Target::Missing => Ok(Node::Missing(name)),
@@ -42,13 +42,13 @@ pub(crate) fn stands_for(
     grounds: &Grounds<'_>,
     asked: &Asked,
 ) -> Result<Node, AllocError>
-    requires { AreWorkingsOf grounds.now.job.now grounds.now.workings.now }
+    requires { IsBasisOf grounds.now.job.now grounds.now.basis.now }
     ensures { IfOk result (λ node. node ≡ stands_for (directory_of grounds.now.job.now) asked.now) }
 {
     match asked {
         Asked::Name(address) => named(alloc, grounds, address.local()),
         Asked::Address(address) => {
-            if grounds.workings.tables.is_local(address) {
+            if grounds.basis.sources.tables.is_local(address) {
                 named(alloc, grounds, address.local())
             } else {
                 Ok(Node::Remote(address.copy(alloc)?))
@@ -59,10 +59,10 @@ pub(crate) fn stands_for(
 
 // The node of an address that mail is delivered to.
 fn delivered(alloc: Global, grounds: &Grounds<'_>, address: &Address) -> Result<Node, AllocError>
-    requires { AreWorkingsOf grounds.now.job.now grounds.now.workings.now }
+    requires { IsBasisOf grounds.now.job.now grounds.now.basis.now }
     ensures { IfOk result (λ node. node ≡ delivered (directory_of grounds.now.job.now) address.now) }
 {
-    if grounds.workings.tables.is_local(address) {
+    if grounds.basis.sources.tables.is_local(address) {
         let name = Text::folded_copy_of(alloc, address.local())?;
         Ok(Node::Mailbox(at_origin(alloc, grounds, name.as_bytes())?))
     } else {
@@ -72,14 +72,14 @@ fn delivered(alloc: Global, grounds: &Grounds<'_>, address: &Address) -> Result<
 
 // Whether the node is reached under some sender.
 fn is_reached(grounds: &Grounds<'_>, node: &Node) -> bool
-    requires { AreWorkingsOf grounds.now.job.now grounds.now.workings.now }
+    requires { IsBasisOf grounds.now.job.now grounds.now.basis.now }
     ensures yes { result ≡ true → IsReachedNode grounds.now.job.now node.now }
     ensures no { result ≡ false → ¬ IsReachedNode grounds.now.job.now node.now }
 {
-    let Some(number) = number_of(&grounds.workings.graph, node) else {
+    let Some(number) = number_of(&grounds.basis.graph, node) else {
         return false;
     };
-    for pair in &grounds.workings.pairs {
+    for pair in &grounds.basis.pairs {
         if pair.node == number {
             return true;
         }
@@ -93,7 +93,7 @@ fn reached_address(
     grounds: &Grounds<'_>,
     address: &Address,
 ) -> Result<Option<Node>, AllocError>
-    requires { AreWorkingsOf grounds.now.job.now grounds.now.workings.now }
+    requires { IsBasisOf grounds.now.job.now grounds.now.basis.now }
     ensures some { IfOk result (λ found. IfSome found (λ node. IsReachedNode grounds.now.job.now (delivered (directory_of grounds.now.job.now) address.now) × (node ≡ delivered (directory_of grounds.now.job.now) address.now))) }
     ensures none { IfOk result (λ found. found ≡ None → ¬ IsReachedNode grounds.now.job.now (delivered (directory_of grounds.now.job.now) address.now)) }
 {
@@ -111,7 +111,7 @@ pub(crate) fn asked_for(
     grounds: &Grounds<'_>,
     asked: &Asked,
 ) -> Result<Node, AllocError>
-    requires { AreWorkingsOf grounds.now.job.now grounds.now.workings.now }
+    requires { IsBasisOf grounds.now.job.now grounds.now.basis.now }
     ensures { IfOk result (IsAskedFor grounds.now.job.now asked.now) }
 {
     let Asked::Address(address) = asked else {

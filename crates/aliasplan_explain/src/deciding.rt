@@ -5,7 +5,7 @@ ghost use Rattle.relay_routes.specs.declared.unrouted.Unrouted as reasons;
 ghost use Rattle.relay_routes.specs.Destinations.{looked_up_name};
 ghost use Rattle.relay_routes.specs.Routes.{Answers};
 ghost use Rattle.aliasplan_explain.specs.Decisions.{decision_by, decision_of, fate_at, ok_of, record_at, records_of, rule_for};
-ghost use Rattle.aliasplan_explain.specs.Grounds.{AreWorkingsOf};
+ghost use Rattle.aliasplan_explain.specs.Grounds.{IsBasisOf};
 
 use crate::grounds::Grounds;
 use aliasplan::own_names;
@@ -140,11 +140,11 @@ pub(crate) fn decision_of(
     grounds: &Grounds<'_>,
     node: &Node,
 ) -> Result<Option<Decision>, AllocError>
-    requires made { AreWorkingsOf grounds.now.job.now grounds.now.workings.now }
+    requires made { IsBasisOf grounds.now.job.now grounds.now.basis.now }
     ensures { IfOk result (λ decision. decision ≡ decision_of grounds.now.job.now node.now) }
 {
     let job = grounds.job;
-    let router = &grounds.workings.router;
+    let router = &grounds.basis.sources.router;
     match node {
         Node::Mailbox(address) => {
             let via = &job.settings.mailbox_transport;

@@ -19,9 +19,10 @@ ghost use Rattle.relay_routes.specs.Routes.{Answers};
 ghost use Rattle.relay_wire.specs.declared.plan.Planned as planned;
 ghost use Rattle.relay_routes.specs.declared.unrouted.Unrouted as causes;
 ghost use Rattle.relay_planning.specs.Delivery.{final_address, final_route, IsReachedPair};
+ghost use Rattle.relay_planning.specs.Plans.{IsSoundFor};
 ghost use Rattle.aliasplan_explain.specs.Endings.{AreIndices, IsEnding};
 ghost use Rattle.aliasplan_explain.specs.Explanations.{IsOutcome};
-ghost use Rattle.aliasplan_explain.specs.Grounds.{AreWorkingsOf};
+ghost use Rattle.aliasplan_explain.specs.Grounds.{IsBasisOf};
 
 use crate::grounds::Grounds;
 use crate::nodes::is_same_address;
@@ -30,7 +31,7 @@ use relay_explain::Outcome;
 use relay_routes::{Route, Unrouted};
 use relay_tables::Node;
 use relay_text::{Address, Text};
-use relay_wire::Planned;
+use relay_wire::{Plan, Planned};
 use std::alloc::{AllocError, Global};
 
 fn copy_of_reason(alloc: Global, reason: &Reason) -> Result<Reason, AllocError>
@@ -91,14 +92,15 @@ fn indices_of(
 fn ending_by(
     alloc: Global,
     grounds: &Grounds<'_>,
+    plan: &Plan,
     address: &Address,
     found: Result<Route, Unrouted>,
 ) -> Result<Ending, AllocError>
-    ensures { IfOk result (λ ending. (node : nodes.Node) → final_address grounds.now.job.now node ≡ Some address.now → (given : Result routes.Route causes.Unrouted) → final_route grounds.now.job.now node ≡ Some given → Answers found given → IsEnding grounds.now.job.now grounds.now.workings.now.plan node ending) }
+    ensures { IfOk result (λ ending. (node : nodes.Node) → final_address grounds.now.job.now node ≡ Some address.now → (given : Result routes.Route causes.Unrouted) → final_route grounds.now.job.now node ≡ Some given → Answers found given → IsEnding grounds.now.job.now plan.now node ending) }
 {
     match found {
         Ok(_) => {
-            let transactions = grounds.workings.plan.transactions.as_slice();
+            let transactions = plan.transactions.as_slice();
             Ok(Ending::Transactions(indices_of(alloc, transactions, address)?))
         }
         Err(cause) => Ok(Ending::Unrouted(reason_for(cause).ok_or(AllocError)?)),
@@ -109,24 +111,26 @@ fn ending_by(
 pub(crate) fn ending_of(
     alloc: Global,
     grounds: &Grounds<'_>,
+    plan: &Plan,
     node: &Node,
 ) -> Result<Ending, AllocError>
-    requires made { AreWorkingsOf grounds.now.job.now grounds.now.workings.now }
-    ensures { IfOk result (IsEnding grounds.now.job.now grounds.now.workings.now.plan node.now) }
+    requires made { IsBasisOf grounds.now.job.now grounds.now.basis.now }
+    ensures { IfOk result (IsEnding grounds.now.job.now plan.now node.now) }
 {
-    let router = &grounds.workings.router;
+    let router = &grounds.basis.sources.router;
     match node {
         Node::Mailbox(address) => {
             let via = &grounds.job.settings.mailbox_transport;
             ending_by(
                 alloc,
                 grounds,
+                plan,
                 address,
                 router.route_via(alloc, via, address),
             )
         }
         Node::Remote(address) => {
-            ending_by(alloc, grounds, address, router.route(alloc, address))
+            ending_by(alloc, grounds, plan, address, router.route(alloc, address))
         }
         _ => Ok(Ending::Nothing),
     }
@@ -154,21 +158,23 @@ fn number_under(
 pub(crate) fn outcome_of(
     alloc: Global,
     grounds: &Grounds<'_>,
+    plan: &Plan,
     node: &Node,
     ending: &Ending,
     sender: Option<&Address>,
 ) -> Result<Option<Outcome>, AllocError>
-    requires made { AreWorkingsOf grounds.now.job.now grounds.now.workings.now }
-    requires ending { IsEnding grounds.now.job.now grounds.now.workings.now.plan node.now ending.now }
+    requires sound { IsSoundFor grounds.now.job.now plan.now.transactions }
+    requires ending { IsEnding grounds.now.job.now plan.now node.now ending.now }
     requires reached { IsReachedPair grounds.now.job.now (record { sender = option_map (λ a. a.now) sender; node = node.now }) }
-    ensures { IfOk result (IsOutcome grounds.now.job.now grounds.now.workings.now.plan node.now (option_map (λ a. a.now) sender.entry)) }
+    ensures { IfOk result (IsOutcome grounds.now.job.now plan.now node.now (option_map (λ a. a.now) sender.entry)) }
 {
+    let _ = grounds;
     let _ = node;
     match ending {
         Ending::Nothing => Ok(None),
         Ending::Unrouted(reason) => Ok(Some(Outcome::Unrouted(copy_of_reason(alloc, reason)?))),
         Ending::Transactions(indices) => {
-            let transactions = grounds.workings.plan.transactions.as_slice();
+            let transactions = plan.transactions.as_slice();
             match number_under(transactions, indices, sender) {
                 Some(number) => Ok(Some(Outcome::Transaction(number))),
                 None => unreachable!(),

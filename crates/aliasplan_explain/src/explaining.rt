@@ -1,25 +1,31 @@
 //! Why an address is in a job's plan, or isn't.
-ghost use Rattle.std.specs.Prelude.{◌≡◌, [], length, IfOk, IfErr, OnOk};
+ghost use Rattle.std.specs.Prelude.{◌≡◌, [], ℕ, List, Some, length, IfOk, IfErr, OnOk};
+ghost use Rattle.relay_text.specs.Bytes.{has_text};
 ghost use Rattle.relay_wire.specs.declared.plan.Plan as plans;
 ghost use Rattle.relay_job.specs.JobAnswers.{IsJobWithin};
 ghost use Rattle.relay_planning.specs.Limits.{IsWithin, IsRefused};
+ghost use Rattle.relay_planning.specs.Delivery.{directory_of};
 ghost use Rattle.relay_planning.specs.Plans.{IsPlanOf};
-ghost use Rattle.aliasplan_explain.specs.Explanations.{AreAnswersFor, IsExplanationOf};
-ghost use Rattle.aliasplan_explain.specs.Grounds.{AreWorkingsOf};
-ghost use Rattle.aliasplan_explain.specs.Targets.{IsAskedFor};
+ghost use Rattle.relay_planning.specs.Texts.{has_fault_line};
+ghost use Rattle.aliasplan_explain.specs.Grounds.{IsBasisOf};
+ghost use Rattle.aliasplan_explain.specs.Targets.{stands_for, target_at, IsAskedFor};
+ghost use Rattle.aliasplan_explain.specs.Tellings.{AreToldFor, IsTellingOf};
 ghost use Rattle.aliasplan_explain.specs.Unreached.{unreached_of};
 
-use crate::answering::answers_for;
-use crate::asking::{asked_for, stands_for};
+use crate::asking::stands_for;
+use crate::basis::Basis;
 use crate::deciding::decision_of;
 use crate::grounds::Grounds;
+use crate::planned::plan_beside;
 use crate::targets::target_of;
+use crate::telling::told_for;
 use crate::unreached::unreached_of;
-use aliasplan::{Crew, Gate, Job, RunFault, Workings, plan_with_workings};
-use relay_explain::{Answer, Asked, Explanation, Listed};
-use relay_job::parsed_jobs;
+use aliasplan::{Crew, Gate, Job, RunFault};
+use relay_explain::{Asked, Listed, Target, Telling, Told};
+use relay_planning::{JobView, parsed_is_readable};
 use relay_tables::Node;
 use relay_text::Seq;
+use relay_wire::{FindingLines, Plan};
 use std::alloc::{AllocError, Global};
 use std::thread::Threads;
 
@@ -28,9 +34,9 @@ fn unreached_beside(
     alloc: Global,
     grounds: &Grounds<'_>,
     node: &Node,
-    answers: &Seq<Answer>,
+    answers: &Seq<Told>,
 ) -> Result<Seq<Listed>, AllocError>
-    requires { AreWorkingsOf grounds.now.job.now grounds.now.workings.now }
+    requires { IsBasisOf grounds.now.job.now grounds.now.basis.now }
     ensures { IfOk result (λ listed. answers.now ≡ [] → listed ≡ unreached_of grounds.now.job.now node.now) }
 {
     if answers.is_empty() {
@@ -40,47 +46,61 @@ fn unreached_beside(
     }
 }
 
-// The explanation of a node that is asked for, by these answers.
-fn explanation_by(
+// What the asked name or address stands for as a recipient.
+fn recipient_target(
     alloc: Global,
     grounds: &Grounds<'_>,
     asked: &Asked,
-    node: &Node,
-    answers: Seq<Answer>,
-) -> Result<Explanation, AllocError>
-    requires made { AreWorkingsOf grounds.now.job.now grounds.now.workings.now }
-    requires node { IsAskedFor grounds.now.job.now asked.now node.now }
-    requires answers { AreAnswersFor grounds.now.job.now grounds.now.workings.now.plan grounds.now.recipient_lines.now node.now answers }
-    ensures { IfOk result (IsExplanationOf grounds.now.job.now grounds.now.workings.now.plan grounds.now.recipient_lines.now asked.now) }
+) -> Result<Target, AllocError>
+    requires { IsBasisOf grounds.now.job.now grounds.now.basis.now }
+    ensures { IfOk result (λ target. target_at (directory_of grounds.now.job.now) (stands_for (directory_of grounds.now.job.now) asked.now) ≡ Some target) }
 {
-    let tables = &grounds.workings.tables;
-    let stands = stands_for(alloc, grounds, asked)?;
-    Ok(Explanation {
+    let node = stands_for(alloc, grounds, asked)?;
+    target_of(alloc, &grounds.basis.sources.tables, &node)
+}
+
+// What is told of a node that is asked for, by these answers.
+fn telling_by(
+    alloc: Global,
+    grounds: &Grounds<'_>,
+    plan: &Plan,
+    asked: &Asked,
+    node: &Node,
+    answers: Seq<Told>,
+) -> Result<Telling, AllocError>
+    requires made { IsBasisOf grounds.now.job.now grounds.now.basis.now }
+    requires node { IsAskedFor grounds.now.job.now asked.now node.now }
+    requires answers { AreToldFor grounds.now.job.now plan.now grounds.now.recipient_lines.now node.now answers }
+    ensures { IfOk result (IsTellingOf grounds.now.job.now plan.now grounds.now.recipient_lines.now asked.now) }
+{
+    let _ = plan;
+    let stands_for = recipient_target(alloc, grounds, asked)?;
+    Ok(Telling {
         asked: asked.copy(alloc)?,
-        target: target_of(alloc, tables, node)?,
+        target: target_of(alloc, &grounds.basis.sources.tables, node)?,
         decision: decision_of(alloc, grounds, node)?,
-        stands_for: target_of(alloc, tables, &stands)?,
+        stands_for,
         unreached: unreached_beside(alloc, grounds, node, &answers)?,
         answers,
     })
 }
 
-// The explanation by a job's workings.
-fn explanation_of(
-    alloc: Global,
-    job: &Job,
-    recipient_lines: &[usize],
+// What is told of a job. The lines of its files and tables that are at fault are given.
+fn telling_of<G: Gate, R: Threads + Sync>(
+    crew: &Crew<G, R>,
+    view: &JobView<'_>,
+    grounds: &Grounds<'_>,
     asked: &Asked,
-    workings: &Workings,
-) -> Result<Explanation, AllocError>
-    requires workings { AreWorkingsOf job.now workings.now }
-    requires lines { length recipient_lines.now ≡ length job.now.recipients }
-    ensures { IfOk result (IsExplanationOf job.now workings.now.plan recipient_lines.now asked.now) }
+    lines: FindingLines,
+) -> Result<Telling, AllocError>
+    requires made { IsBasisOf grounds.now.job.now grounds.now.basis.now }
+    requires view { view.now ≡ grounds.now.job.now }
+    requires lines { (q : List ℕ) → has_text lines q ≡ has_fault_line grounds.now.job.now q }
+    ensures { IfOk result (λ telling. (plan : plans.Plan) × IsPlanOf grounds.now.job.now plan × IsTellingOf grounds.now.job.now plan grounds.now.recipient_lines.now asked.now telling) }
 {
-    let grounds = Grounds::new(alloc, job, recipient_lines, workings)?;
-    let node = asked_for(alloc, &grounds, asked)?;
-    let answers = answers_for(alloc, &grounds, &node)?;
-    explanation_by(alloc, &grounds, asked, &node, answers)
+    let (plan, sought) = plan_beside(crew, view, grounds, asked, lines)?;
+    let answers = told_for(crew, grounds, &plan, &sought)?;
+    telling_by(crew.alloc, grounds, &plan, asked, &sought.node, answers)
 }
 
 /// Why a name or an address is reached by a job's message, or isn't: for each sender under which it is reached, the least of the shortest
@@ -97,17 +117,21 @@ pub fn explain<G: Gate, R: Threads + Sync>(
     job: &Job,
     recipient_lines: &[usize],
     asked: &Asked,
-) -> Result<Explanation, RunFault>
+) -> Result<Telling, RunFault>
     requires job { IsJobWithin crew.now.limits.bytes job.now }
     requires lines { length recipient_lines.now ≡ length job.now.recipients }
-    ensures explained { IfOk result (λ explanation. (plan : plans.Plan) × IsPlanOf job.now plan × IsExplanationOf job.now plan recipient_lines.now asked.now explanation) }
+    ensures explained { IfOk result (λ telling. (plan : plans.Plan) × IsPlanOf job.now plan × IsTellingOf job.now plan recipient_lines.now asked.now telling) }
     ensures within { OnOk result (IsWithin crew.now.limits job.now) }
     ensures refused { IfErr result (IsRefused crew.now.limits job.now) }
 {
-    parsed_jobs();
-    let workings = plan_with_workings(crew, job)?;
-    match explanation_of(crew.alloc, job, recipient_lines, asked, &workings) {
-        Ok(explanation) => Ok(explanation),
+    parsed_is_readable();
+    let mut lines = FindingLines::new(crew.alloc);
+    let basis = Basis::read(crew, job, &mut lines)?;
+    let Ok(grounds) = Grounds::new(crew.alloc, job, recipient_lines, &basis) else {
+        return Err(RunFault::Memory);
+    };
+    match telling_of(crew, &JobView::of(job), &grounds, asked, lines) {
+        Ok(telling) => Ok(telling),
         Err(_) => Err(RunFault::Memory),
     }
 }

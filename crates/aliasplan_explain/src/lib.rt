@@ -1,28 +1,34 @@
 //! Why an address is in a job's plan, or isn't.
 //!
-//! [`explain`] plans a job, and says for each sender under which an address is reached a shortest chain of items, whose items they are
+//! [`explain`] plans a job, and tells for each sender under which an address is reached a shortest chain of items, whose items they are
 //! and on which lines they stand, who gave the sender, and what decided the route; or which items would lead there. [`run_explain`] does
 //! so for a job's bytes, and writes the explanation's text.
 //!
-//! The way through the modules: `asking` says which node is asked for. `answering` has an answer for each sender under which that is
-//! reached: its steps from `walking`, which reads `ahead`, its items as `rows` finds them in their sections, and what becomes of it from
-//! `ending`.
-//! `deciding` says what decides the route, and `unreached` which items lead to a node. All of them rest on the same `grounds`.
+//! The way through the modules: `basis` has what the job's plan is made from. `sought` says by `asking` which node is asked for, and has
+//! the trails there, while the plan is made (`planned`). `telling` has what is told for each sender under which the node is reached: the
+//! `lines` of a trail, a `stretch` of it by each worker, where a step is made by `walking`, which reads `ahead`, and its items are those
+//! that `rows` finds in their sections; and what becomes of it from `ending`. `deciding` says what decides the route, and `unreached`
+//! which items lead to a node. All of them rest on the same `grounds`.
 #![tactic(auto)]
 
 mod ahead;
-mod answering;
 mod asking;
+pub(crate) mod basis;
 mod deciding;
 pub(crate) mod ending;
 mod explaining;
 pub(crate) mod grounds;
+mod lines;
 mod nodes;
+mod planned;
 mod rows;
 mod running;
+pub(crate) mod sought;
+pub(crate) mod stretch;
 mod targets;
+mod telling;
 mod unreached;
-pub(crate) mod walking;
+mod walking;
 
 pub use explaining::explain;
 pub use running::run_explain;

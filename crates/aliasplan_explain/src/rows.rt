@@ -3,7 +3,7 @@ ghost use Rattle.std.specs.Prelude.{◌≡◌, map, slice_get, IfOk};
 ghost use Rattle.relay_text.specs.Lines.{logical_lines_of};
 ghost use Rattle.relay_aliasfile.specs.ItemPlaces.{place_value};
 ghost use Rattle.relay_planning.specs.Delivery.{directory_of};
-ghost use Rattle.aliasplan_explain.specs.Grounds.{AreWorkingsOf};
+ghost use Rattle.aliasplan_explain.specs.Grounds.{IsBasisOf};
 ghost use Rattle.aliasplan_explain.specs.Rows.{IsPartAt, entry_row_if, include_row_if, listed_by, listed_in, row_of};
 
 use crate::grounds::Grounds;
@@ -33,11 +33,11 @@ fn alias_row<'a>(
     number: u32,
     likely: usize,
 ) -> Result<Vec<ItemPlace<'a>>, AllocError>
-    requires made { AreWorkingsOf grounds.now.job.now grounds.now.workings.now }
+    requires made { IsBasisOf grounds.now.job.now grounds.now.basis.now }
     ensures { IfOk result (λ row. map place_value row.items ≡ entry_row_if (logical_lines_of grounds.now.job.now.aliases).lines (slice_get (directory_of grounds.now.job.now).aliases number)) }
 {
     entries_on_lines();
-    match grounds.workings.tables.aliases().get(number as usize) {
+    match grounds.basis.sources.tables.aliases().get(number as usize) {
         Some(entry) => {
             let lines = lines_near(&grounds.alias_lines, entry.line, likely);
             entry_places(alloc, lines, entry)
@@ -67,7 +67,7 @@ pub(crate) fn row_of<'a>(
     node: &Node,
     likely: usize,
 ) -> Result<Vec<ItemPlace<'a>>, AllocError>
-    requires made { AreWorkingsOf grounds.now.job.now grounds.now.workings.now }
+    requires made { IsBasisOf grounds.now.job.now grounds.now.basis.now }
     ensures { IfOk result (λ row. map place_value row.items ≡ row_of grounds.now.job.now node.now) }
 {
     match node {
@@ -101,10 +101,10 @@ pub(crate) fn listed_at(
     item: usize,
     likely: usize,
 ) -> Result<Option<Listed>, AllocError>
-    requires made { AreWorkingsOf grounds.now.job.now grounds.now.workings.now }
+    requires made { IsBasisOf grounds.now.job.now grounds.now.basis.now }
     ensures { IfOk result (λ listed. listed ≡ slice_get (listed_by grounds.now.job.now node.now) item) }
 {
-    let Some(entry) = entry_of(alloc, &grounds.workings.tables, node)? else {
+    let Some(entry) = entry_of(alloc, &grounds.basis.sources.tables, node)? else {
         return Ok(None);
     };
     let row = row_of(alloc, grounds, node, likely)?;

@@ -1,36 +1,53 @@
 //! A run from a job's bytes to the text of an explanation.
-ghost use Rattle.std.specs.Prelude.{◌≡◌, ◌≢◌, ◌≤◌, false, true, length, Err, IfOk, IfErr, IfSome};
-ghost use Rattle.std.specs.Io.KnownBytes.{Keeps};
+ghost use Rattle.std.specs.Prelude.{◌≡◌, ◌≢◌, ◌≤◌, false, true, length, Err, IfOk, IfErr, IfSome, OnOk, OnErr};
+ghost use Rattle.std.specs.Io.KnownBytes.{Appends, Keeps};
 ghost use Rattle.relay_wire.specs.declared.plan.Plan as plans;
 ghost use Rattle.relay_job.specs.JobAnswers.{IsJobWithin};
-ghost use Rattle.relay_explain.specs.declared.explanation.Explanation as answers;
+ghost use Rattle.relay_explain.specs.Explanations.{Explanation};
 ghost use Rattle.relay_explain.specs.ExplanationText.{explanation_text_of};
+ghost use Rattle.relay_explain.specs.PiecedTexts.{text_of};
 ghost use Rattle.relay_planning.specs.Limits.{IsRefused, IsWithin};
 ghost use Rattle.aliasplan.specs.Outcomes.{Refuses, RefusesBytes};
+ghost use Rattle.aliasplan.specs.Transfers.{Fronts};
 ghost use Rattle.relay_planning.specs.Plans.{IsPlanOf};
 ghost use Rattle.aliasplan_explain.specs.Explanations.{IsExplanationOf, is_in_plan};
 ghost use Rattle.aliasplan_explain.specs.Runs.{Explains, IsExplained, WritesExplanationFront};
+ghost use Rattle.aliasplan_explain.specs.Tellings.{has_transaction};
 
 use crate::explaining::explain;
-use aliasplan::{Crew, Feed, Gate, Job, RunFault, Sink, parse_job, read_job, write_text};
-use relay_explain::{Asked, Explanation, Outcome, explanation_text};
+use aliasplan::{Crew, Failed, Feed, Gate, Job, RunFault, Sink, parse_job, read_job, write_text};
+use relay_explain::{Asked, Outcome, Telling, telling_text};
 use relay_job::{each_recipient_has_line, recipient_lines};
-use relay_text::Text;
+use relay_text::{Seq, Text};
 use std::thread::Threads;
 
-// An explanation's text, and whether the address is in the plan.
+// An explanation's text, in pieces, and whether the address is in the plan.
 #[derive(Drop)]
 struct Explained {
-    text: Text,
+    text: Seq<Text>,
     in_plan: bool,
 }
 
 // Whether some answer says that a transaction has the address.
-fn is_in_plan(explanation: &Explanation) -> bool
-    ensures { result ≡ is_in_plan explanation.now }
+fn is_in_plan(telling: &Telling) -> bool
+    ensures { result ≡ has_transaction telling.now }
 {
-    let answers = explanation.answers.as_slice();
+    let answers = telling.answers.as_slice();
     answers.iter().any(|answer| matches!(answer.outcome, Some(Outcome::Transaction(_))))
+}
+
+// Writes the pieces of a text, one behind the other. After a failure a front of the text is written.
+fn write_pieces<S: Sink>(writer: &mut S, pieces: &[Text]) -> Result<(), Failed>
+    requires { S.has_failed writer.old ≡ false }
+    ensures ok { OnOk result (Appends (S.contents writer.old) (S.contents writer.new) (text_of pieces.now)) }
+    ensures works { OnOk result (S.has_failed writer.new ≡ false) }
+    ensures front { OnErr result (Fronts (S.contents writer.old) (S.contents writer.new) (text_of pieces.now)) }
+    ensures failed { OnErr result (S.has_failed writer.new ≡ true) }
+{
+    for piece in pieces {
+        write_text(writer, piece.as_bytes())?;
+    }
+    Ok(())
 }
 
 // What is written for a job whose recipients stand on these lines.
@@ -42,15 +59,13 @@ fn answer_job<G: Gate, R: Threads + Sync>(
 ) -> Result<Explained, RunFault>
     requires job { IsJobWithin crew.now.limits.bytes job.now }
     requires lines { length recipient_lines.now ≡ length job.now.recipients }
-    ensures explained { IfOk result (λ it. IsWithin crew.now.limits job.now × ((plan : plans.Plan) × IsPlanOf job.now plan × ((explanation : answers.Explanation) × IsExplanationOf job.now plan recipient_lines.now asked.now explanation × (it.text ≡ explanation_text_of explanation) × (it.in_plan ≡ is_in_plan explanation)))) }
+    ensures explained { IfOk result (λ it. IsWithin crew.now.limits job.now × ((plan : plans.Plan) × IsPlanOf job.now plan × ((explanation : Explanation) × IsExplanationOf job.now plan recipient_lines.now asked.now explanation × (text_of it.text ≡ explanation_text_of explanation) × (it.in_plan ≡ is_in_plan explanation)))) }
     ensures refused { IfErr result (IsRefused crew.now.limits job.now) }
 {
-    let explanation = explain(crew, job, recipient_lines, asked)?;
-    let text = explanation_text(crew.alloc, &explanation)?;
-    Ok(Explained {
-        text,
-        in_plan: is_in_plan(&explanation),
-    })
+    let telling = explain(crew, job, recipient_lines, asked)?;
+    let in_plan = is_in_plan(&telling);
+    let text = telling_text(crew.alloc, telling)?;
+    Ok(Explained { text, in_plan })
 }
 
 // What is written for a job's bytes.
@@ -60,7 +75,7 @@ fn answer_input<G: Gate, R: Threads + Sync>(
     asked: &Asked,
 ) -> Result<Explained, RunFault>
     requires { length input.now ≤ crew.now.limits.bytes }
-    ensures explained { IfOk result (λ it. IsExplained crew.now.limits asked.now input.now it.text it.in_plan) }
+    ensures explained { IfOk result (λ it. IsExplained crew.now.limits asked.now input.now (text_of it.text) it.in_plan) }
     ensures refused { IfErr result (RefusesBytes crew.now.limits input.now) }
 {
     each_recipient_has_line();
@@ -95,7 +110,7 @@ pub fn run_explain<F: Feed, S: Sink, G: Gate, R: Threads + Sync>(
 {
     let input = read_job(crew.alloc, reader, crew.limits.bytes)?;
     let Explained { text, in_plan } = answer_input(crew, input.as_bytes(), asked)?;
-    match write_text(writer, text.as_bytes()) {
+    match write_pieces(writer, text.as_slice()) {
         Ok(()) => Ok(in_plan),
         Err(_) => Err(RunFault::Write),
     }

@@ -4,7 +4,7 @@ ghost use Rattle.relay_aliasfile.specs.ItemPlaces.{place_value};
 ghost use Rattle.relay_tables.specs.declared.node.Node as nodes;
 ghost use Rattle.relay_tables.specs.Graphs.{child_numbers, entry_nodes, nodes_at};
 ghost use Rattle.relay_planning.specs.Delivery.{directory_of};
-ghost use Rattle.aliasplan_explain.specs.Grounds.{AreWorkingsOf};
+ghost use Rattle.aliasplan_explain.specs.Grounds.{IsBasisOf};
 ghost use Rattle.aliasplan_explain.specs.Rows.{listed_in};
 ghost use Rattle.relay_explain.specs.declared.entry.Entry as entries;
 ghost use Rattle.aliasplan_explain.specs.Targets.{entry_at, target_at};
@@ -35,11 +35,11 @@ fn place_of(tables: &Tables, node: &Node) -> Option<usize>
 
 // The numbers of all entries and then of all include files, in their order.
 fn entry_numbers(alloc: Global, grounds: &Grounds<'_>) -> Result<Vec<u32>, AllocError>
-    requires { AreWorkingsOf grounds.now.job.now grounds.now.workings.now }
-    ensures { IfOk result (λ numbers. nodes_at grounds.now.workings.now.graph numbers.items ≡ map (λ node. Some node) (entry_nodes (directory_of grounds.now.job.now))) }
+    requires { IsBasisOf grounds.now.job.now grounds.now.basis.now }
+    ensures { IfOk result (λ numbers. nodes_at grounds.now.basis.now.graph numbers.items ≡ map (λ node. Some node) (entry_nodes (directory_of grounds.now.job.now))) }
 {
-    let graph = &grounds.workings.graph;
-    let tables = &grounds.workings.tables;
+    let graph = &grounds.basis.graph;
+    let tables = &grounds.basis.sources.tables;
     let count = tables.aliases().len() + tables.includes().len();
     let mut numbers = vec![in alloc; 0u32; count]?;
     for number in 0..graph.nodes() {
@@ -58,13 +58,13 @@ fn add_item(
     place: &ItemPlace<'_>,
     listed: &mut Vec<Listed>,
 ) -> Result<(), AllocError>
-    requires made { AreWorkingsOf grounds.now.job.now grounds.now.workings.now }
-    requires from { from < length grounds.now.workings.now.graph.nodes }
-    requires entry { IfSome (slice_get grounds.now.workings.now.graph.nodes from) (λ node. IsSome (entry_at (directory_of grounds.now.job.now) node)) }
-    ensures { OnOk result ((node : nodes.Node) (entry : entries.Entry) → slice_get grounds.now.workings.now.graph.nodes from ≡ Some node → entry_at (directory_of grounds.now.job.now) node ≡ Some entry → listed.new.items ≡ listed.old.items ++ listed_in entry (place_value place.now) ∷ []) }
+    requires made { IsBasisOf grounds.now.job.now grounds.now.basis.now }
+    requires from { from < length grounds.now.basis.now.graph.nodes }
+    requires entry { IfSome (slice_get grounds.now.basis.now.graph.nodes from) (λ node. IsSome (entry_at (directory_of grounds.now.job.now) node)) }
+    ensures { OnOk result ((node : nodes.Node) (entry : entries.Entry) → slice_get grounds.now.basis.now.graph.nodes from ≡ Some node → entry_at (directory_of grounds.now.job.now) node ≡ Some entry → listed.new.items ≡ listed.old.items ++ listed_in entry (place_value place.now) ∷ []) }
 {
-    let node = grounds.workings.graph.node(from);
-    let Some(entry) = entry_of(alloc, &grounds.workings.tables, node)? else {
+    let node = grounds.basis.graph.node(from);
+    let Some(entry) = entry_of(alloc, &grounds.basis.sources.tables, node)? else {
         unreachable!()
     };
     listed.push(listed_in(alloc, entry, place)?)?;
@@ -80,12 +80,12 @@ fn add_items(
     row: &[ItemPlace<'_>],
     listed: &mut Vec<Listed>,
 ) -> Result<(), AllocError>
-    requires made { AreWorkingsOf grounds.now.job.now grounds.now.workings.now }
-    requires from { from < length grounds.now.workings.now.graph.nodes }
-    requires entry { IfSome (slice_get grounds.now.workings.now.graph.nodes from) (λ node. IsSome (entry_at (directory_of grounds.now.job.now) node)) }
-    ensures { OnOk result ((node : nodes.Node) (entry : entries.Entry) → slice_get grounds.now.workings.now.graph.nodes from ≡ Some node → entry_at (directory_of grounds.now.job.now) node ≡ Some entry → listed.new.items ≡ listed.old.items ++ numbered_for target (child_numbers grounds.now.workings.now.graph from) (map (listed_in entry) (map place_value row.now))) }
+    requires made { IsBasisOf grounds.now.job.now grounds.now.basis.now }
+    requires from { from < length grounds.now.basis.now.graph.nodes }
+    requires entry { IfSome (slice_get grounds.now.basis.now.graph.nodes from) (λ node. IsSome (entry_at (directory_of grounds.now.job.now) node)) }
+    ensures { OnOk result ((node : nodes.Node) (entry : entries.Entry) → slice_get grounds.now.basis.now.graph.nodes from ≡ Some node → entry_at (directory_of grounds.now.job.now) node ≡ Some entry → listed.new.items ≡ listed.old.items ++ numbered_for target (child_numbers grounds.now.basis.now.graph from) (map (listed_in entry) (map place_value row.now))) }
 {
-    let children = grounds.workings.graph.children(from);
+    let children = grounds.basis.graph.children(from);
     for (child, place) in children.iter().zip(row) {
         if *child == target {
             add_item(alloc, grounds, from, place, listed)?;
@@ -102,12 +102,12 @@ fn add_listed(
     target: u32,
     listed: &mut Vec<Listed>,
 ) -> Result<(), AllocError>
-    requires made { AreWorkingsOf grounds.now.job.now grounds.now.workings.now }
-    requires from { from < length grounds.now.workings.now.graph.nodes }
-    requires entry { IfSome (slice_get grounds.now.workings.now.graph.nodes from) (λ node. IsSome (entry_at (directory_of grounds.now.job.now) node)) }
-    ensures { OnOk result ((node at : nodes.Node) → slice_get grounds.now.workings.now.graph.nodes from ≡ Some at → slice_get grounds.now.workings.now.graph.nodes target ≡ Some node → listed.new.items ≡ listed.old.items ++ listed_of grounds.now.job.now node at) }
+    requires made { IsBasisOf grounds.now.job.now grounds.now.basis.now }
+    requires from { from < length grounds.now.basis.now.graph.nodes }
+    requires entry { IfSome (slice_get grounds.now.basis.now.graph.nodes from) (λ node. IsSome (entry_at (directory_of grounds.now.job.now) node)) }
+    ensures { OnOk result ((node at : nodes.Node) → slice_get grounds.now.basis.now.graph.nodes from ≡ Some at → slice_get grounds.now.basis.now.graph.nodes target ≡ Some node → listed.new.items ≡ listed.old.items ++ listed_of grounds.now.job.now node at) }
 {
-    let graph = &grounds.workings.graph;
+    let graph = &grounds.basis.graph;
     if !graph.children(from).contains(&target) {
         return Ok(());
     }
@@ -118,9 +118,9 @@ fn add_listed(
 
 // The items whose target has the number, of all entries and then of all include files.
 fn listed_for(alloc: Global, grounds: &Grounds<'_>, target: u32) -> Result<Seq<Listed>, AllocError>
-    requires made { AreWorkingsOf grounds.now.job.now grounds.now.workings.now }
-    requires target { target < length grounds.now.workings.now.graph.nodes }
-    ensures { IfOk result (λ listed. (node : nodes.Node) → slice_get grounds.now.workings.now.graph.nodes target ≡ Some node → listed ≡ unreached_of grounds.now.job.now node) }
+    requires made { IsBasisOf grounds.now.job.now grounds.now.basis.now }
+    requires target { target < length grounds.now.basis.now.graph.nodes }
+    ensures { IfOk result (λ listed. (node : nodes.Node) → slice_get grounds.now.basis.now.graph.nodes target ≡ Some node → listed ≡ unreached_of grounds.now.job.now node) }
 {
     let numbers = entry_numbers(alloc, grounds)?;
     let mut listed = Vec::new(alloc);
@@ -136,10 +136,10 @@ pub(crate) fn unreached_of(
     grounds: &Grounds<'_>,
     node: &Node,
 ) -> Result<Seq<Listed>, AllocError>
-    requires { AreWorkingsOf grounds.now.job.now grounds.now.workings.now }
+    requires { IsBasisOf grounds.now.job.now grounds.now.basis.now }
     ensures { IfOk result (λ listed. listed ≡ unreached_of grounds.now.job.now node.now) }
 {
-    match number_of(&grounds.workings.graph, node) {
+    match number_of(&grounds.basis.graph, node) {
         Some(number) => listed_for(alloc, grounds, number),
         None => Ok(Seq::of(Vec::new(alloc))),
     }

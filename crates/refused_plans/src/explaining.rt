@@ -8,7 +8,7 @@ use aliasplan::{RunFault, Workings, parse_job, plan_with_workings};
 use aliasplan_explain::{explain, run_explain};
 use growth_answers::inputs::address;
 use growth_answers::{Answer, Seen, Teller, Unready, case, judged};
-use relay_explain::{Asked, Explanation, Outcome};
+use relay_explain::{Asked, Outcome, Telling};
 use relay_job::{each_recipient_has_line, recipient_lines};
 use std::alloc::Global;
 use std::thread::Threads;
@@ -49,16 +49,16 @@ fn keeps_workings<R: Threads + Sync>(rt: &R, alloc: Global) -> Result<Seen, Unre
 }
 
 /// Whether the one answer names the last transaction.
-fn names_last(explanation: &Explanation) -> bool {
+fn names_last(telling: &Telling) -> bool {
     matches!(
-        explanation.answers.as_slice(),
+        telling.answers.as_slice(),
         [answer] if matches!(answer.outcome, Some(Outcome::Transaction(5)))
     )
 }
 
-fn is_explained(explanation: Result<Explanation, RunFault>) -> Answer {
-    match explanation {
-        Ok(explanation) => judged(explanation, names_last),
+fn is_explained(telling: Result<Telling, RunFault>) -> Answer {
+    match telling {
+        Ok(telling) => judged(telling, names_last),
         Err(RunFault::Memory) => Answer::Refused,
         Err(_) => Answer::Wrong,
     }

@@ -1,8 +1,8 @@
-//! What is asked for, and why kim is not reached: a list that would lead there is not.
+//! What is asked for, a step, and why kim is not reached: a list that would lead there is not.
 use crate::texts::LONG;
 use growth_answers::inputs::{address, is_address};
 use growth_answers::{Answer, Seen, Teller, Unready, call, case, judged, lent, twice};
-use relay_explain::{Asked, Entry, Explanation, Listed, Target, explanation_text};
+use relay_explain::{Asked, Entry, Listed, Mention, Step, Target, Telling, telling_text};
 use relay_text::{Seq, Text, TextFault};
 use std::alloc::{AllocError, Global};
 
@@ -10,6 +10,8 @@ const EXPLANATION: &[u8] = b"explain kim answers 0\n\
     unreached alias club line 3 item 2 kim\n\
     stands for missing kim\n\
     end\n";
+
+const STEP: &[u8] = b"step alias club line 3 item 2 kim is missing kim\n";
 
 const ASKED: &[u8] = b"<local-part-that-does-not-lie-in-the-value-itself@Example.NET>";
 
@@ -43,49 +45,58 @@ fn kim(alloc: Global) -> Result<Text, AllocError> {
 }
 
 /// The item of a list that nobody writes to.
-fn unreached(alloc: Global) -> Result<Seq<Listed>, AllocError> {
-    let listed = Listed {
+fn listed(alloc: Global) -> Result<Listed, AllocError> {
+    Ok(Listed {
         entry: Entry::Alias(Text::copy_of(alloc, b"club")?),
         line: 3,
         item: 2,
         text: kim(alloc)?,
-    };
-    Ok(Seq::of(Vec::from_array(alloc, [listed])?))
+    })
 }
 
-fn explanation(alloc: Global) -> Result<Explanation, Unready> {
+fn telling(alloc: Global) -> Result<Telling, Unready> {
     let name = address(alloc, b"kim")?;
     let target = kim(alloc)?;
     let stands_for = kim(alloc)?;
-    let unreached = unreached(alloc)?;
-    Ok(Explanation {
+    let unreached = Vec::from_array(alloc, [listed(alloc)?])?;
+    Ok(Telling {
         asked: Asked::Name(name),
         target: Target::Missing(target),
         decision: None,
         answers: Seq::of(Vec::new(alloc)),
         stands_for: Target::Missing(stands_for),
-        unreached,
+        unreached: Seq::of(unreached),
     })
 }
 
-fn is_written(alloc: Global, explanation: &Explanation) -> Answer {
-    match explanation_text(alloc, explanation) {
-        Ok(text) => judged(text, |text| text.as_bytes() == EXPLANATION),
-        Err(_) => Answer::Refused,
-    }
+/// Whether the text is the explanation, in one piece.
+fn is_explanation(pieces: &Seq<Text>) -> bool {
+    matches!(pieces.as_slice(), [text] if text.as_bytes() == EXPLANATION)
 }
 
-fn writes_an_explanation(alloc: Global) -> Result<Seen, Unready> {
-    let explanation = explanation(alloc)?;
-    lent(
-        explanation,
-        |explanation| Ok(twice!(is_written(alloc, explanation))),
-    )
+fn writes_what_is_told(alloc: Global) -> Result<Answer, Unready> {
+    Ok(match telling_text(alloc, telling(alloc)?) {
+        Ok(pieces) => judged(pieces, is_explanation),
+        Err(_) => Answer::Refused,
+    })
+}
+
+fn writes_a_step(alloc: Global) -> Result<Answer, Unready> {
+    let step = Step {
+        mention: Mention::Item(listed(alloc)?),
+        target: Target::Missing(kim(alloc)?),
+    };
+    let mut line = Vec::new(alloc);
+    Ok(match step.put_line(&mut line) {
+        Ok(()) => Answer::given(line.as_slice() == STEP),
+        Err(_) => Answer::Refused,
+    })
 }
 
 pub(crate) fn tell<R: Print + AllocGlobal>(teller: &mut Teller<'_, R>) {
     let alloc = teller.rt.alloc();
     call!(teller, "Asked::parse", reads_what_is_asked(alloc));
     case!(teller, "Asked::copy", copies_what_is_asked(alloc));
-    case!(teller, "explanation_text", writes_an_explanation(alloc));
+    call!(teller, "Step::put_line", writes_a_step(alloc));
+    call!(teller, "telling_text", writes_what_is_told(alloc));
 }

@@ -24,12 +24,12 @@ use Rattle.relay_explain.specs.declared.record.Fate.{Fate}
 use Rattle.relay_explain.specs.declared.record.Fate.TheVariants.{Host, Repeated, Own, Discarded, Null}
 use Rattle.relay_explain.specs.declared.record.Record.{Record}
 use Rattle.relay_explain.specs.declared.decision.Decision.{Decision}
-use Rattle.relay_explain.specs.declared.answer.GivenBy.{GivenBy}
-use Rattle.relay_explain.specs.declared.answer.GivenBy.TheVariants as given
-use Rattle.relay_explain.specs.declared.answer.Outcome.{Outcome}
-use Rattle.relay_explain.specs.declared.answer.Outcome.TheVariants.{Transaction, Unrouted}
-use Rattle.relay_explain.specs.declared.answer.Answer.{Answer}
-use Rattle.relay_explain.specs.declared.explanation.Explanation.{Explanation}
+use Rattle.relay_explain.specs.declared.given_by.GivenBy.{GivenBy}
+use Rattle.relay_explain.specs.declared.given_by.GivenBy.TheVariants as given
+use Rattle.relay_explain.specs.declared.outcome.Outcome.{Outcome}
+use Rattle.relay_explain.specs.declared.outcome.Outcome.TheVariants.{Transaction, Unrouted}
+use Rattle.relay_explain.specs.Explanations.{Answer}
+use Rattle.relay_explain.specs.Explanations.{Explanation}
 
 abbrev pub asked_words : Asked → List (List ℕ)
 asked_words (asked.Address a) = path_text_of (Some a) ∷ []

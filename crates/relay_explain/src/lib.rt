@@ -2,29 +2,33 @@
 //!
 //! An [`Explanation`] has an [`Answer`] for each sender under which what was asked for is reached: a chain of steps from a recipient, where
 //! the sender comes from, and what becomes of it. What decided the route and its hosts is the same under each sender. Lines are counted
-//! from 1 in their sections.
+//! from 1 in their sections. A [`Telling`] is the same with the lines of steps in place of steps: its text is made in pieces.
 #![tactic(auto)]
 
-pub mod answer;
 pub mod asked;
 pub mod decision;
 pub mod entry;
-pub mod explanation;
+pub mod given_by;
 pub mod listed;
+pub mod outcome;
+mod pieced_text;
 pub mod record;
 pub mod rule;
 pub mod step;
 pub mod target;
+pub mod telling;
 mod text;
+pub mod told;
 
-pub use answer::{Answer, GivenBy, Outcome};
 pub use asked::Asked;
 pub use decision::Decision;
 pub use entry::Entry;
-pub use explanation::Explanation;
+pub use given_by::GivenBy;
 pub use listed::Listed;
+pub use outcome::Outcome;
 pub use record::{Fate, Record};
 pub use rule::Rule;
 pub use step::{Mention, Step};
 pub use target::Target;
-pub use text::explanation_text;
+pub use telling::{Telling, telling_text};
+pub use told::Told;

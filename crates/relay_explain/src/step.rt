@@ -50,7 +50,8 @@ impl Step {
         self.target.put(out)
     }
 
-    pub(crate) fn put_line(&self, out: &mut Vec<u8>) -> Result<(), AllocError>
+    /// Writes its line, which ends with LF. `Err` where memory runs out.
+    pub fn put_line(&self, out: &mut Vec<u8>) -> Result<(), AllocError>
         ensures { OnOk result (out.new.items ≡ out.old.items ++ line (step_line self.now)) }
     {
         out.extend_from_slice(b"step")?;

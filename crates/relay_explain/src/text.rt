@@ -1,20 +1,18 @@
-//! The text of an explanation.
-ghost use Rattle.std.specs.Prelude.{◌≡◌, ◌++◌, ◌+◌, map, length, IfOk, OnOk};
-ghost use Rattle.std.specs.List.{enumerate_from};
+//! Lines of an explanation beside its answers, and before each.
+ghost use Rattle.std.specs.Prelude.{◌≡◌, ◌++◌, List, map, length, OnOk};
 ghost use Rattle.relay_wire.specs.PlanText.{line, lines_of};
-ghost use Rattle.relay_explain.specs.ExplanationText.{answer_line, answer_text, answers_text, decision_lines, explain_line, unreached_line, stands_line, why_not, explanation_text_of};
+ghost use Rattle.relay_explain.specs.Explanations.{Answer};
+ghost use Rattle.relay_explain.specs.ExplanationText.{answer_line, decision_lines, explain_line, unreached_line, stands_line, why_not};
 
-use crate::answer::Answer;
 use crate::asked::Asked;
-use crate::explanation::Explanation;
+use crate::decision::Decision;
 use crate::listed::Listed;
 use crate::target::Target;
-use relay_text::Text;
 use relay_wire::{put_number, put_word};
-use std::alloc::{AllocError, Global};
+use std::alloc::AllocError;
 
-// Writes the first line.
-fn put_first(asked: &Asked, answers: usize, out: &mut Vec<u8>) -> Result<(), AllocError>
+/// Writes the first line.
+pub(crate) fn put_first(asked: &Asked, answers: usize, out: &mut Vec<u8>) -> Result<(), AllocError>
     ensures { OnOk result (out.new.items ≡ out.old.items ++ line (explain_line asked.now answers)) }
 {
     out.extend_from_slice(b"explain")?;
@@ -25,8 +23,12 @@ fn put_first(asked: &Asked, answers: usize, out: &mut Vec<u8>) -> Result<(), All
     Ok(())
 }
 
-// Writes the line of an answer's number, and of what is reached.
-fn put_answer_line(number: usize, target: &Target, out: &mut Vec<u8>) -> Result<(), AllocError>
+/// Writes the line of an answer's number, and of what is reached.
+pub(crate) fn put_answer_line(
+    number: usize,
+    target: &Target,
+    out: &mut Vec<u8>,
+) -> Result<(), AllocError>
     ensures { OnOk result (out.new.items ≡ out.old.items ++ line (answer_line number target.now)) }
 {
     out.extend_from_slice(b"answer")?;
@@ -36,43 +38,14 @@ fn put_answer_line(number: usize, target: &Target, out: &mut Vec<u8>) -> Result<
     Ok(())
 }
 
-// Writes the lines of a decision, where there is one.
-fn put_decision(explanation: &Explanation, out: &mut Vec<u8>) -> Result<(), AllocError>
-    ensures { OnOk result (out.new.items ≡ out.old.items ++ decision_lines explanation.now.decision) }
+/// Writes the lines of a decision, where there is one.
+pub(crate) fn put_decision(decision: &Option<Decision>, out: &mut Vec<u8>) -> Result<(), AllocError>
+    ensures { OnOk result (out.new.items ≡ out.old.items ++ decision_lines decision.now) }
 {
-    match &explanation.decision {
+    match decision {
         Some(decision) => decision.put_lines(out),
         None => Ok(()),
     }
-}
-
-// Writes an answer.
-fn put_answer(
-    explanation: &Explanation,
-    number: usize,
-    answer: &Answer,
-    out: &mut Vec<u8>,
-) -> Result<(), AllocError>
-    ensures { OnOk result (out.new.items ≡ out.old.items ++ answer_text explanation.now.target explanation.now.decision number answer.now) }
-{
-    put_answer_line(number, &explanation.target, out)?;
-    answer.put_chain(out)?;
-    put_decision(explanation, out)?;
-    answer.put_outcome(out)
-}
-
-// Writes answers of an explanation.
-fn put_answers(
-    explanation: &Explanation,
-    answers: &[Answer],
-    out: &mut Vec<u8>,
-) -> Result<(), AllocError>
-    ensures { OnOk result (out.new.items ≡ out.old.items ++ answers_text explanation.now.target explanation.now.decision (enumerate_from 1 answers.now)) }
-{
-    for (index, answer) in answers.iter().enumerate() {
-        put_answer(explanation, index + 1, answer, out)?;
-    }
-    Ok(())
 }
 
 // Writes the line of each item.
@@ -97,26 +70,18 @@ fn put_stands_for(target: &Target, out: &mut Vec<u8>) -> Result<(), AllocError>
     Ok(())
 }
 
-// Writes why there is no answer, where there is none.
-fn put_why_not(explanation: &Explanation, out: &mut Vec<u8>) -> Result<(), AllocError>
-    ensures { OnOk result (out.new.items ≡ out.old.items ++ why_not explanation.now.unreached explanation.now.stands_for explanation.now.answers) }
+/// Writes why there is no answer, where there is none: the items that would lead there, and what the asked name or address stands for.
+pub(crate) fn put_why_not(
+    answers: usize,
+    unreached: &[Listed],
+    stands_for: &Target,
+    out: &mut Vec<u8>,
+) -> Result<(), AllocError>
+    ensures { OnOk result ((list : List Answer) → length list ≡ answers → out.new.items ≡ out.old.items ++ why_not unreached.now stands_for.now list) }
 {
-    if !explanation.answers.is_empty() {
+    if answers > 0 {
         return Ok(());
     }
-    put_unreached(explanation.unreached.as_slice(), out)?;
-    put_stands_for(&explanation.stands_for, out)
-}
-
-/// The text of an explanation: what is asked for and how many answers there are, the answers, or where there is none the items that
-/// would lead there and what the asked name or address stands for, and `end`. Each line ends with LF. `Err` where memory runs out.
-pub fn explanation_text(alloc: Global, explanation: &Explanation) -> Result<Text, AllocError>
-    ensures { IfOk result (λ text. text ≡ explanation_text_of explanation.now) }
-{
-    let mut out = Vec::new(alloc);
-    put_first(&explanation.asked, explanation.answers.len(), &mut out)?;
-    put_answers(explanation, explanation.answers.as_slice(), &mut out)?;
-    put_why_not(explanation, &mut out)?;
-    out.extend_from_slice(b"end\n")?;
-    Ok(Text::of(out))
+    put_unreached(unreached, out)?;
+    put_stands_for(stands_for, out)
 }

@@ -11,7 +11,7 @@ use Rattle.aliasplan_explain.proofs.unreached.add_items.Goals as goal
 use Rattle.aliasplan_explain.proofs.unreached.add_items.Goals.{After-next}
 
 -- the children and the row are gone through side by side
-children_first : (c : After-next) → iter_rest (zip_first c.into_iter-child-iterator.result) ≡ child_numbers c.args.grounds.now.workings.now.graph c.args.from
+children_first : (c : After-next) → iter_rest (zip_first c.into_iter-child-iterator.result) ≡ child_numbers c.args.grounds.now.basis.now.graph c.args.from
 children_first c =
     ap (λ (z : Zip (Iter ℕ) (Iter ItemPlace)). iter_rest (zip_first z)) c.into_iter-child-iterator.ensures.into_iter_gives
     ∙ ap (λ (i : Iter ℕ). iter_rest i) c.zip-child-items.ensures.first

@@ -11,6 +11,6 @@ use Rattle.aliasplan_explain.proofs.unreached.add_items.Given as goal
 
 -- what is still to come completes what is there
 abbrev pub invariant-loop-child : goal.invariant-loop-child
-invariant-loop-child l = (node : Node) (entry : Entry) → slice_get l.grounds.workings.now.graph.nodes l.from ≡ Some node → entry_at (directory_of l.grounds.job.now) node ≡ Some entry
-    → l.listed.items ++ numbered_for l.target (drop (length l.yielded) (child_numbers l.grounds.workings.now.graph l.from)) (drop (length l.yielded) (map (listed_in entry) (map place_value l.row)))
-    ≡ l.fn.listed.items ++ numbered_for l.target (child_numbers l.grounds.workings.now.graph l.from) (map (listed_in entry) (map place_value l.row))
+invariant-loop-child l = (node : Node) (entry : Entry) → slice_get l.grounds.basis.now.graph.nodes l.from ≡ Some node → entry_at (directory_of l.grounds.job.now) node ≡ Some entry
+    → l.listed.items ++ numbered_for l.target (drop (length l.yielded) (child_numbers l.grounds.basis.now.graph l.from)) (drop (length l.yielded) (map (listed_in entry) (map place_value l.row)))
+    ≡ l.fn.listed.items ++ numbered_for l.target (child_numbers l.grounds.basis.now.graph l.from) (map (listed_in entry) (map place_value l.row))

@@ -15,7 +15,7 @@ use Rattle.aliasplan_explain.proofs.unreached.add_listed.Goals as goal
 pub returns-then-not-contains : goal.returns-then-not-contains
 returns-then-not-contains c =
     let job = c.args.grounds.now.job.now in
-    let g = c.args.grounds.now.workings.now.graph in
+    let g = c.args.grounds.now.basis.now.graph in
     let target = c.args.target in
     let none : Contains c.children.result.now target → ⊥ = λ h. both_ways _ (c.if-not-contains.ensures.cases h.0 target (omega arith) h.1) (eq-eqb _ _ h.2) in
     let other : Contains (child_numbers g c.args.from) target → ⊥ = subst (λ (cs : List ℕ). Contains cs target → ⊥) c.children.ensures none in
@@ -25,7 +25,7 @@ returns-then-not-contains c =
 pub returns : goal.returns
 returns c =
     let job = c.args.grounds.now.job.now in
-    let g = c.args.grounds.now.workings.now.graph in
+    let g = c.args.grounds.now.basis.now.graph in
     let row = c.deref.result.now in
     on_ok_weaker c.add_items.result (λ added node at at_from at_target.
     let entry = entry_there job g.nodes c.args.from at c.requires.entry at_from in

@@ -15,25 +15,25 @@ loop-number-init c =
     let d = directory_of c.args.grounds.now.job.now in
     let aliases : length c.aliases.result.now ≡ length d.aliases = ap length (c.aliases.ensures.entries ∙ ap (λ (x : Directory). x.aliases) c.requires.tables) in
     let includes : length c.includes.result.now ≡ length d.includes = ap length (c.includes.ensures.entries ∙ ap (λ (x : Directory). x.includes) c.requires.tables) in
-    none_set d c.args.grounds.now.workings.now.graph.nodes c.in_ok-numbers.numbers.items (omega (arith, aliases, includes, c.in_ok-numbers.ensures.len, c.in_ok-numbers.numbers.ok.0))
+    none_set d c.args.grounds.now.basis.now.graph.nodes c.in_ok-numbers.numbers.items (omega (arith, aliases, includes, c.in_ok-numbers.ensures.len, c.in_ok-numbers.numbers.ok.0))
 
 pub place_of-requires : goal.place_of-requires
 place_of-requires c =
     let job = c.args.grounds.now.job.now in
-    let g = c.args.grounds.now.workings.now.graph in
+    let g = c.args.grounds.now.basis.now.graph in
     let n = c.node.result.now in
     subst (λ (x : Directory). IsSome (target_at x n)) (sym c.requires.tables) (node_has_target (directory_of job) job.sender job.recipients g c.requires.graph c.loop-number.number n c.node.ensures)
 
 pub index_mut-requires : goal.index_mut-requires
 index_mut-requires c =
-    let tables = c.args.grounds.now.workings.now.tables in
+    let tables = c.args.grounds.now.basis.now.sources.tables in
     let within : c.in-Some.place < length (entry_nodes tables) = slice_get_within (entry_nodes tables) c.in-Some.place c.node.result.now c.in-Some.ensures.some in
     omega (arith, within, ap (λ (x : Directory). length (entry_nodes x)) c.requires.tables, c.loop-number.invariant.size, c.loop-number.numbers.ok.0)
 
 pub loop-number-preserved : goal.loop-number-preserved
 loop-number-preserved c =
     let d = directory_of c.args.grounds.now.job.now in
-    let g = c.args.grounds.now.workings.now.graph in
+    let g = c.args.grounds.now.basis.now.graph in
     let n = c.node.result.now in
     let k = c.loop-number.number in
     let numbers = c.loop-number.numbers.items in
@@ -51,6 +51,6 @@ loop-number-preserved c =
 pub returns : goal.returns
 returns c =
     let job = c.args.grounds.now.job.now in
-    let g = c.args.grounds.now.workings.now.graph in
+    let g = c.args.grounds.now.basis.now.graph in
     let all : c.loop-number.number ≡ length g.nodes = omega arith in
     all_set (directory_of job) job.sender job.recipients g c.requires.graph c.loop-number.numbers.items (subst (λ k. AreSet (directory_of job) g.nodes k c.loop-number.numbers.items) all c.loop-number.invariant)

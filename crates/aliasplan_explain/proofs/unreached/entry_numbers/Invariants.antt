@@ -4,4 +4,4 @@ use Rattle.aliasplan_explain.proofs.unreached.entry_numbers.Given as goal
 
 -- the entries among the nodes before this one have their numbers
 abbrev pub invariant-loop-number : goal.invariant-loop-number
-invariant-loop-number l = AreSet (directory_of l.grounds.job.now) l.grounds.workings.now.graph.nodes l.number l.numbers.items
+invariant-loop-number l = AreSet (directory_of l.grounds.job.now) l.grounds.basis.now.graph.nodes l.number l.numbers.items

@@ -10,17 +10,17 @@ use Rattle.aliasplan_explain.proofs.unreached.listed_for.Goals as goal
 use Rattle.aliasplan_explain.proofs.unreached.listed_for.Goals.{In-loop-from}
 
 -- the number of this turn is an entry's
-this_entry : (c : In-loop-from) → IsEntryAt c.args.grounds.now.job.now c.args.grounds.now.workings.now.graph.nodes c.deref-from-items.result.now c.loop-from.from-index
+this_entry : (c : In-loop-from) → IsEntryAt c.args.grounds.now.job.now c.args.grounds.now.basis.now.graph.nodes c.deref-from-items.result.now c.loop-from.from-index
 this_entry c =
     let job = c.args.grounds.now.job.now in
-    let g = c.args.grounds.now.workings.now.graph in
+    let g = c.args.grounds.now.basis.now.graph in
     let are = subst (λ (ns : List ℕ). nodes_at g ns ≡ map (λ (n : Node). Some n) (entry_nodes (directory_of job))) (sym c.deref-from-items.ensures.value) c.in_ok-numbers.ensures in
     entry_of_number job g c.deref-from-items.result.now c.loop-from.from-index are c.loop-from-test.true
 
 pub add_listed-requires-clause-from : goal.add_listed-requires-clause-from
 add_listed-requires-clause-from c =
     let e = this_entry (goal.at.add_listed-requires-clause-from c).In-loop-from in
-    slice_get_within c.args.grounds.now.workings.now.graph.nodes (get_or c.deref-from-items.result.now c.loop-from.from-index 0) e.node e.at
+    slice_get_within c.args.grounds.now.basis.now.graph.nodes (get_or c.deref-from-items.result.now c.loop-from.from-index 0) e.node e.at
 
 pub add_listed-requires-clause-entry : goal.add_listed-requires-clause-entry
 add_listed-requires-clause-entry c =
@@ -31,4 +31,4 @@ pub loop-from-preserved : goal.loop-from-preserved
 loop-from-preserved c =
     let e = this_entry (goal.at.loop-from-preserved c).In-loop-from in
     λ node at.
-    listed_more c.args.grounds.now.job.now node c.args.grounds.now.workings.now.graph.nodes c.deref-from-items.result.now c.loop-from.from-index e c.loop-from.listed.items c.add_listed.new.listed.items (c.loop-from.invariant node at) (c.in_ok-add_listed.ensures node e.node e.at at)
+    listed_more c.args.grounds.now.job.now node c.args.grounds.now.basis.now.graph.nodes c.deref-from-items.result.now c.loop-from.from-index e c.loop-from.listed.items c.add_listed.new.listed.items (c.loop-from.invariant node at) (c.in_ok-add_listed.ensures node e.node e.at at)

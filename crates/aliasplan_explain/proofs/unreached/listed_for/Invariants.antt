@@ -8,4 +8,4 @@ use Rattle.aliasplan_explain.proofs.unreached.listed_for.Given as goal
 
 -- the items of the entries so far
 abbrev pub invariant-loop-from : goal.invariant-loop-from
-invariant-loop-from l = (node : Node) → slice_get l.grounds.workings.now.graph.nodes l.target ≡ Some node → l.listed.items ≡ flat_map (listed_of l.grounds.job.now node) (take l.from-index (entry_nodes (directory_of l.grounds.job.now)))
+invariant-loop-from l = (node : Node) → slice_get l.grounds.basis.now.graph.nodes l.target ≡ Some node → l.listed.items ≡ flat_map (listed_of l.grounds.job.now node) (take l.from-index (entry_nodes (directory_of l.grounds.job.now)))

@@ -13,14 +13,14 @@ use Rattle.aliasplan_explain.proofs.walking.first_step.Goals as goal
 
 pub node-node-requires : goal.node-node-requires
 node-node-requires c =
-    let g = c.args.grounds.now.workings.now.graph in
+    let g = c.args.grounds.now.basis.now.graph in
     let r = root_node c.args.grounds.now.job.now g c.requires.made.graph c.args.recipient c.args.root c.requires.root in
     slice_get_within g.nodes c.args.root (recipient_target (directory_of c.args.grounds.now.job.now) r.0) r.2
 
 pub target_of-requires : goal.target_of-requires
 target_of-requires c =
     let job = c.args.grounds.now.job.now in
-    let g = c.args.grounds.now.workings.now.graph in
+    let g = c.args.grounds.now.basis.now.graph in
     subst (λ (d : Directory). IsSome (target_at d c.node-node.result.now)) (sym c.requires.made.tables)
     (node_has_target (directory_of job) job.sender job.recipients g c.requires.made.graph c.args.root c.node-node.result.now c.node-node.ensures)
 
@@ -37,7 +37,7 @@ pub returns-clause-target : goal.returns-clause-target
 returns-clause-target c = λ address at_address.
     let job = c.args.grounds.now.job.now in
     let d = directory_of job in
-    let g = c.args.grounds.now.workings.now.graph in
+    let g = c.args.grounds.now.basis.now.graph in
     let r = root_node job g c.requires.made.graph c.args.recipient c.args.root c.requires.root in
     let node : Node = c.node-node.result.now in
     let same : r.0 ≡ address = same_Some r.0 address (sym r.1 ∙ at_address) in

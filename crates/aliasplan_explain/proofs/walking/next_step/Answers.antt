@@ -14,7 +14,7 @@ use Rattle.aliasplan_explain.proofs.walking.next_step.Goals as goal
 pub unreachable-requires : goal.unreachable-requires
 unreachable-requires c =
     let job = c.args.grounds.now.job.now in
-    let g = c.args.grounds.now.workings.now.graph in
+    let g = c.args.grounds.now.basis.now.graph in
     let node : Node = c.node.result.now in
     let child = child_node job g c.requires.made.graph c.args.from node c.node.ensures c.args.item c.args.to c.requires.to in
     let listed =
@@ -23,14 +23,14 @@ unreachable-requires c =
 
 pub node-requires-2 : goal.node-requires-2
 node-requires-2 c =
-    let g = c.args.grounds.now.workings.now.graph in
+    let g = c.args.grounds.now.basis.now.graph in
     let child = child_node c.args.grounds.now.job.now g c.requires.made.graph c.args.from c.node.result.now c.node.ensures c.args.item c.args.to c.requires.to in
     slice_get_within g.nodes c.args.to child.0 child.2
 
 pub target_of-requires : goal.target_of-requires
 target_of-requires c =
     let job = c.args.grounds.now.job.now in
-    let g = c.args.grounds.now.workings.now.graph in
+    let g = c.args.grounds.now.basis.now.graph in
     subst (λ (d : Directory). IsSome (target_at d c.node-2.result.now)) (sym c.requires.made.tables)
     (node_has_target (directory_of job) job.sender job.recipients g c.requires.made.graph c.args.to c.node-2.result.now c.node-2.ensures)
 
@@ -38,7 +38,7 @@ pub returns : goal.returns
 returns c = λ a b at_a at_b.
     let job = c.args.grounds.now.job.now in
     let d = directory_of job in
-    let g = c.args.grounds.now.workings.now.graph in
+    let g = c.args.grounds.now.basis.now.graph in
     let child = child_node job g c.requires.made.graph c.args.from a at_a c.args.item c.args.to c.requires.to in
     let first : Node = c.node.result.now in
     let second : Node = c.node-2.result.now in

@@ -1,0 +1,125 @@
+//! The lines of the steps of a trail.
+//!
+//! A step is made and told at once, so that steps take no room. Each worker tells a stretch of the trail.
+use relay_explain::GivenBy;
+use relay_text::Text;
+
+/// The lines of the steps of a trail, in pieces, and who gave the sender after them.
+#[derive(Drop)]
+pub(crate) struct ChainLines {
+    pub(crate) lines: Vec<Text>,
+    pub(crate) given_by: GivenBy,
+}
+
+ghost use Rattle.std.specs.Prelude.{◌≡◌, ◌≤◌, Ok, length, map, IfOk};
+ghost use Rattle.std.specs.Thread.{IsSync};
+ghost use Rattle.relay_trails.specs.Trails.{HasNodes, trail_of};
+ghost use Rattle.relay_explain.specs.PiecedTexts.{text_of};
+ghost use Rattle.aliasplan_explain.specs.Grounds.{IsBasisOf};
+ghost use Rattle.aliasplan_explain.specs.Stretches.{AreLinesOf, IsFirstLine, IsTextOf};
+
+use crate::ahead::{BLOCK, places_ahead};
+use crate::grounds::Grounds;
+use crate::stretch::{Stretch, stretches_of};
+use crate::walking::{first_step, given_by, next_step, owner_along};
+use aliasplan::{Crew, Gate};
+use relay_trails::Found;
+use std::alloc::{AllocError, Global};
+use std::thread::{Threads, map_vec};
+
+// The lines of the steps of a stretch.
+fn stretch_text(
+    alloc: Global,
+    grounds: &Grounds<'_>,
+    found: &Found,
+    stretch: Stretch,
+) -> Result<Text, AllocError>
+    requires made { IsBasisOf grounds.now.job.now grounds.now.basis.now }
+    requires nodes { HasNodes grounds.now.basis.now.graph found.now }
+    requires order { stretch.start ≤ stretch.end }
+    requires within { stretch.end ≤ length found.now.items.items }
+    ensures { IfOk result (IsTextOf grounds.now.job.now grounds.now.basis.now.graph found.now stretch.start stretch.end) }
+{
+    let nodes = found.nodes.as_slice();
+    let items = found.items.as_slice();
+    let mut out = Vec::new(alloc);
+    let mut ahead = Vec::with_capacity(alloc, BLOCK)?;
+    for place in stretch.start..stretch.end {
+        let ahead_by = (place - stretch.start) % BLOCK;
+        if ahead_by == 0 {
+            places_ahead(grounds, &nodes[place..], &mut ahead)?;
+        }
+        let likely = ahead.get(ahead_by).copied().unwrap_or(0);
+        let (from, item, to) = (nodes[place], items[place], nodes[place + 1]);
+        let step = next_step(alloc, grounds, from, item, to, likely)?;
+        step.put_line(&mut out)?;
+    }
+    Ok(Text::of(out))
+}
+
+// The values of results, or want of memory where one says so.
+fn all_of(alloc: Global, results: Vec<Result<Text, AllocError>>) -> Result<Vec<Text>, AllocError>
+    ensures { IfOk result (λ texts. map (λ text. Ok text) texts.items ≡ results.items) }
+{
+    let mut texts = Vec::with_capacity(alloc, results.len())?;
+    for text in results {
+        texts.push(text?)?;
+    }
+    Ok(texts)
+}
+
+// The lines of the steps behind a trail's first, in pieces.
+fn item_lines<G: Gate, R: Threads + Sync>(
+    crew: &Crew<G, R>,
+    grounds: &Grounds<'_>,
+    found: &Found,
+) -> Result<Vec<Text>, AllocError>
+    requires made { IsBasisOf grounds.now.job.now grounds.now.basis.now }
+    requires nodes { HasNodes grounds.now.basis.now.graph found.now }
+    ensures { IfOk result (λ texts. IsTextOf grounds.now.job.now grounds.now.basis.now.graph found.now 0 (length found.now.items.items) (text_of texts.items)) }
+{
+    let alloc = crew.alloc;
+    let items = found.items.as_slice();
+    let stretches = stretches_of(alloc, items.len(), crew.options.workers)?;
+    let tell = |stretch: Stretch| -> Result<Text, AllocError>
+        requires { IsBasisOf grounds.now.job.now grounds.now.basis.now × HasNodes grounds.now.basis.now.graph found.now × (stretch.start ≤ stretch.end) × (stretch.end ≤ length found.now.items.items) }
+        ensures { IfOk result (IsTextOf grounds.entry.now.job.now grounds.entry.now.basis.now.graph found.entry.now stretch.start stretch.end) }
+    { stretch_text(alloc, grounds, found, stretch) };
+    let told = map_vec(crew.rt, stretches, &tell)?;
+    all_of(alloc, told)
+}
+
+// The line of a trail's first step.
+fn first_line(alloc: Global, grounds: &Grounds<'_>, found: &Found) -> Result<Text, AllocError>
+    requires made { IsBasisOf grounds.now.job.now grounds.now.basis.now }
+    requires nodes { HasNodes grounds.now.basis.now.graph found.now }
+    ensures { IfOk result (IsFirstLine grounds.now.job.now grounds.now.recipient_lines.now found.now.recipient) }
+{
+    let mut out = Vec::new(alloc);
+    let step = first_step(alloc, grounds, found.recipient, found.nodes[0])?;
+    step.put_line(&mut out)?;
+    Ok(Text::of(out))
+}
+
+/// The lines of the steps of a trail that was found, and who gave the sender after them. `Err` where memory runs out.
+pub(crate) fn chain_lines<G: Gate, R: Threads + Sync>(
+    crew: &Crew<G, R>,
+    grounds: &Grounds<'_>,
+    found: &Found,
+) -> Result<ChainLines, AllocError>
+    requires made { IsBasisOf grounds.now.job.now grounds.now.basis.now }
+    requires nodes { HasNodes grounds.now.basis.now.graph found.now }
+    ensures { IfOk result (λ chain. AreLinesOf grounds.now.job.now grounds.now.recipient_lines.now (trail_of found.now) chain.lines.items chain.given_by) }
+{
+    let alloc = crew.alloc;
+    let nodes = found.nodes.as_slice();
+    let items = found.items.as_slice();
+    let owner = owner_along(grounds, &nodes[..items.len()]);
+    let given_by = given_by(alloc, grounds, owner)?;
+    let first = first_line(alloc, grounds, found)?;
+    let mut more = item_lines(crew, grounds, found)?;
+    let mut lines = Vec::new(alloc);
+    lines.push(first)?;
+    lines.append(&mut more)?;
+    Ok(ChainLines { lines, given_by })
+}
