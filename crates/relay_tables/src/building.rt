@@ -4,6 +4,7 @@ ghost use Rattle.relay_tables.specs.Graphs.{nodes_of};
 ghost use Rattle.relay_tables.specs.Building.{AreRows};
 
 use crate::adjacency::Adjacency;
+use crate::ahead::Ahead;
 use crate::fault::TableFault;
 use crate::node::Node;
 use crate::numbering::Numbering;
@@ -67,6 +68,7 @@ pub(crate) fn number_all(
     let mut scratch = Scratch {
         name: Vec::new(alloc),
         row: Vec::new(alloc),
+        ahead: Ahead::of(heads),
     };
     let entries = aliases.saturating_add(includes);
     let mut children = Adjacency::with_capacity(alloc, entries)?;

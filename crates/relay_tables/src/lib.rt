@@ -2,6 +2,7 @@
 #![tactic(auto)]
 
 mod adjacency;
+mod ahead;
 mod building;
 pub mod counting;
 mod domain_kind;

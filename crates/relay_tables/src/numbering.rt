@@ -133,6 +133,11 @@ impl Numbering {
         Ok(number as u32)
     }
 
+    /// The word of the newest node behind the entries that has a hash.
+    pub(crate) fn newest(&self, hash: u32) -> u32 {
+        self.links.newest(hash)
+    }
+
     /// How many nodes there are.
     pub(crate) fn len(&self) -> usize
         ensures value { result ≡ length self.now.nodes }

@@ -10,6 +10,7 @@ ghost use Rattle.relay_tables.specs.Sending.{IsOwnedBy};
 ghost use Rattle.relay_tables.specs.Reaches.{owner_at, MayAddSender, AreFound, IsReach};
 
 use crate::adjacency::Adjacency;
+use crate::ahead::Ahead;
 use crate::fault::TableFault;
 use crate::node::Node;
 use crate::numbering::Numbering;
@@ -83,6 +84,7 @@ fn reach_roots(
     let mut scratch = Scratch {
         name: Vec::new(alloc),
         row: Vec::new(alloc),
+        ahead: Ahead::of(heads),
     };
     let roots = number_recipients(alloc, tables, recipients, &mut numbering, &mut scratch)?;
     Ok(Reach {

@@ -8,6 +8,7 @@ ghost use Rattle.relay_tables.specs.Numbering.{Numbers};
 ghost use Rattle.relay_tables.specs.Rowing.{nodes_in, some_of, Adds};
 
 use crate::adjacency::Adjacency;
+use crate::ahead::Ahead;
 use crate::fault::TableFault;
 use crate::leading::{number_address, number_item};
 use crate::numbering::Numbering;
@@ -16,11 +17,12 @@ use relay_aliasfile::Item;
 use relay_text::Address;
 use std::alloc::Global;
 
-/// What is written over for each row: a folded name, and the numbers of a row.
+/// What is written over for each row: a folded name, and the numbers of a row; and what reads for the look-ups ahead.
 #[derive(Drop)]
 pub(crate) struct Scratch {
     pub(crate) name: Vec<u8>,
     pub(crate) row: Vec<u32>,
+    pub(crate) ahead: Ahead,
 }
 
 /// The numbers of the targets of items that stand in a parent, in their order, with repeats: they go into the scratch's row.
@@ -39,6 +41,8 @@ pub(crate) fn number_items(
 {
     scratch.row.clear();
     for item in items {
+        let start = scratch.row.len();
+        scratch.ahead.read_items(tables, names, items, start);
         let number = number_item(alloc, tables, item, parent, names, &mut scratch.name)?;
         scratch.row.push(number)?;
     }
@@ -60,6 +64,7 @@ pub(crate) fn number_aliases(
 {
     let entries = tables.aliases();
     for number in 0..entries.len() {
+        scratch.ahead.read_entries(tables, names, number);
         let items = entries[number].items.as_slice();
         number_items(alloc, tables, items, Some(number as u32), names, scratch)?;
         rows.push(&scratch.row)?;
@@ -101,6 +106,10 @@ pub(crate) fn number_recipients(
 {
     let mut roots = Vec::with_capacity(alloc, recipients.len())?;
     for address in recipients {
+        let start = roots.len();
+        scratch
+            .ahead
+            .read_recipients(tables, names, recipients, start);
         let number = number_address(alloc, tables, address, None, names, &mut scratch.name)?;
         roots.push(number)?;
     }

@@ -206,6 +206,41 @@ impl Tables {
         DomainKind::Remote
     }
 
+    // Whether an address has the mark of a local domain: it's remote where it hasn't.
+    pub(crate) fn may_be_local(&self, address: &Address) -> bool {
+        self.marks[domain_mark(address.domain())]
+    }
+
+    // The word of the newest entry whose name has a hash.
+    pub(crate) fn newest_entry(&self, hash: u32) -> u32 {
+        self.alias_links.newest(hash)
+    }
+
+    // The word of the newest mailbox whose name has a hash.
+    pub(crate) fn newest_mailbox(&self, hash: u32) -> u32 {
+        self.mailbox_links.newest(hash)
+    }
+
+    // The length of the name of the entry of a word.
+    pub(crate) fn entry_len(&self, word: u32) -> usize {
+        match self.aliases.as_slice().get((word as usize).wrapping_sub(1)) {
+            Some(entry) => entry.name.len(),
+            None => 0,
+        }
+    }
+
+    // The length of the name of the mailbox of a word.
+    pub(crate) fn mailbox_len(&self, word: u32) -> usize {
+        match self
+            .mailboxes
+            .as_slice()
+            .get((word as usize).wrapping_sub(1))
+        {
+            Some(name) => name.len(),
+            None => 0,
+        }
+    }
+
     // The key of the hashes, which depends on all names of entries and mailboxes.
     pub(crate) fn key(&self) -> u64 {
         self.key

@@ -1,0 +1,230 @@
+//! What the next look-ups will read, read for many of them at once.
+//!
+//! A look-up reads the head of a bucket, the hashes in it and the text of a number under its own hash, which lie apart in memory. It
+//! waits for each of them in turn, and the next look-up waits for it. Read by themselves for a block of look-ups, with little between,
+//! they are waited for at the same time, and the look-ups find them at hand. What is read here decides nothing: a look-up reads it again.
+ghost use Rattle.std.specs.Prelude.{◌≤◌, length};
+
+use crate::numbering::Numbering;
+use crate::tables::Tables;
+use relay_aliasfile::{Entry, Item};
+use relay_chains::hash_text;
+use relay_text::Address;
+
+// So many look-ups are a block: what they read has room in a processor's own cache.
+const BLOCK: usize = 64;
+
+// With fewer look-ups than these, what they read mostly lies in the cache, and to read it twice takes longer than to wait for it.
+const MANY: usize = 1 << 17;
+
+// The first hashes of an array, so many.
+#[derive(Drop)]
+struct Hashes {
+    hashes: [u32; BLOCK],
+    count: usize,
+}
+
+impl Hashes {
+    fn none() -> Hashes {
+        Hashes {
+            hashes: [0; BLOCK],
+            count: 0,
+        }
+    }
+
+    // One more, where there is room.
+    fn put(&mut self, hash: u32) {
+        if self.count < BLOCK {
+            self.hashes[self.count] = hash;
+            self.count += 1;
+        }
+    }
+
+    fn as_slice(&self) -> &[u32]
+        ensures { length result.now ≤ BLOCK }
+    {
+        &self.hashes[..self.count.min(BLOCK)]
+    }
+}
+
+// The hashes of a block's look-ups. A name that isn't folded has another one here than where it's looked up.
+#[derive(Drop)]
+struct Block {
+    names: Hashes,
+    addresses: Hashes,
+}
+
+impl Block {
+    fn none() -> Block {
+        Block {
+            names: Hashes::none(),
+            addresses: Hashes::none(),
+        }
+    }
+
+    // What an address is looked up by. Whether it's local is only guessed.
+    fn put_address(&mut self, tables: &Tables, address: &Address) {
+        if tables.may_be_local(address) {
+            self.names.put(hash_text(tables.key(), address.local()));
+        } else {
+            self.addresses
+                .put(hash_text(tables.key(), address.joined()));
+        }
+    }
+
+    // What an item is looked up by. Files and commands are few.
+    fn put_item(&mut self, tables: &Tables, item: &Item) {
+        match item {
+            Item::Bare(name) => self.names.put(hash_text(tables.key(), name.as_bytes())),
+            Item::Full(address) => self.put_address(tables, address),
+            Item::Include(_) | Item::Command(_) | Item::File(_) => {}
+        }
+    }
+
+    // Reads for all of them.
+    #[inline(never)]
+    fn read(&self, tables: &Tables, names: &Numbering) -> usize {
+        let hashes = self.names.as_slice();
+        let mut words = [0u32; BLOCK];
+        find_entries(tables, hashes, &mut words);
+        let entries = read_entry_names(tables, names, hashes, &mut words);
+        let mailboxes = read_mailbox_names(tables, &words[..hashes.len()]);
+        let nodes = read_nodes(names, self.addresses.as_slice());
+        entries.wrapping_add(mailboxes).wrapping_add(nodes)
+    }
+}
+
+// The words of the newest entries under the hashes.
+fn find_entries(tables: &Tables, hashes: &[u32], words: &mut [u32; BLOCK])
+    requires { length hashes.now ≤ BLOCK }
+{
+    for place in 0..hashes.len() {
+        words[place] = tables.newest_entry(hashes[place]);
+    }
+}
+
+// Reads the names of the entries of the words. Where there is none, the word becomes that of the newest mailbox.
+fn read_entry_names(
+    tables: &Tables,
+    names: &Numbering,
+    hashes: &[u32],
+    words: &mut [u32; BLOCK],
+) -> usize
+    requires { length hashes.now ≤ BLOCK }
+{
+    let mut seen = 0usize;
+    for place in 0..hashes.len() {
+        if words[place] == 0 {
+            seen = seen.wrapping_add(names.newest(hashes[place]) as usize);
+            words[place] = tables.newest_mailbox(hashes[place]);
+        } else {
+            seen = seen.wrapping_add(tables.entry_len(words[place]));
+            words[place] = 0;
+        }
+    }
+    seen
+}
+
+// Reads the names of the mailboxes of the words.
+fn read_mailbox_names(tables: &Tables, words: &[u32]) -> usize {
+    let mut seen = 0usize;
+    for word in words {
+        seen = seen.wrapping_add(tables.mailbox_len(*word));
+    }
+    seen
+}
+
+// Reads the newest nodes under the hashes.
+fn read_nodes(names: &Numbering, hashes: &[u32]) -> usize {
+    let mut seen = 0usize;
+    for hash in hashes {
+        seen = seen.wrapping_add(names.newest(*hash) as usize);
+    }
+    seen
+}
+
+// Reads for the first items.
+#[inline(never)]
+fn read_items(tables: &Tables, names: &Numbering, items: &[Item]) -> usize {
+    let mut block = Block::none();
+    for item in items.iter().take(BLOCK) {
+        block.put_item(tables, item);
+    }
+    block.read(tables, names)
+}
+
+// The same for the first items of entries.
+#[inline(never)]
+fn read_entries(tables: &Tables, names: &Numbering, entries: &[Entry]) -> usize {
+    let mut block = Block::none();
+    for entry in entries.iter().take(BLOCK) {
+        if let Some(item) = entry.items.as_slice().first() {
+            block.put_item(tables, item);
+        }
+    }
+    block.read(tables, names)
+}
+
+// The same for recipients.
+#[inline(never)]
+fn read_recipients(tables: &Tables, names: &Numbering, recipients: &[Address]) -> usize {
+    let mut block = Block::none();
+    for address in recipients.iter().take(BLOCK) {
+        block.put_address(tables, address);
+    }
+    block.read(tables, names)
+}
+
+/// Whether look-ups are read for ahead, and a sum of what was read last, which means nothing: it's kept so that no read is left out.
+#[derive(Drop)]
+pub(crate) struct Ahead {
+    is_worth: bool,
+    seen: usize,
+}
+
+impl Ahead {
+    /// For about so many look-ups.
+    pub(crate) fn of(lookups: usize) -> Ahead {
+        Ahead {
+            is_worth: lookups >= MANY,
+            seen: 0,
+        }
+    }
+
+    /// Reads for the items of a list from one on, where a block begins there. A single item is read for with its entry.
+    #[inline]
+    pub(crate) fn read_items(
+        &mut self,
+        tables: &Tables,
+        names: &Numbering,
+        items: &[Item],
+        start: usize,
+    ) {
+        if self.is_worth && items.len() > 1 && start % BLOCK == 0 && start < items.len() {
+            self.seen = read_items(tables, names, &items[start..]);
+        }
+    }
+
+    /// The same for the first items of the entries from one on.
+    #[inline]
+    pub(crate) fn read_entries(&mut self, tables: &Tables, names: &Numbering, start: usize) {
+        let entries = tables.aliases();
+        if self.is_worth && start % BLOCK == 0 && start < entries.len() {
+            self.seen = read_entries(tables, names, &entries[start..]);
+        }
+    }
+
+    /// The same for the recipients from one on.
+    #[inline]
+    pub(crate) fn read_recipients(
+        &mut self,
+        tables: &Tables,
+        names: &Numbering,
+        recipients: &[Address],
+        start: usize,
+    ) {
+        if self.is_worth && start % BLOCK == 0 && start < recipients.len() {
+            self.seen = read_recipients(tables, names, &recipients[start..]);
+        }
+    }
+}
