@@ -5,7 +5,7 @@ use clap::{Arg, ArgAction, Command};
 use std::alloc::{AllocError, Global};
 
 /// The version of the program, as the file VERSION has it, and the kit that it is proved with.
-const VERSION: &str = "0.1.0, proved with rattle-kit-13b";
+const VERSION: &str = "0.1.0, proved with rattle-kit-13f";
 
 fn each<'a>(alloc: Global) -> Arg<'a> {
     Arg::new(alloc, "each")
