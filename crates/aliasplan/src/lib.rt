@@ -34,10 +34,7 @@ pub use planner::Planner;
 pub use reading::read_job;
 pub use relay_gather::{Paths, Source, SourceFault};
 pub use relay_job::{Envelope, Job, JobInclude, RunFault, Settings, parse_job, parse_tables};
-pub use relay_planning::{
-    Crew, Form, Limits, Options, Summary, Workings, own_names, plan_job, plan_with_workings,
-    reason_for,
-};
+pub use relay_planning::{Crew, Form, Limits, Options, Summary, own_names, plan_job, reason_for};
 pub use relay_rounds::{Gate, NoGate};
 pub use returned::Returned;
 pub use returning::returns;

@@ -4,7 +4,7 @@ ghost use Rattle.std.specs.Prelude.{◌≡◌, false};
 use crate::devices::{Page, Paper};
 use crate::jobs::LISTS_JOB;
 use crate::running::crew;
-use aliasplan::{RunFault, Workings, parse_job, plan_with_workings};
+use aliasplan::{RunFault, parse_job};
 use aliasplan_explain::{explain, run_explain};
 use growth_answers::inputs::address;
 use growth_answers::{Answer, Seen, Teller, Unready, case, judged};
@@ -28,25 +28,6 @@ const EXPLANATION: &[u8] = b"explain <dan@example.net> answers 1\n\
     record mx line 2 20 mx2.example.net host\n\
     transaction 5\n\
     end\n";
-
-fn are_workings(workings: Result<Workings, RunFault>) -> Answer {
-    match workings {
-        Ok(workings) => judged(workings, |workings| {
-            workings.plan.transactions.len() == 5 && workings.graph.roots().len() == 2
-        }),
-        Err(RunFault::Memory) => Answer::Refused,
-        Err(_) => Answer::Wrong,
-    }
-}
-
-fn keeps_workings<R: Threads + Sync>(rt: &R, alloc: Global) -> Result<Seen, Unready> {
-    let job = parse_job(alloc, LISTS_JOB)?;
-    let crew = crew(rt, alloc);
-    Ok(match are_workings(plan_with_workings(&crew, &job)) {
-        Answer::Refused => Seen::at_last(are_workings(plan_with_workings(&crew, &job))),
-        answer => Seen::at_once(answer),
-    })
-}
 
 /// Whether the one answer names the last transaction.
 fn names_last(telling: &Telling) -> bool {
@@ -101,7 +82,6 @@ fn writes_why<R: Threads + Sync>(rt: &R, alloc: Global) -> Result<Seen, Unready>
 pub(crate) fn tell<R: Print + AllocGlobal + Threads + Sync>(teller: &mut Teller<'_, R>) {
     let rt = teller.rt;
     let alloc = rt.alloc();
-    case!(teller, "plan_with_workings", keeps_workings(rt, alloc));
     case!(teller, "explain", explains(rt, alloc));
     case!(teller, "run_explain", writes_why(rt, alloc));
 }

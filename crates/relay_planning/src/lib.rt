@@ -2,8 +2,7 @@
 //!
 //! [`Sources`] are what a job's files and tables say, with the lines of those that are at fault. From them comes the graph of names
 //! ([`graph_of`]), then the pairs of sender and node that are reached ([`pairs_of`]); of what is reached come the lines of entries, the
-//! routes of addresses with the lines of those that have none, and the transactions ([`plan_reached`]). [`plan_job`] goes all the way;
-//! [`plan_with_workings`] does so too and keeps what it came by.
+//! routes of addresses with the lines of those that have none, and the transactions ([`plan_reached`]). [`plan_job`] goes all the way.
 #![tactic(auto)]
 
 mod addresses;
@@ -24,7 +23,6 @@ mod sources;
 mod summary;
 mod table;
 mod texts;
-mod workings;
 
 pub use crew::Crew;
 pub use entries::{report_node, report_target};
@@ -38,4 +36,3 @@ pub use planning::{graph_of, nodes_of, pairs_of, plan_job, plan_reached, plan_so
 pub use routing::own_names;
 pub use sources::Sources;
 pub use summary::Summary;
-pub use workings::{Workings, plan_with_workings};
