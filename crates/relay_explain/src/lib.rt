@@ -1,8 +1,8 @@
 //! Why an address is in a plan or isn't: the answer as values, and its text.
 //!
-//! An [`Explanation`] has an [`Answer`] for each sender under which what was asked for is reached: a chain of steps from a recipient, where
-//! the sender comes from, and what becomes of it. What decided the route and its hosts is the same under each sender. Lines are counted
-//! from 1 in their sections. A [`Telling`] is the same with the lines of steps in place of steps: its text is made in pieces.
+//! An explanation has an answer for each sender under which what was asked for is reached: a chain of steps from a recipient, where the
+//! sender comes from, and what becomes of it. What decided the route and its hosts is the same under each sender. Lines are counted from 1
+//! in their sections. A [`Telling`] is an explanation with the lines of its steps in place of the steps: its text is made in pieces.
 #![tactic(auto)]
 
 pub mod asked;
