@@ -1,5 +1,6 @@
 -- What the best trails say of the answers for a node.
-use Rattle.std.proofs.Common.{◌≡◌, ◌≢◌, ◌↔◌, ℕ, ◌+◌, ◌<◌, List, [], ◌∷◌, ◌++◌, length, get_or, take, map, slice_get, All, AllPairs, Contains, Option, Some, IfSome, Result, Ok, Err, IfOk, refl, sym, ap, ◌∙◌, subst, arith}
+use Rattle.std.proofs.Common.{◌≡◌, ◌≢◌, ◌↔◌, ℕ, ◌+◌, ◌<◌, List, [], ◌∷◌, ◌++◌, length, get_or, take, map, slice_get, All, AllPairs, Contains, Option, Some, IfSome, IsSome, Result, Ok, Err, IfOk, refl, sym, ap, ◌∙◌, subst, arith}
+use Rattle.std.specs.Option.{is_some}
 use Rattle.std.proofs.lemmas.List.{length-map, get_or-map, map_more, map_push}
 use Rattle.std.proofs.lemmas.List.Elements.{All-cons, All-contains, All-head, All-nil, All-tail, Contains-get_or}
 use Rattle.std.proofs.lemmas.Option.{same_Some, slice_get_within, get_or_from_slice_get}
@@ -12,7 +13,8 @@ use Rattle.relay_tables.specs.Senders.{Sender}
 use Rattle.relay_pairs.specs.declared.reached.Reached.{Reached}
 use Rattle.relay_pairs.proofs.Members.{Contains-map, Contains-from_map}
 use Rattle.relay_trails.specs.declared.found.Found.{Found}
-use Rattle.relay_trails.specs.Chains.{AreBestBy, IsBestAnswer, senders_of}
+use Rattle.relay_trails.specs.Chains.{AreBestBy, IsBestAnswer, IsBestBy, senders_of}
+use Rattle.relay_trails.specs.Trails.{trail_of}
 use Rattle.relay_wire.specs.declared.plan.Plan.{Plan}
 use Rattle.relay_job.specs.declared.job.Job.{Job}
 use Rattle.relay_explain.specs.declared.told.Told.{Told}
@@ -21,15 +23,14 @@ use Rattle.relay_explain.specs.Tellings.{AreTold}
 use Rattle.relay_planning.specs.Delivery.{directory_of, IsReachedPair}
 use Rattle.relay_planning.specs.Reaching.{AreReachedPairs}
 use Rattle.aliasplan_explain.specs.Explanations.{AreAnswersFor, IsAnswerFor}
-use Rattle.aliasplan_explain.specs.Tellings.{AreToldFor, IsToldFor}
+use Rattle.aliasplan_explain.specs.declared.lines.ChainLines.{ChainLines}
+use Rattle.aliasplan_explain.specs.Chains.{chain_sender, IsChainTo}
+use Rattle.aliasplan_explain.specs.Stretches.{AreLinesOf}
+use Rattle.aliasplan_explain.specs.Tellings.{told_sender, AreToldFor, IsToldFor}
 use Rattle.aliasplan_explain.proofs.WalkFacts.{some_get}
 
 contained : {X : Type 0} (xs : List X) (k : ℕ) (x : X) → slice_get xs k ≡ Some x → Contains xs x
 contained xs k x at = (k, slice_get_within xs k x at, get_or_from_slice_get xs k x x at)
-
--- the sender of what is told, as it stands among the graph's senders
-abbrev pub given_sender : Told → Option Sender
-given_sender a = Some a.from
 
 module _ (job : Job) (g : GraphParts) (node : Node) where
   -- a node that is in no graph is reached under no sender
@@ -54,13 +55,29 @@ module _ (job : Job) (g : GraphParts) (node : Node) where
         let listed : Contains (senders_of g found) (Some is.sender_is) = subst (λ (s : Option Sender). Contains (senders_of g found) s) is.at (Contains-map (λ (f : Found). slice_get g.senders f.sender) found one here) in
         subst (λ (s : Option Sender). IfSome s P) (sym is.at) ((best.listed is.sender_is).0 listed)
 
-    module _ (answers : List Told) (senders : map given_sender answers ≡ senders_of g found) where
+    -- a graph's sender stands where an answer has it
+    pub sender_there : (k : ℕ) (one : Found) → k < length found → one ≡ get_or found k one → IsSome (slice_get g.senders one.sender)
+    sender_there k one short same = ap is_some (best_at k one short same).at
+
+    -- the lines of a trail that was found are a chain
+    pub chain_is : (lines : List ℕ) (k : ℕ) (one : Found) → k < length found → one ≡ get_or found k one → (c : ChainLines) → AreLinesOf job lines (trail_of one) c.lines.items c.given_by → slice_get g.senders one.sender ≡ Some c.from → IsChainTo job lines node c
+    chain_is lines k one short same c are from =
+        let is = best_at k one short same in
+        let sender : is.sender_is ≡ c.from = same_Some is.sender_is c.from (sym is.at ∙ from) in
+        record {
+          trail = trail_of one;
+          best = subst (λ (s : Sender). IsBestBy (directory_of job) job.sender job.recipients (record { sender = s; node = node }) (trail_of one)) sender is.best;
+          are = are;
+          reached = subst (λ (s : Option Sender). IfSome s (λ (sender : Sender). IsReachedPair job (record { sender = sender; node = node }))) from (reached_at k one short same);
+        }
+
+    module _ (answers : List Told) (senders : map told_sender answers ≡ senders_of g found) where
       sender_at : (k : ℕ) (d : Told) → k < length answers → get_or (senders_of g found) k (Some d.from) ≡ Some (get_or answers k d).from
-      sender_at k d short = ap (λ (ss : List (Option Sender)). get_or ss k (Some d.from)) (sym senders) ∙ get_or-map given_sender answers k d (Some d.from) short
+      sender_at k d short = ap (λ (ss : List (Option Sender)). get_or ss k (Some d.from)) (sym senders) ∙ get_or-map told_sender answers k d (Some d.from) short
 
       pub apart_told : AllPairs (λ (a b : Told). a.from ≢ b.from) answers
       apart_told i j d before short same =
-          let long : length (senders_of g found) ≡ length answers = ap length (sym senders) ∙ length-map answers given_sender in
+          let long : length (senders_of g found) ≡ length answers = ap length (sym senders) ∙ length-map answers told_sender in
           let one = sender_at i d (omega (arith, before, short)) in
           let other = sender_at j d short in
           best.distinct i j (Some d.from) before (omega (arith, long, short)) (one ∙ ap (λ (s : Sender). Some s) same ∙ sym other)
@@ -69,13 +86,13 @@ module _ (job : Job) (g : GraphParts) (node : Node) where
         to_reached : (sender : Sender) → Contains (map (λ (a : Told). a.from) sorted) sender → IsReachedPair job (record { sender = sender; node = node })
         to_reached sender c =
             let a = Contains-from_map (λ (a : Told). a.from) sorted sender c in
-            let listed : Contains (senders_of g found) (Some a.0.from) = subst (λ (ss : List (Option Sender)). Contains ss (Some a.0.from)) senders (Contains-map given_sender answers a.0 ((members a.0).0 a.1)) in
+            let listed : Contains (senders_of g found) (Some a.0.from) = subst (λ (ss : List (Option Sender)). Contains ss (Some a.0.from)) senders (Contains-map told_sender answers a.0 ((members a.0).0 a.1)) in
             (best.listed sender).0 (subst (λ (s : Sender). Contains (senders_of g found) (Some s)) a.2 listed)
 
         to_told : (sender : Sender) → IsReachedPair job (record { sender = sender; node = node }) → Contains (map (λ (a : Told). a.from) sorted) sender
         to_told sender r =
-            let listed : Contains (map given_sender answers) (Some sender) = subst (λ (ss : List (Option Sender)). Contains ss (Some sender)) (sym senders) ((best.listed sender).1 r) in
-            let a = Contains-from_map given_sender answers (Some sender) listed in
+            let listed : Contains (map told_sender answers) (Some sender) = subst (λ (ss : List (Option Sender)). Contains ss (Some sender)) (sym senders) ((best.listed sender).1 r) in
+            let a = Contains-from_map told_sender answers (Some sender) listed in
             subst (λ (s : Sender). Contains (map (λ (a : Told). a.from) sorted) s) (same_Some a.0.from sender a.2) (Contains-map (λ (a : Told). a.from) sorted a.0 ((members a.0).1 a.1))
 
         pub told_are : IsAscendingBy (sender_cmp (λ (a : Told). a.from)) sorted → AreToldFor job plan lines node sorted
@@ -86,12 +103,12 @@ module _ (job : Job) (g : GraphParts) (node : Node) where
               each = λ k d short. All-contains (IsToldFor job plan lines node) answers (get_or sorted k d) each ((members (get_or sorted k d)).0 (Contains-get_or sorted k d short));
             }
 
--- one more answer
-pub senders_more : (g : GraphParts) (found : List Found) (k : ℕ) (one : Found) → k < length found → one ≡ get_or found k one → (answers : List Told) → map given_sender answers ≡ senders_of g (take k found) → (a : Told) → slice_get g.senders one.sender ≡ Some a.from → map given_sender (answers ++ a ∷ []) ≡ senders_of g (take (k + 1) found)
-senders_more g found k one short same answers so_far a is =
+-- one more chain
+pub chains_more : (g : GraphParts) (found : List Found) (k : ℕ) (one : Found) → k < length found → one ≡ get_or found k one → (chains : List ChainLines) → map chain_sender chains ≡ senders_of g (take k found) → (c : ChainLines) → slice_get g.senders one.sender ≡ Some c.from → map chain_sender (chains ++ c ∷ []) ≡ senders_of g (take (k + 1) found)
+chains_more g found k one short same chains so_far c is =
     let sender_of : Found → Option Sender = λ f. slice_get g.senders f.sender in
-    let last : sender_of (get_or found k one) ≡ given_sender a = ap sender_of (sym same) ∙ is in
-    map_push given_sender answers a ∙ ap (λ (ss : List (Option Sender)). ss ++ given_sender a ∷ []) so_far ∙ ap (λ (s : Option Sender). senders_of g (take k found) ++ s ∷ []) (sym last) ∙ sym (map_more sender_of found k one short)
+    let last : sender_of (get_or found k one) ≡ chain_sender c = ap sender_of (sym same) ∙ is in
+    map_push chain_sender chains c ∙ ap (λ (ss : List (Option Sender)). ss ++ chain_sender c ∷ []) so_far ∙ ap (λ (s : Option Sender). senders_of g (take k found) ++ s ∷ []) (sym last) ∙ sym (map_more sender_of found k one short)
 
 -- what follows from two facts of an answer
 pub if_ok_both : {A E : Type 0} {P Q R : A → Type 0} (r : Result A E) → IfOk r P → IfOk r Q → ((a : A) → P a → Q a → R a) → IfOk r R

@@ -9,4 +9,5 @@ pub mod Endings
 pub mod Runs
 pub mod Stretches
 pub mod Sought
+pub mod Chains
 pub mod Tellings

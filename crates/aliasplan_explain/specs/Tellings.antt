@@ -1,5 +1,5 @@
 -- What is told of a job's addresses.
-use Rattle.std.specs.Prelude.{ℕ, List, map, All, Bool, Contains, ◌↔◌}
+use Rattle.std.specs.Prelude.{ℕ, List, map, All, Bool, Contains, Option, Some, ◌↔◌}
 use Rattle.std.specs.List.{list_any}
 use Rattle.relay_text.specs.TextSets.{IsAscendingBy}
 use Rattle.relay_ordering.specs.Keys.{sender_cmp}
@@ -14,6 +14,10 @@ use Rattle.relay_explain.specs.Explanations.{Answer, Explanation}
 use Rattle.relay_explain.specs.Tellings.{IsTold, IsToldBy}
 use Rattle.relay_planning.specs.Delivery.{IsReachedPair}
 use Rattle.aliasplan_explain.specs.Explanations.{is_transaction, IsAnswerFor, IsExplanationOf}
+
+-- the sender of what is told, as it stands among a graph's senders
+abbrev pub told_sender : Told → Option Sender
+told_sender t = Some t.from
 
 module _ (job : Job) (plan : Plan) (lines : List ℕ) where
   -- an answer for a node is told

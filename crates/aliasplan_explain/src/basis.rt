@@ -12,7 +12,7 @@ pub(crate) struct Basis {
     pub(crate) pairs: Vec<Reached>,
 }
 
-ghost use Rattle.std.specs.Prelude.{◌≡◌, ◌≤◌, false, ℕ, List, IsTrue, IfOk, IfErr, OnOk};
+ghost use Rattle.std.specs.Prelude.{◌≡◌, ◌≤◌, ℕ, List, IsTrue, IfOk, IfErr, OnOk};
 ghost use Rattle.relay_text.specs.Addresses.{is_origin};
 ghost use Rattle.relay_text.specs.Bytes.{has_text};
 ghost use Rattle.relay_job.specs.JobAnswers.{IsJobWithin};
@@ -75,24 +75,26 @@ fn with_graph<G: Gate, R: Threads + Sync>(
 }
 
 impl Basis {
-    /// That of a job. Adds the lines of its files and tables that are at fault. The errors are those of `plan_job`, in the same order.
+    /// That of a job, and the lines of its files and tables that are at fault. The errors are those of `plan_job`, in the same order.
     pub(crate) fn read<G: Gate, R: Threads + Sync>(
         crew: &Crew<G, R>,
         job: &Job,
-        lines: &mut FindingLines,
-    ) -> Result<Basis, RunFault>
-        requires job { IsJobWithin crew.now.limits.bytes job.now }
-        requires lines { (q : List ℕ) → has_text lines.old q ≡ false }
-        ensures basis { IfOk result (IsBasisOf job.now) }
-        ensures lines { OnOk result ((q : List ℕ) → has_text lines.new q ≡ has_fault_line job.now q) }
+    ) -> Result<(Basis, FindingLines), RunFault>
+        requires { IsJobWithin crew.now.limits.bytes job.now }
+        ensures basis { IfOk result (λ both. IsBasisOf job.now both.0) }
+        ensures lines { IfOk result (λ both. (q : List ℕ) → has_text both.1 q ≡ has_fault_line job.now q) }
         ensures within { OnOk result (IsWithin crew.now.limits job.now) }
         ensures refused { IfErr result (IsRefused crew.now.limits job.now) }
     {
         parsed_jobs();
         parsed_is_readable();
-        let Ok(sources) = Sources::read_by(crew, job, lines) else {
+        let mut lines = FindingLines::new(crew.alloc);
+        let Ok(sources) = Sources::read_by(crew, job, &mut lines) else {
             return Err(RunFault::Memory);
         };
-        with_graph(crew, &JobView::of(job), sources)
+        match with_graph(crew, &JobView::of(job), sources) {
+            Ok(basis) => Ok((basis, lines)),
+            Err(fault) => Err(fault),
+        }
     }
 }

@@ -13,10 +13,11 @@ ghost use Rattle.aliasplan_explain.specs.Tellings.{AreToldFor, IsTellingOf};
 ghost use Rattle.aliasplan_explain.specs.Unreached.{unreached_of};
 
 use crate::asking::stands_for;
-use crate::basis::Basis;
+use crate::chains::Chains;
 use crate::deciding::decision_of;
 use crate::grounds::Grounds;
 use crate::planned::plan_beside;
+use crate::reading::Reading;
 use crate::targets::target_of;
 use crate::telling::told_for;
 use crate::unreached::unreached_of;
@@ -98,9 +99,11 @@ fn telling_of<G: Gate, R: Threads + Sync>(
     requires lines { (q : List ℕ) → has_text lines q ≡ has_fault_line grounds.now.job.now q }
     ensures { IfOk result (λ telling. (plan : plans.Plan) × IsPlanOf grounds.now.job.now plan × IsTellingOf grounds.now.job.now plan grounds.now.recipient_lines.now asked.now telling) }
 {
-    let (plan, sought) = plan_beside(crew, view, grounds, asked, lines)?;
-    let answers = told_for(crew, grounds, &plan, &sought)?;
-    telling_by(crew.alloc, grounds, &plan, asked, &sought.node, answers)
+    let alloc = crew.alloc;
+    let (plan, chains) = plan_beside(crew, view, grounds, asked, lines)?;
+    let Chains { node, lines } = chains;
+    let answers = told_for(alloc, grounds, &plan, &node, lines)?;
+    telling_by(alloc, grounds, &plan, asked, &node, answers)
 }
 
 /// Why a name or an address is reached by a job's message, or isn't: for each sender under which it is reached, the least of the shortest
@@ -125,12 +128,13 @@ pub fn explain<G: Gate, R: Threads + Sync>(
     ensures refused { IfErr result (IsRefused crew.now.limits job.now) }
 {
     parsed_is_readable();
-    let mut lines = FindingLines::new(crew.alloc);
-    let basis = Basis::read(crew, job, &mut lines)?;
-    let Ok(grounds) = Grounds::new(crew.alloc, job, recipient_lines, &basis) else {
-        return Err(RunFault::Memory);
-    };
-    match telling_of(crew, &JobView::of(job), &grounds, asked, lines) {
+    let Reading {
+        basis,
+        faults,
+        alias_lines,
+    } = Reading::of(crew, job)?;
+    let grounds = Grounds::new(job, recipient_lines, &basis, alias_lines);
+    match telling_of(crew, &JobView::of(job), &grounds, asked, faults) {
         Ok(telling) => Ok(telling),
         Err(_) => Err(RunFault::Memory),
     }

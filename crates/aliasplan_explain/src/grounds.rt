@@ -18,32 +18,25 @@ pub(crate) struct Grounds<'a> {
     ghost aliases: { alias_lines.items ≡ (logical_lines_of job.now.aliases).lines },
 }
 
-ghost use Rattle.std.specs.Prelude.{IfOk};
-
-use relay_text::logical_lines;
-use std::alloc::{AllocError, Global};
-
 impl<'a> Grounds<'a> {
-    /// `Err` where memory runs out.
+    /// The lines are the logical lines of the job's alias file.
     pub(crate) fn new(
-        alloc: Global,
         job: &'a Job,
         recipient_lines: &'a [usize],
         basis: &'a Basis,
-    ) -> Result<Grounds<'a>, AllocError>
-        requires { length recipient_lines.now ≡ length job.now.recipients }
-        ensures job { IfOk result (λ grounds. grounds.job.now ≡ job.now) }
-        ensures lines { IfOk result (λ grounds. grounds.recipient_lines.now ≡ recipient_lines.now) }
-        ensures basis { IfOk result (λ grounds. grounds.basis.now ≡ basis.now) }
+        alias_lines: Vec<Line>,
+    ) -> Grounds<'a>
+        requires recipients { length recipient_lines.now ≡ length job.now.recipients }
+        requires aliases { alias_lines.items ≡ (logical_lines_of job.now.aliases).lines }
+        ensures job { result.job.now ≡ job.now }
+        ensures lines { result.recipient_lines.now ≡ recipient_lines.now }
+        ensures basis { result.basis.now ≡ basis.now }
     {
-        let alias_lines = logical_lines(alloc, job.aliases.as_bytes())?
-            .lines
-            .into_vec();
-        Ok(Grounds {
+        Grounds {
             job,
             recipient_lines,
             basis,
             alias_lines,
-        })
+        }
     }
 }

@@ -4,23 +4,25 @@
 //! and on which lines they stand, who gave the sender, and what decided the route; or which items would lead there. [`run_explain`] does
 //! so for a job's bytes, and writes the explanation's text.
 //!
-//! The way through the modules: `basis` has what the job's plan is made from. `sought` says by `asking` which node is asked for, and has
-//! the trails there, while the plan is made (`planned`). `telling` has what is told for each sender under which the node is reached: the
-//! `lines` of a trail, a `stretch` of it by each worker, where a step is made by `walking`, which reads `ahead`, and its items are those
-//! that `rows` finds in their sections; and what becomes of it from `ending`. `deciding` says what decides the route, and `unreached`
-//! which items lead to a node. All of them rest on the same `grounds`.
+//! The way through the modules: `reading` has the `basis`, what the job's plan is made from, beside the lines of its alias file. `sought`
+//! says by `asking` which node is asked for, and has the trails there, and `chains` has their `lines`, while the plan is made (`planned`): a
+//! `stretch` of a trail by each worker, where a step is made by `walking`, which reads `ahead`, and its items are those that `rows` finds in
+//! their sections. `telling` puts to them what becomes of the node, which `ending` knows. `deciding` says what decides the route, and
+//! `unreached` which items lead to a node. All of them rest on the same `grounds`.
 #![tactic(auto)]
 
 mod ahead;
 mod asking;
 pub(crate) mod basis;
+pub(crate) mod chains;
 mod deciding;
 pub(crate) mod ending;
 mod explaining;
 pub(crate) mod grounds;
-mod lines;
+pub(crate) mod lines;
 mod nodes;
 mod planned;
+pub(crate) mod reading;
 mod rows;
 mod running;
 pub(crate) mod sought;

@@ -2,16 +2,17 @@
 //!
 //! A step is made and told at once, so that steps take no room. Each worker tells a stretch of the trail.
 use relay_explain::GivenBy;
-use relay_text::Text;
+use relay_text::{Address, Text};
 
-/// The lines of the steps of a trail, in pieces, and who gave the sender after them.
+/// The lines of the steps of a trail, in pieces, the sender after them, and who gave it.
 #[derive(Drop)]
 pub(crate) struct ChainLines {
     pub(crate) lines: Vec<Text>,
+    pub(crate) from: Option<Address>,
     pub(crate) given_by: GivenBy,
 }
 
-ghost use Rattle.std.specs.Prelude.{◌≡◌, ◌≤◌, Ok, length, map, IfOk};
+ghost use Rattle.std.specs.Prelude.{◌≡◌, ◌≤◌, Ok, Some, length, map, slice_get, IfOk, IsSome};
 ghost use Rattle.std.specs.Thread.{IsSync};
 ghost use Rattle.relay_trails.specs.Trails.{HasNodes, trail_of};
 ghost use Rattle.relay_explain.specs.PiecedTexts.{text_of};
@@ -101,7 +102,23 @@ fn first_line(alloc: Global, grounds: &Grounds<'_>, found: &Found) -> Result<Tex
     Ok(Text::of(out))
 }
 
-/// The lines of the steps of a trail that was found, and who gave the sender after them. `Err` where memory runs out.
+// The sender under which a trail leads to its end.
+fn sender_of(
+    alloc: Global,
+    grounds: &Grounds<'_>,
+    found: &Found,
+) -> Result<Option<Address>, AllocError>
+    requires made { IsBasisOf grounds.now.job.now grounds.now.basis.now }
+    requires sender { IsSome (slice_get grounds.now.basis.now.graph.senders found.now.sender) }
+    ensures { IfOk result (λ from. slice_get grounds.now.basis.now.graph.senders found.now.sender ≡ Some from) }
+{
+    match grounds.basis.graph.sender(found.sender) {
+        Some(address) => Ok(Some(address.copy(alloc)?)),
+        None => Ok(None),
+    }
+}
+
+/// The lines of the steps of a trail that was found, the sender after them, and who gave it. `Err` where memory runs out.
 pub(crate) fn chain_lines<G: Gate, R: Threads + Sync>(
     crew: &Crew<G, R>,
     grounds: &Grounds<'_>,
@@ -109,7 +126,9 @@ pub(crate) fn chain_lines<G: Gate, R: Threads + Sync>(
 ) -> Result<ChainLines, AllocError>
     requires made { IsBasisOf grounds.now.job.now grounds.now.basis.now }
     requires nodes { HasNodes grounds.now.basis.now.graph found.now }
-    ensures { IfOk result (λ chain. AreLinesOf grounds.now.job.now grounds.now.recipient_lines.now (trail_of found.now) chain.lines.items chain.given_by) }
+    requires sender { IsSome (slice_get grounds.now.basis.now.graph.senders found.now.sender) }
+    ensures lines { IfOk result (λ chain. AreLinesOf grounds.now.job.now grounds.now.recipient_lines.now (trail_of found.now) chain.lines.items chain.given_by) }
+    ensures from { IfOk result (λ chain. slice_get grounds.now.basis.now.graph.senders found.now.sender ≡ Some chain.from) }
 {
     let alloc = crew.alloc;
     let nodes = found.nodes.as_slice();
@@ -121,5 +140,10 @@ pub(crate) fn chain_lines<G: Gate, R: Threads + Sync>(
     let mut lines = Vec::new(alloc);
     lines.push(first)?;
     lines.append(&mut more)?;
-    Ok(ChainLines { lines, given_by })
+    let from = sender_of(alloc, grounds, found)?;
+    Ok(ChainLines {
+        lines,
+        from,
+        given_by,
+    })
 }

@@ -1,14 +1,14 @@
-//! The plan of a job, beside what is sought in it.
+//! The plan of a job, beside the chains to what is asked for.
 ghost use Rattle.std.specs.Prelude.{◌≡◌, ℕ, List, IfOk};
 ghost use Rattle.std.specs.Thread.{IsSync};
 ghost use Rattle.relay_text.specs.Bytes.{has_text};
 ghost use Rattle.relay_planning.specs.Plans.{IsPlanOf, IsSoundFor};
 ghost use Rattle.relay_planning.specs.Texts.{has_fault_line};
+ghost use Rattle.aliasplan_explain.specs.Chains.{LeadToAsked};
 ghost use Rattle.aliasplan_explain.specs.Grounds.{IsBasisOf};
-ghost use Rattle.aliasplan_explain.specs.Sought.{IsSought};
 
+use crate::chains::Chains;
 use crate::grounds::Grounds;
-use crate::sought::Sought;
 use aliasplan::{Crew, Gate};
 use relay_explain::Asked;
 use relay_planning::{JobView, plan_reached};
@@ -45,55 +45,54 @@ fn planned<G: Gate, R: Threads + Sync>(
     )
 }
 
-// The same, and what is sought by a thread of its own meanwhile.
+// The same, and the chains by a thread of its own meanwhile.
 fn side_by_side<G: Gate, R: Threads + Sync>(
     crew: &Crew<G, R>,
     view: &JobView<'_>,
     grounds: &Grounds<'_>,
     asked: &Asked,
     lines: FindingLines,
-) -> Result<(Plan, Sought), AllocError>
+) -> Result<(Plan, Chains), AllocError>
     requires made { IsBasisOf grounds.now.job.now grounds.now.basis.now }
     requires view { view.now ≡ grounds.now.job.now }
     requires lines { (q : List ℕ) → has_text lines q ≡ has_fault_line grounds.now.job.now q }
     ensures plan { IfOk result (λ both. IsPlanOf grounds.now.job.now both.0) }
     ensures sound { IfOk result (λ both. IsSoundFor grounds.now.job.now both.0.transactions) }
-    ensures sought { IfOk result (λ both. IsSought grounds.now.job.now grounds.now.basis.now.graph asked.now both.1) }
+    ensures chains { IfOk result (λ both. LeadToAsked grounds.now.job.now grounds.now.basis.now.graph grounds.now.recipient_lines.now asked.now both.1) }
 {
-    let alloc = crew.alloc;
     let mut lines = lines;
-    let seek = || -> Result<Sought, AllocError>
-        requires { IsBasisOf grounds.now.job.now grounds.now.basis.now }
-        ensures { IfOk result (IsSought grounds.entry.now.job.now grounds.entry.now.basis.now.graph asked.entry.now) }
-    { Sought::by(alloc, grounds, asked) };
+    let lead = || -> Result<Chains, AllocError>
+        requires { IsSync R.row × IsBasisOf grounds.now.job.now grounds.now.basis.now }
+        ensures { IfOk result (LeadToAsked grounds.entry.now.job.now grounds.entry.now.basis.now.graph grounds.entry.now.recipient_lines.now asked.entry.now) }
+    { Chains::to(crew, grounds, asked) };
     let plan = || -> Result<Plan, AllocError>
         requires { IsSync R.row × IsBasisOf grounds.now.job.now grounds.now.basis.now × (view.now ≡ grounds.now.job.now) × ((q : List ℕ) → has_text lines q ≡ has_fault_line grounds.now.job.now q) }
         ensures { IfOk result (λ plan. IsPlanOf grounds.entry.now.job.now plan × IsSoundFor grounds.entry.now.job.now plan.transactions) }
     { planned(crew, view, grounds, &mut lines) };
-    let (there, here) = join(crew.rt, seek, plan);
+    let (there, here) = join(crew.rt, lead, plan);
     Ok((here?, there?))
 }
 
-/// The plan of a job, and what is sought in it: neither needs the other. The lines of files and tables that are at fault are given. `Err`
-/// where memory runs out.
+/// The plan of a job, and the chains to what is asked for: neither needs the other. The lines of files and tables that are at fault are
+/// given. `Err` where memory runs out.
 pub(crate) fn plan_beside<G: Gate, R: Threads + Sync>(
     crew: &Crew<G, R>,
     view: &JobView<'_>,
     grounds: &Grounds<'_>,
     asked: &Asked,
     lines: FindingLines,
-) -> Result<(Plan, Sought), AllocError>
+) -> Result<(Plan, Chains), AllocError>
     requires made { IsBasisOf grounds.now.job.now grounds.now.basis.now }
     requires view { view.now ≡ grounds.now.job.now }
     requires lines { (q : List ℕ) → has_text lines q ≡ has_fault_line grounds.now.job.now q }
     ensures plan { IfOk result (λ both. IsPlanOf grounds.now.job.now both.0) }
     ensures sound { IfOk result (λ both. IsSoundFor grounds.now.job.now both.0.transactions) }
-    ensures sought { IfOk result (λ both. IsSought grounds.now.job.now grounds.now.basis.now.graph asked.now both.1) }
+    ensures chains { IfOk result (λ both. LeadToAsked grounds.now.job.now grounds.now.basis.now.graph grounds.now.recipient_lines.now asked.now both.1) }
 {
     if crew.options.workers > 1 && grounds.basis.pairs.len() >= FEWEST_PAIRS {
         return side_by_side(crew, view, grounds, asked, lines);
     }
-    let sought = Sought::by(crew.alloc, grounds, asked)?;
+    let chains = Chains::to(crew, grounds, asked)?;
     let mut lines = lines;
-    Ok((planned(crew, view, grounds, &mut lines)?, sought))
+    Ok((planned(crew, view, grounds, &mut lines)?, chains))
 }

@@ -1,6 +1,7 @@
 pub mod Orders
 pub mod Ends
 pub mod Linking
+pub mod Marking
 pub mod Taking
 pub mod Going
 pub mod Covering

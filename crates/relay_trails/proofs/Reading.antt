@@ -2,7 +2,7 @@
 use Rattle.std.proofs.Common.{◌≡◌, ◌≢◌, ℕ, ◌+◌, ◌*◌, ◌^◌, ◌<◌, ◌==◌, Bool, true, false, cond, List, [], ◌∷◌, ◌++◌, length, get_or, map, filter, take, AllPairs, Contains, Option, Some, None, refl, sym, ap, ◌∙◌, subst, inl, inr, arith}
 use Rattle.std.specs.List.Sorted.{IsStrictlyIncreasing}
 use Rattle.std.proofs.lemmas.Bool.{eq-eqb, eqb-true, ne_eqb}
-use Rattle.std.proofs.lemmas.List.{append-nil, get_or-map, get_or_read, length-map, map-append}
+use Rattle.std.proofs.lemmas.List.{append-nil, get_or-map, length-map, map-append}
 use Rattle.std.proofs.lemmas.List.Elements.{All-contains, All-push, All-weaker, filter_more, filter_passes}
 use Rattle.std.proofs.lemmas.List.Kept.{AllPairs-filter, AllPairs-from_increasing}
 use Rattle.std.proofs.lemmas.Option.{same_Some}
@@ -39,18 +39,13 @@ contains_filtered : {X : Type 0} (test : X → Bool) (xs : List X) (x : X) → C
 contains_filtered test [] x c = c
 contains_filtered test (y ∷ ys) x c = from_kept (test y) y (filter test ys) ys x (contains_filtered test ys x) c
 
--- the step of a place, as it's looked up
-pub step_read : (count : ℕ) (found : List (Option ℕ)) (steps : List Step) → HasSteps count found steps → (place : ℕ) → place < count → (o : Option ℕ) → o ≡ get_or found place o → (k : ℕ) × (k < length steps) × (step_of found place ≡ Some k) × (o ≡ Some k)
-step_read count found steps has place short o e =
+-- the number of a place's step, as it was written down
+pub number_read : (count : ℕ) (numbers : List ℕ) (steps : List Step) → HasSteps count (map Some numbers) steps → (place : ℕ) → place < count → (k : ℕ) → k ≡ get_or numbers place 0 → (k < length steps) × (step_of (map Some numbers) place ≡ Some k)
+number_read count numbers steps has place short k e =
     let h = has.each place short in
-    let inside : place < length found = omega (arith, has.sized, short) in
-    (h.0, h.1, h.2, get_or_read found place o inside e None ∙ h.2)
-
-pub step_known : (count : ℕ) (found : List (Option ℕ)) (steps : List Step) → HasSteps count found steps → (place : ℕ) → place < count → (o : Option ℕ) → o ≡ get_or found place o → (k : ℕ) → o ≡ Some k → (k < length steps) × (step_of found place ≡ Some k)
-step_known count found steps has place short o e k is =
-    let r = step_read count found steps has place short o e in
-    let same : r.0 ≡ k = same_Some r.0 k (sym r.3 ∙ is) in
-    (subst (λ (n : ℕ). n < length steps) same r.1, r.2 ∙ ap Some same)
+    let is : step_of (map Some numbers) place ≡ Some k = get_or-map Some numbers place 0 None (omega (arith, short, sym (length-map numbers Some) ∙ has.sized)) ∙ ap Some (sym e) in
+    let same : h.0 ≡ k = same_Some h.0 k (sym h.2 ∙ is) in
+    (subst (λ (n : ℕ). n < length steps) same h.1, is)
 
 module _ (pairs : List Reached) (found : List (Option ℕ)) (steps : List Step) (node : ℕ) (answers : List Found) (place : ℕ) (short : place < length pairs) (before : AreAnswers (take place pairs) pairs found steps node answers) where
   abbrev here : Reached

@@ -1,5 +1,6 @@
 -- What a search has come to.
-use Rattle.std.specs.Prelude.{◌≡◌, ℕ, ◌<◌, List, length, slice_index_or, Option, Some, None, ◌⊎◌}
+use Rattle.std.specs.Prelude.{◌≡◌, ℕ, ◌<◌, Bool, List, length, map, slice_index_or, Option, Some, None, ◌⊎◌}
+use Rattle.std.specs.Option.{is_some}
 use Rattle.relay_tables.specs.GraphParts.{GraphParts}
 use Rattle.relay_pairs.specs.declared.reached.Reached.{Reached}
 use Rattle.relay_trails.specs.declared.step.Link.{Link}
@@ -43,6 +44,12 @@ pub record IsAt (g : GraphParts) (pairs : List Reached) (found : List (Option �
   pub earlier : (k : ℕ) → k < length steps → IsEarlier (link_at steps k) next
   pub covered : (link : Link) (pair : Reached) → IsEarlier link next → ends_in g (next_trail steps link) ≡ Some pair → IsCovered pairs steps (next_trail steps link) pair
 
+-- The same, where the places that have a step are marked.
+pub record IsMarkedAt (g : GraphParts) (pairs : List Reached) (marks : List Bool) (steps : List Step) (next : Link) : Type 0 where
+  pub found : List (Option ℕ)
+  pub marked : map is_some found ≡ marks
+  pub at : IsAt g pairs found steps next
+
 -- Each step has a place, and a trail that ends in the pair of that place.
 pub record AreEnds (g : GraphParts) (pairs : List Reached) (steps : List Step) : Type 0 where
   pub places : (k : ℕ) → k < length steps → place_at steps k < length pairs
@@ -54,3 +61,14 @@ pub record IsDone (g : GraphParts) (pairs : List Reached) (found : List (Option 
   pub linked : AreLinked steps
   pub ended : AreEnds g pairs steps
   pub best : (place : ℕ) → place < length pairs → (k : ℕ) × (k < length steps) × (step_of found place ≡ Some k) × IsBest g (pair_in pairs place) (trail_at steps k)
+
+-- The search has ended: the places of its steps are known, and each place has one.
+pub record IsFinished (g : GraphParts) (pairs : List Reached) (steps : List Step) : Type 0 where
+  pub found : List (Option ℕ)
+  pub search : IsSearch g pairs found steps
+  pub done : IsDone g pairs found steps
+
+-- the number of the step of each place
+pub record AreNumbers (count : ℕ) (steps : List Step) (numbers : List ℕ) : Type 0 where
+  pub long : length numbers ≡ count
+  pub each : (k : ℕ) → k < length steps → slice_index_or numbers (place_at steps k) 0 ≡ k

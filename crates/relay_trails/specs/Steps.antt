@@ -1,5 +1,5 @@
 -- The steps of a search, and the trails that they stand for.
-use Rattle.std.specs.Prelude.{◌≡◌, ℕ, ◌<◌, ◌≤◌, List, [], ◌∷◌, ◌++◌, length, slice_index_or, slice_set, MatchOption, ◌⊎◌, ⊤, Option, Some, None}
+use Rattle.std.specs.Prelude.{◌≡◌, ℕ, ◌<◌, ◌≤◌, Bool, true, false, List, [], ◌∷◌, ◌++◌, length, slice_index_or, slice_set, MatchOption, ◌⊎◌, ⊤, Option, Some, None}
 use Rattle.relay_trails.specs.declared.step.Link.{Link}
 use Rattle.relay_trails.specs.declared.step.Link.TheVariants.{Recipient, Item}
 use Rattle.relay_trails.specs.declared.step.Step.{Step}
@@ -64,6 +64,11 @@ IsTaken place link found steps found_after steps_after =
     MatchOption (slice_index_or found place None)
     ((found_after ≡ slice_set found place (Some (length steps))) × (steps_after ≡ steps ++ record { place = place; link = link } ∷ []))
     (λ k. (found_after ≡ found) × (steps_after ≡ steps))
+
+-- A place without a mark gets one, and a step. Of a place with a mark nothing changes.
+pub record IsMarked (place : ℕ) (link : Link) (marks : List Bool) (steps : List Step) (marks_after : List Bool) (steps_after : List Step) : Type 0 where
+  pub fresh : slice_index_or marks place false ≡ false → (marks_after ≡ slice_set marks place true) × (steps_after ≡ steps ++ record { place = place; link = link } ∷ [])
+  pub known : slice_index_or marks place false ≡ true → (marks_after ≡ marks) × (steps_after ≡ steps)
 
 -- the steps that there were are still there
 pub record IsKept (before after : List Step) : Type 0 where

@@ -1,13 +1,13 @@
 //! The answers of a search.
-ghost use Rattle.std.specs.Prelude.{◌≡◌, ◌<◌, length, All, IfOk};
+ghost use Rattle.std.specs.Prelude.{◌≡◌, ◌≢◌, ◌<◌, ℕ, Some, length, map, All, IfOk};
 ghost use Rattle.relay_pairs.specs.Pairs.{ArePairs};
 ghost use Rattle.relay_trails.specs.Trails.{AreBestTrails, HasNodes, trail_of};
-ghost use Rattle.relay_trails.specs.Searches.{AreEnds};
-ghost use Rattle.relay_trails.specs.Steps.{AreLinked, trail_at};
+ghost use Rattle.relay_trails.specs.Searches.{AreEnds, AreNumbers};
+ghost use Rattle.relay_trails.specs.Steps.{AreLinked, place_at, trail_at};
 ghost use Rattle.relay_trails.specs.Answers.{AreAnswers, HasSteps};
 
 use crate::found::Found;
-use crate::search::Search;
+use crate::search::steps_to;
 use crate::step::{Link, Step};
 use relay_pairs::Reached;
 use relay_tables::Graph;
@@ -29,28 +29,42 @@ pub fn best_trails(
     ensures best { IfOk result (λ found. AreBestTrails graph.now node found.items) }
     ensures nodes { IfOk result (λ found. All (HasNodes graph.now) found.items) }
 {
-    let search = Search::run(alloc, graph, pairs)?;
-    answers(alloc, graph, &search, pairs, node)
+    let steps = steps_to(alloc, graph, pairs)?;
+    let numbers = numbers_of(alloc, pairs.len(), &steps)?;
+    answers(alloc, graph, &numbers, &steps, pairs, node)
+}
+
+// The number of the step of each place, where each step has a place of its own.
+fn numbers_of(alloc: Global, places: usize, steps: &[Step]) -> Result<Vec<usize>, AllocError>
+    requires below { (k : ℕ) → k < length steps.now → place_at steps.now k < places }
+    requires apart { (j k : ℕ) → j < k → k < length steps.now → place_at steps.now j ≢ place_at steps.now k }
+    ensures { IfOk result (λ numbers. AreNumbers places steps.now numbers.items) }
+{
+    let mut numbers = vec![in alloc; 0; places]?;
+    for (number, step) in steps.iter().enumerate() {
+        numbers[step.place] = number;
+    }
+    Ok(numbers)
 }
 
 // The answers for the pairs of a node, in the order of the pairs.
 fn answers(
     alloc: Global,
     graph: &Graph,
-    search: &Search,
+    numbers: &[usize],
+    steps: &[Step],
     pairs: &[Reached],
     node: u32,
 ) -> Result<Vec<Found>, AllocError>
-    requires steps { HasSteps (length pairs.now) search.now.found.items search.now.steps.items }
-    requires ends { AreEnds graph.now pairs.now search.now.steps.items }
-    ensures answers { IfOk result (λ found. AreAnswers pairs.now pairs.now search.now.found.items search.now.steps.items node found.items) }
+    requires steps { HasSteps (length pairs.now) (map Some numbers.now) steps.now }
+    requires ends { AreEnds graph.now pairs.now steps.now }
+    ensures answers { IfOk result (λ found. AreAnswers pairs.now pairs.now (map Some numbers.now) steps.now node found.items) }
     ensures nodes { IfOk result (λ found. All (HasNodes graph.now) found.items) }
 {
     let mut found = Vec::new(alloc);
     for (place, pair) in pairs.iter().enumerate() {
         if pair.node == node {
-            let at = search.found[place].unwrap();
-            let steps = search.steps.as_slice();
+            let at = numbers[place];
             found.push(read_back(alloc, graph, pairs, steps, at, pair.sender)?)?;
         }
     }

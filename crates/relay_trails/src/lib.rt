@@ -4,9 +4,9 @@
 //! sender after the node (local(8), "delivery status notifications"). [`best_trails`] gives, for each sender under which a node is
 //! reached, the least of the shortest trails to it.
 //!
-//! The way through the modules: `search` takes the recipients and then the items of each pair that it comes to, and finds the `places`
-//! of their pairs among those that are reached. It leaves a `step` for each pair, and `answering` reads from these what is `found` of a
-//! node. `laws` says what the numbers in the answers say of the directory.
+//! The way through the modules: `search` takes the recipients and then the items of each pair that it comes to, finds the `places` of
+//! their pairs among those that are reached, and marks them. It leaves a `step` for each pair, and `answering` numbers these by place and
+//! reads from them what is `found` of a node. `laws` says what the numbers in the answers say of the directory.
 #![tactic(auto)]
 
 mod answering;

@@ -5,8 +5,8 @@
 ghost use Rattle.std.specs.Prelude.{◌≡◌, ◌+◌, ◌<◌, ◌≤◌, length, map, All, IfOk, OnOk};
 ghost use Rattle.relay_pairs.specs.Pairs.{ArePairs};
 ghost use Rattle.relay_trails.specs.declared.step.Link.TheVariants.{Recipient, Item};
-ghost use Rattle.relay_trails.specs.Steps.{IsTaken};
-ghost use Rattle.relay_trails.specs.Searches.{IsAt, IsDone};
+ghost use Rattle.relay_trails.specs.Steps.{IsMarked};
+ghost use Rattle.relay_trails.specs.Searches.{IsFinished, IsMarkedAt};
 
 use crate::places::{likely_place, place_of};
 use crate::step::{Link, Step};
@@ -14,35 +14,39 @@ use relay_pairs::Reached;
 use relay_tables::Graph;
 use std::alloc::{AllocError, Global};
 
-// The step of each place, once it has one, and the steps in their order.
+// The steps in their order, and a mark for each place that has one: a byte, so that marks of many pairs are still near at hand.
 #[derive(Drop)]
-pub(crate) struct Search {
-    pub(crate) found: Vec<Option<usize>>,
-    pub(crate) steps: Vec<Step>,
+struct Search {
+    marks: Vec<bool>,
+    steps: Vec<Step>,
+}
+
+/// The steps to all pairs, in the order in which a search comes to them. `Err` where memory runs out.
+pub(crate) fn steps_to(
+    alloc: Global,
+    graph: &Graph,
+    pairs: &[Reached],
+) -> Result<Vec<Step>, AllocError>
+    requires pairs { ArePairs graph.now pairs.now }
+    requires in_graph { All (λ p. (p.sender < length graph.now.senders) × (p.node < length graph.now.nodes)) pairs.now }
+    ensures { IfOk result (λ steps. IsFinished graph.now pairs.now steps.items) }
+{
+    let mut search = Search {
+        marks: vec![in alloc; false; pairs.len()]?,
+        steps: Vec::with_capacity(alloc, pairs.len())?,
+    };
+    search.take_recipients(graph, pairs)?;
+    search.go_on(graph, pairs)?;
+    Ok(search.steps)
 }
 
 impl Search {
-    // Looks for the best trail to each of the pairs.
-    pub(crate) fn run(alloc: Global, graph: &Graph, pairs: &[Reached]) -> Result<Search, AllocError>
-        requires pairs { ArePairs graph.now pairs.now }
-        requires in_graph { All (λ p. (p.sender < length graph.now.senders) × (p.node < length graph.now.nodes)) pairs.now }
-        ensures { IfOk result (λ search. IsDone graph.now pairs.now search.found.items search.steps.items) }
-    {
-        let mut search = Search {
-            found: vec![in alloc; None; pairs.len()]?,
-            steps: Vec::with_capacity(alloc, pairs.len())?,
-        };
-        search.take_recipients(graph, pairs)?;
-        search.go_on(graph, pairs)?;
-        Ok(search)
-    }
-
     // Takes the recipients.
     fn take_recipients(&mut self, graph: &Graph, pairs: &[Reached]) -> Result<(), AllocError>
         requires pairs { ArePairs graph.now pairs.now }
         requires in_graph { All (λ p. (p.sender < length graph.now.senders) × (p.node < length graph.now.nodes)) pairs.now }
-        requires before { IsAt graph.now pairs.now self.old.found.items self.old.steps.items (Recipient 0) }
-        ensures { OnOk result (IsAt graph.now pairs.now self.new.found.items self.new.steps.items (Item 0 0)) }
+        requires before { IsMarkedAt graph.now pairs.now self.old.marks.items self.old.steps.items (Recipient 0) }
+        ensures { OnOk result (IsMarkedAt graph.now pairs.now self.new.marks.items self.new.steps.items (Item 0 0)) }
     {
         // For what the call says alone: there are few nodes.
         let _ = graph.nodes();
@@ -64,8 +68,8 @@ impl Search {
     fn go_on(&mut self, graph: &Graph, pairs: &[Reached]) -> Result<(), AllocError>
         requires pairs { ArePairs graph.now pairs.now }
         requires in_graph { All (λ p. (p.sender < length graph.now.senders) × (p.node < length graph.now.nodes)) pairs.now }
-        requires before { IsAt graph.now pairs.now self.old.found.items self.old.steps.items (Item 0 0) }
-        ensures { OnOk result (IsAt graph.now pairs.now self.new.found.items self.new.steps.items (Item (length self.new.steps.items) 0)) }
+        requires before { IsMarkedAt graph.now pairs.now self.old.marks.items self.old.steps.items (Item 0 0) }
+        ensures { OnOk result (IsMarkedAt graph.now pairs.now self.new.marks.items self.new.steps.items (Item (length self.new.steps.items) 0)) }
     {
         let mut from = 0;
         while from < self.steps.len() {
@@ -85,8 +89,8 @@ impl Search {
         requires pairs { ArePairs graph.now pairs.now }
         requires in_graph { All (λ p. (p.sender < length graph.now.senders) × (p.node < length graph.now.nodes)) pairs.now }
         requires from { from < length self.old.steps.items }
-        requires before { IsAt graph.now pairs.now self.old.found.items self.old.steps.items (Item from 0) }
-        ensures after { OnOk result (IsAt graph.now pairs.now self.new.found.items self.new.steps.items (Item (from + 1) 0)) }
+        requires before { IsMarkedAt graph.now pairs.now self.old.marks.items self.old.steps.items (Item from 0) }
+        ensures after { OnOk result (IsMarkedAt graph.now pairs.now self.new.marks.items self.new.steps.items (Item (from + 1) 0)) }
         ensures longer { OnOk result (length self.old.steps.items ≤ length self.new.steps.items) }
     {
         // For what the call says alone: there are few nodes.
@@ -110,11 +114,11 @@ impl Search {
 
     // Comes to a pair, if it hasn't before.
     fn take(&mut self, place: usize, link: Link) -> Result<(), AllocError>
-        requires { place < length self.old.found.items }
-        ensures { OnOk result (IsTaken place link self.old.found.items self.old.steps.items self.new.found.items self.new.steps.items) }
+        requires { place < length self.old.marks.items }
+        ensures { OnOk result (IsMarked place link self.old.marks.items self.old.steps.items self.new.marks.items self.new.steps.items) }
     {
-        if self.found[place].is_none() {
-            self.found[place] = Some(self.steps.len());
+        if !self.marks[place] {
+            self.marks[place] = true;
             self.steps.push(Step { place, link })?;
         }
         Ok(())

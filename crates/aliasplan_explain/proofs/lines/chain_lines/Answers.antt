@@ -24,8 +24,8 @@ owner_along-owner-requires-clause-nodes g c =
     let all = All-same inside nodes c.args.found.now.nodes.items c.as_slice-nodes.ensures.value (all_inside c.args.grounds.now.job.now graph c.requires.made.graph c.args.found.now c.requires.nodes) in
     All-take inside (length c.as_slice-items.result.now) nodes all
 
-pub returns : goal.returns
-returns g c =
+pub returns-clause-lines : goal.returns-clause-lines
+returns-clause-lines g c =
     let job = c.args.grounds.now.job.now in
     let graph = c.args.grounds.now.basis.now.graph in
     let found = c.args.found.now in

@@ -2,8 +2,8 @@ use Rattle.std.proofs.Common.{Result, IfOk, subst}
 use Rattle.std.specs.declared.alloc.AllocError.{AllocError}
 use Rattle.relay_wire.specs.declared.plan.Plan.{Plan}
 use Rattle.relay_planning.specs.Plans.{IsPlanOf, IsSoundFor}
-use Rattle.aliasplan_explain.specs.declared.sought.Sought.{Sought}
-use Rattle.aliasplan_explain.specs.Sought.{IsSought}
+use Rattle.aliasplan_explain.specs.declared.chains.Chains.{Chains}
+use Rattle.aliasplan_explain.specs.Chains.{LeadToAsked}
 use Rattle.aliasplan_explain.proofs.planned.side_by_side.Goals as goal
 
 pub returns-clause-plan : goal.returns-clause-plan
@@ -18,6 +18,6 @@ returns-clause-sound g c =
     let both = subst (λ (r : Result Plan AllocError). IfOk r (λ plan. IsPlanOf job plan × IsSoundFor job plan.transactions)) c.in_ok-here.was c.join-there.ensures.second.1.1 in
     both.1
 
-pub returns-clause-sought : goal.returns-clause-sought
-returns-clause-sought g c =
-    subst (λ (r : Result Sought AllocError). IfOk r (IsSought c.args.grounds.now.job.now c.args.grounds.now.basis.now.graph c.args.asked.now)) c.in_ok-there.was c.join-there.ensures.first
+pub returns-clause-chains : goal.returns-clause-chains
+returns-clause-chains g c =
+    subst (λ (r : Result Chains AllocError). IfOk r (LeadToAsked c.args.grounds.now.job.now c.args.grounds.now.basis.now.graph c.args.grounds.now.recipient_lines.now c.args.asked.now)) c.in_ok-there.was c.join-there.ensures.first

@@ -1,47 +1,37 @@
-use Rattle.std.proofs.Common.{◌≡◌, ◌<◌, List, get_or, length, map, ap, sym, subst, ◌++◌, [], ◌∷◌, ◌∙◌}
-use Rattle.std.proofs.lemmas.List.Elements.{All-push, All-same}
-use Rattle.relay_trails.specs.declared.found.Found.{Found}
+use Rattle.std.proofs.Common.{List, map, ap, sym, subst, ◌++◌, [], ◌∷◌, ◌∙◌, All, Some}
+use Rattle.std.proofs.lemmas.List.{map_push}
+use Rattle.std.proofs.lemmas.List.Elements.{All-head, All-push, All-same, All-tail}
+use Rattle.relay_tables.specs.Senders.{Sender}
 use Rattle.relay_explain.specs.declared.told.Told.{Told}
-use Rattle.relay_trails.specs.Trails.{HasNodes}
-use Rattle.aliasplan_explain.specs.Tellings.{IsToldFor}
-use Rattle.aliasplan_explain.proofs.AnswerFacts.{given_sender, reached_at, senders_more}
+use Rattle.aliasplan_explain.specs.declared.lines.ChainLines.{ChainLines}
+use Rattle.aliasplan_explain.specs.Chains.{chain_sender, IsChainTo}
+use Rattle.aliasplan_explain.specs.Tellings.{told_sender, IsToldFor}
 use Rattle.aliasplan_explain.proofs.telling.told_of_all.Goals as goal
 
-pub told_of-requires-clause-ending : goal.told_of-requires-clause-ending
-told_of-requires-clause-ending g c = λ κs within. c.loop-found.invariant.ending
+pub told_of-requires-clause-chain : goal.told_of-requires-clause-chain
+told_of-requires-clause-chain c =
+    let P = IsChainTo c.args.grounds.now.job.now c.args.grounds.now.recipient_lines.now c.args.node.now in
+    All-head P c.in-Some.chain _ (subst (All P) c.in-Some.ensures.steps.0 c.loop-chain.invariant.rest)
 
-pub told_of-requires-clause-nodes : goal.told_of-requires-clause-nodes
-told_of-requires-clause-nodes g c = λ κs within.
-    let with_nodes : Found → Type 0 = HasNodes c.args.grounds.now.basis.now.graph in
-    let items_are = c.deref-found-items.ensures.value in
-    let i = c.loop-found.found-index in
-    let one : Found = c.found-item.result in
-    let at : one ≡ get_or c.args.sought.now.found.items i one = c.found-item.is ∙ ap (λ (fs : List Found). get_or fs i one) items_are in
-    subst with_nodes (sym at) (c.requires.nodes i one (subst (λ (fs : List Found). i < length fs) items_are c.loop-found-test.true))
-
-pub told_of-requires-clause-reached : goal.told_of-requires-clause-reached
-told_of-requires-clause-reached g c = λ κs within.
-    let items_are = c.deref-found-items.ensures.value in
-    let i = c.loop-found.found-index in
-    let one : Found = c.found-item.result in
-    let at : one ≡ get_or c.args.sought.now.found.items i one = c.found-item.is ∙ ap (λ (fs : List Found). get_or fs i one) items_are in
-    reached_at c.args.grounds.now.job.now c.args.grounds.now.basis.now.graph c.args.sought.now.node c.args.sought.now.found.items c.requires.best i one (subst (λ (fs : List Found). i < length fs) items_are c.loop-found-test.true) at
-
-pub loop-found-preserved : goal.loop-found-preserved
-loop-found-preserved g c =
-    let graph = c.args.grounds.now.basis.now.graph in
-    let told = c.loop-found.told.items in
-    let items_are = c.deref-found-items.ensures.value in
-    let i = c.loop-found.found-index in
-    let one : Found = c.found-item.result in
-    let at : one ≡ get_or c.args.sought.now.found.items i one = c.found-item.is ∙ ap (λ (fs : List Found). get_or fs i one) items_are in
-    let short : i < length c.args.sought.now.found.items = subst (λ (fs : List Found). i < length fs) items_are c.loop-found-test.true in
-    let t : Told = c.in_ok-told_of.field-0 in
-    let P = IsToldFor c.args.grounds.now.job.now c.args.plan.now c.args.grounds.now.recipient_lines.now c.args.sought.now.node in
+pub loop-chain-preserved : goal.loop-chain-preserved
+loop-chain-preserved c =
+    let job = c.args.grounds.now.job.now in
+    let lines = c.args.grounds.now.recipient_lines.now in
+    let node = c.args.node.now in
+    let P = IsChainTo job lines node in
+    let Q = IsToldFor job c.args.plan.now lines node in
+    let told = c.loop-chain.told.items in
+    let before = c.loop-chain.yielded in
+    let chain : ChainLines = c.in-Some.chain in
+    let one : Told = c.in_ok-told_of.field-0 in
     record {
-      ending = c.loop-found.invariant.ending;
-      each = All-same P c.push.new.self.items (told ++ t ∷ []) c.in_ok-push.ensures.items (All-push P told t c.loop-found.invariant.each c.in_ok-told_of.ensures.told);
+      ending = c.loop-chain.invariant.ending;
+      rest = All-tail P chain _ (subst (All P) c.in-Some.ensures.steps.0 c.loop-chain.invariant.rest);
+      each = All-same Q c.push.new.self.items (told ++ one ∷ []) c.in_ok-push.ensures.items (All-push Q told one c.loop-chain.invariant.each c.in_ok-told_of.ensures.told);
       senders =
-          ap (λ (xs : List Told). map given_sender xs) c.in_ok-push.ensures.items
-          ∙ senders_more graph c.args.sought.now.found.items i one short at told c.loop-found.invariant.senders t c.in_ok-told_of.ensures.sender;
+          ap (λ (xs : List Told). map told_sender xs) c.in_ok-push.ensures.items
+          ∙ map_push told_sender told one
+          ∙ ap (λ ss. ss ++ told_sender one ∷ []) c.loop-chain.invariant.senders
+          ∙ ap (λ s. map chain_sender before ++ s ∷ []) (ap (λ (s : Sender). Some s) c.in_ok-told_of.ensures.sender)
+          ∙ sym (map_push chain_sender before chain);
     }

@@ -1,0 +1,93 @@
+//! What a job says, read beside the lines of its alias file, which the steps of a trail name.
+use crate::basis::Basis;
+use relay_text::Line;
+use relay_wire::FindingLines;
+
+/// What a job's plan is made from, the lines of its files and tables that are at fault, and the logical lines of its alias file.
+#[derive(Drop)]
+pub(crate) struct Reading {
+    pub(crate) basis: Basis,
+    pub(crate) faults: FindingLines,
+    pub(crate) alias_lines: Vec<Line>,
+}
+
+ghost use Rattle.std.specs.Prelude.{◌≡◌, ℕ, List, IfOk, IfErr, OnOk};
+ghost use Rattle.std.specs.Thread.{IsSync};
+ghost use Rattle.relay_text.specs.Bytes.{has_text};
+ghost use Rattle.relay_text.specs.Lines.{logical_lines_of};
+ghost use Rattle.relay_job.specs.JobAnswers.{IsJobWithin};
+ghost use Rattle.relay_planning.specs.Limits.{IsWithin, IsRefused};
+ghost use Rattle.relay_planning.specs.Texts.{has_fault_line};
+ghost use Rattle.aliasplan_explain.specs.Grounds.{IsBasisOf, IsReadingOf};
+
+use aliasplan::{Crew, Gate, Job, RunFault};
+use relay_text::logical_lines;
+use std::alloc::{AllocError, Global};
+use std::thread::{Threads, join};
+
+// Starting a thread takes as long as cutting some ten thousand bytes into lines.
+const FEWEST_BYTES: usize = 65_536;
+
+// The logical lines of a job's alias file.
+fn alias_lines_of(alloc: Global, job: &Job) -> Result<Vec<Line>, AllocError>
+    ensures { IfOk result (λ lines. lines.items ≡ (logical_lines_of job.now.aliases).lines) }
+{
+    let lines = logical_lines(alloc, job.aliases.as_bytes())?;
+    Ok(lines.lines.into_vec())
+}
+
+// What is read, where a thread of its own cuts the lines.
+fn side_by_side<G: Gate, R: Threads + Sync>(
+    crew: &Crew<G, R>,
+    job: &Job,
+) -> Result<Reading, RunFault>
+    requires { IsJobWithin crew.now.limits.bytes job.now }
+    ensures reading { IfOk result (IsReadingOf job.now) }
+    ensures within { OnOk result (IsWithin crew.now.limits job.now) }
+    ensures refused { IfErr result (IsRefused crew.now.limits job.now) }
+{
+    let alloc = crew.alloc;
+    let cut = || -> Result<Vec<Line>, AllocError>
+        ensures { IfOk result (λ lines. lines.items ≡ (logical_lines_of job.entry.now.aliases).lines) }
+    { alias_lines_of(alloc, job) };
+    let read = || -> Result<(Basis, FindingLines), RunFault>
+        requires { IsSync R.row × IsJobWithin crew.now.limits.bytes job.now }
+        ensures { IfOk result (λ both. IsBasisOf job.entry.now both.0 × ((q : List ℕ) → has_text both.1 q ≡ has_fault_line job.entry.now q)) × OnOk result (IsWithin crew.entry.now.limits job.entry.now) × IfErr result (IsRefused crew.entry.now.limits job.entry.now) }
+    { Basis::read(crew, job) };
+    let (there, here) = join(crew.rt, cut, read);
+    let (basis, faults) = here?;
+    let Ok(alias_lines) = there else {
+        return Err(RunFault::Memory);
+    };
+    Ok(Reading {
+        basis,
+        faults,
+        alias_lines,
+    })
+}
+
+impl Reading {
+    /// That of a job. The errors are those of `plan_job`, in the same order.
+    pub(crate) fn of<G: Gate, R: Threads + Sync>(
+        crew: &Crew<G, R>,
+        job: &Job,
+    ) -> Result<Reading, RunFault>
+        requires { IsJobWithin crew.now.limits.bytes job.now }
+        ensures reading { IfOk result (IsReadingOf job.now) }
+        ensures within { OnOk result (IsWithin crew.now.limits job.now) }
+        ensures refused { IfErr result (IsRefused crew.now.limits job.now) }
+    {
+        if crew.options.workers > 1 && job.aliases.len() >= FEWEST_BYTES {
+            return side_by_side(crew, job);
+        }
+        let (basis, faults) = Basis::read(crew, job)?;
+        let Ok(alias_lines) = alias_lines_of(crew.alloc, job) else {
+            return Err(RunFault::Memory);
+        };
+        Ok(Reading {
+            basis,
+            faults,
+            alias_lines,
+        })
+    }
+}
