@@ -88,7 +88,7 @@ module _ (g : GraphParts) (pairs : List Reached) (found : List (Option ℕ)) (st
         record {
           sized = at.search.sized;
           linked = at.search.linked;
-          ended = record { places = λ k below. (at.search.places k below).0; ends = at.search.ends };
+          ended = record { pairs_are = at.search.pairs_are; places = λ k below. (at.search.places k below).0; ends = at.search.ends };
           best = λ place inside.
               let pair : Reached = pair_in pairs place in
               let t = has_trail g pair ((all.members pair).0 (Contains-get_or pairs place no_pair inside)) in

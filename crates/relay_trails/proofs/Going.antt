@@ -61,15 +61,15 @@ to_next (Item j h) k i e = elim e [ inl less ↦ inl (omega arith) | inr same �
 
 module _ (g : GraphParts) (pairs : List Reached) (found : List (Option ℕ)) (steps : List Step) where
   -- a recipient is taken
-  pub recipient_taken : (r n place : ℕ) → IsAt g pairs found steps (Recipient r) → slice_get g.roots r ≡ Some n → place < length pairs → pair_in pairs place ≡ record { sender = 0; node = n } → (found_after : List (Option ℕ)) (steps_after : List Step) → IsTaken place (Recipient r) found steps found_after steps_after → IsAt g pairs found_after steps_after (Recipient (r + 1))
+  pub recipient_taken : (r n place : ℕ) → IsAt g pairs found steps (Recipient r) → slice_get g.roots r ≡ Some n → place < length pairs → pair_in pairs place ≡ record { sender = 0; node = n } → (found_after : List (Option ℕ)) (steps_after : List Step) → IsTaken place (record { sender = 0; node = n }) (Recipient r) found steps found_after steps_after → IsAt g pairs found_after steps_after (Recipient (r + 1))
   recipient_taken r n place at root inside same found_after steps_after taken =
-      taken_at g pairs found steps (Recipient r) at tt place inside (ends_recipient g r n root ∙ ap Some (sym same)) found_after steps_after taken
+      taken_at g pairs found steps (Recipient r) at tt place inside (ends_recipient g r n root ∙ ap Some (sym same)) (record { sender = 0; node = n }) (sym same) found_after steps_after taken
 
   -- an item is taken
-  pub item_taken : (k i n place : ℕ) → k < length steps → IsAt g pairs found steps (Item k i) → slice_get (child_numbers g (pair_in pairs (place_at steps k)).node) i ≡ Some n → place < length pairs → pair_in pairs place ≡ record { sender = sender_number_after g (pair_in pairs (place_at steps k)).sender (pair_in pairs (place_at steps k)).node; node = n } → (found_after : List (Option ℕ)) (steps_after : List Step) → IsTaken place (Item k i) found steps found_after steps_after → IsAt g pairs found_after steps_after (Item k (i + 1))
-  item_taken k i n place h at child inside same found_after steps_after taken =
+  pub item_taken : (k i n place : ℕ) (to : Reached) → to ≡ pair_in pairs place → k < length steps → IsAt g pairs found steps (Item k i) → slice_get (child_numbers g (pair_in pairs (place_at steps k)).node) i ≡ Some n → place < length pairs → pair_in pairs place ≡ record { sender = sender_number_after g (pair_in pairs (place_at steps k)).sender (pair_in pairs (place_at steps k)).node; node = n } → (found_after : List (Option ℕ)) (steps_after : List Step) → IsTaken place to (Item k i) found steps found_after steps_after → IsAt g pairs found_after steps_after (Item k (i + 1))
+  item_taken k i n place to to_is h at child inside same found_after steps_after taken =
       let pair : Reached = pair_in pairs (place_at steps k) in
-      taken_at g pairs found steps (Item k i) at h place inside (ends_item g (trail_at steps k) i pair (at.search.ends k h) ∙ after_item g i pair n child ∙ ap Some (sym same)) found_after steps_after taken
+      taken_at g pairs found steps (Item k i) at h place inside (ends_item g (trail_at steps k) i pair (at.search.ends k h) ∙ after_item g i pair n child ∙ ap Some (sym same)) to to_is found_after steps_after taken
 
   -- there is no such recipient
   covered_recipients : (r : ℕ) → IsAt g pairs found steps (Recipient r) → length g.roots ≤ r → (a : Link) (pair : Reached) → IsEarlier a (Item 0 0) → ends_in g (next_trail steps a) ≡ Some pair → IsCovered pairs steps (next_trail steps a) pair
@@ -122,7 +122,7 @@ module _ (g : GraphParts) (pairs : List Reached) (found : List (Option ℕ)) (st
       }
 
   -- the same two, where the place of the step's pair, the sender after it and its children were looked up before
-  pub child_taken : (k i place from : ℕ) → k < length steps → IsAt g pairs found steps (Item k i) → place_at steps k ≡ from → (s : ℕ) → s ≡ sender_number_after g (pair_in pairs from).sender (pair_in pairs from).node → (cs : List ℕ) → cs ≡ child_numbers g (pair_in pairs from).node → i < length cs → slice_get pairs place ≡ Some (record { sender = s; node = get_or cs i 0 }) → (found_after : List (Option ℕ)) (steps_after : List Step) → IsTaken place (Item k i) found steps found_after steps_after → IsAt g pairs found_after steps_after (Item k (i + 1))
+  pub child_taken : (k i place from : ℕ) → k < length steps → IsAt g pairs found steps (Item k i) → place_at steps k ≡ from → (s : ℕ) → s ≡ sender_number_after g (pair_in pairs from).sender (pair_in pairs from).node → (cs : List ℕ) → cs ≡ child_numbers g (pair_in pairs from).node → i < length cs → slice_get pairs place ≡ Some (record { sender = s; node = get_or cs i 0 }) → (found_after : List (Option ℕ)) (steps_after : List Step) → IsTaken place (record { sender = s; node = get_or cs i 0 }) (Item k i) found steps found_after steps_after → IsAt g pairs found_after steps_after (Item k (i + 1))
   child_taken k i place from h at same s s_is cs cs_are short listed found_after steps_after taken =
       let n : ℕ = get_or cs i 0 in
       let p : Reached = pair_in pairs (place_at steps k) in
@@ -133,7 +133,7 @@ module _ (g : GraphParts) (pairs : List Reached) (found : List (Option ℕ)) (st
       let after : s ≡ sender_number_after g p.sender p.node = s_is ∙ ap (λ (r : Reached). sender_number_after g r.sender r.node) here in
       let to : Reached = record { sender = s; node = n } in
       let pair : pair_in pairs place ≡ record { sender = sender_number_after g p.sender p.node; node = n } = get_or_from_slice_get pairs place to no_pair listed ∙ ap (λ (t : ℕ). record { sender = t; node = n }) after in
-      item_taken k i n place h at child (slice_get_within pairs place to listed) pair found_after steps_after taken
+      item_taken k i n place to (sym (get_or_from_slice_get pairs place to no_pair listed)) h at child (slice_get_within pairs place to listed) pair found_after steps_after taken
 
   pub children_end : (k i from : ℕ) → k < length steps → IsAt g pairs found steps (Item k i) → place_at steps k ≡ from → (cs : List ℕ) → cs ≡ child_numbers g (pair_in pairs from).node → length cs ≤ i → IsAt g pairs found steps (Item (k + 1) 0)
   children_end k i from h at same cs cs_are all =

@@ -6,7 +6,7 @@ use Rattle.relay_trails.specs.declared.step.Link.{Link}
 use Rattle.relay_trails.specs.declared.step.Link.TheVariants.{Recipient, Item}
 use Rattle.relay_trails.specs.declared.step.Step.{Step}
 use Rattle.relay_trails.specs.Trails.{Trail, IsLess}
-use Rattle.relay_trails.specs.Steps.{AreLinked, IsBackward, IsEarlier, link_at, next_trail, no_step, no_trail, place_at, trail_at, trail_by, trails_of, trails_on, with_item}
+use Rattle.relay_trails.specs.Steps.{AreLinked, IsBackward, IsEarlier, link_at, next_trail, no_step, no_trail, pair_at, place_at, trail_at, trail_by, trails_of, trails_on, with_item}
 use Rattle.relay_trails.proofs.Orders.{recipients_less, recipient_less, less_item, item_less}
 
 on_push : (trails : List Trail) (steps : List Step) (s : Step) → trails_on trails (steps ++ s ∷ []) ≡ trails_on trails steps ++ trail_by (trails_on trails steps) s.link ∷ []
@@ -65,6 +65,12 @@ module _ (steps : List Step) (s : Step) where
 
   pub place_new : place_at (steps ++ s ∷ []) (length steps) ≡ s.place
   place_new = ap (λ (x : Step). x.place) step_new
+
+  pub pair_before : (k : ℕ) → k < length steps → pair_at (steps ++ s ∷ []) k ≡ pair_at steps k
+  pair_before k h = ap (λ (x : Step). x.pair) (step_before k h)
+
+  pub pair_new : pair_at (steps ++ s ∷ []) (length steps) ≡ s.pair
+  pair_new = ap (λ (x : Step). x.pair) step_new
 
   pub link_before : (k : ℕ) → k < length steps → link_at (steps ++ s ∷ []) k ≡ link_at steps k
   link_before k h = ap (λ (x : Step). x.link) (step_before k h)

@@ -43,6 +43,7 @@ none_marked g pairs =
           steps_found = λ place k e. absurd (none-some k (sym (nowhere (length pairs) place) ∙ e));
           places = λ k short. absurd (omega (arith, short));
           ends = λ k short. absurd (omega (arith, short));
+          pairs_are = λ k short. absurd (omega (arith, short));
           linked = record { backward = λ k short. absurd (omega (arith, short)); trails = λ k short. absurd (omega (arith, short)) };
           rising = λ j k before short. absurd (omega (arith, short));
         };
@@ -55,12 +56,12 @@ module _ (g : GraphParts) (pairs : List Reached) (marks : List Bool) (steps : Li
   pub marks_long : length marks ≡ length pairs
   marks_long = ap length (sym m.marked) ∙ length-map m.found is_some ∙ m.at.search.sized
 
-  module _ (place : ℕ) (inside : place < length pairs) (marks_after : List Bool) (steps_after : List Step) (is : IsMarked place next marks steps marks_after steps_after) where
+  module _ (place : ℕ) (pair : Reached) (inside : place < length pairs) (marks_after : List Bool) (steps_after : List Step) (is : IsMarked place pair next marks steps marks_after steps_after) where
     mark_is : get_or marks place false ≡ is_some (step_of m.found place)
     mark_is = ap (λ (bs : List Bool). get_or bs place false) (sym m.marked) ∙ get_or-map is_some m.found place None false (omega (arith, inside, m.at.search.sized))
 
     -- what is known of the numbers of steps after that
-    pub numbers_after : (found : List (Option ℕ)) × (map is_some found ≡ marks_after) × IsTaken place next m.found steps found steps_after
+    pub numbers_after : (found : List (Option ℕ)) × (map is_some found ≡ marks_after) × IsTaken place pair next m.found steps found steps_after
     numbers_after =
         elim (option_cases (step_of m.found place)) [
           | inl none ↦
@@ -68,13 +69,13 @@ module _ (g : GraphParts) (pairs : List Reached) (marks : List Bool) (steps : Li
               let found : List (Option ℕ) = set m.found place (Some (length steps)) in (
                 found,
                 map-set is_some m.found place (Some (length steps)) ∙ ap (λ (bs : List Bool). set bs place true) m.marked ∙ sym made.0,
-                subst (λ (o : Option ℕ). MatchOption o ((found ≡ found) × (steps_after ≡ steps ++ record { place = place; link = next } ∷ [])) (λ (k : ℕ). (found ≡ m.found) × (steps_after ≡ steps))) (sym none) (refl, made.1),
+                subst (λ (o : Option ℕ). MatchOption o ((found ≡ found) × (steps_after ≡ steps ++ record { place = place; pair = pair; link = next } ∷ [])) (λ (k : ℕ). (found ≡ m.found) × (steps_after ≡ steps))) (sym none) (refl, made.1),
               )
           | inr has ↦
               let kept = is.known (mark_is ∙ ap is_some has.1) in (
                 m.found,
                 m.marked ∙ sym kept.0,
-                subst (λ (o : Option ℕ). MatchOption o ((m.found ≡ set m.found place (Some (length steps))) × (steps_after ≡ steps ++ record { place = place; link = next } ∷ [])) (λ (k : ℕ). (m.found ≡ m.found) × (steps_after ≡ steps))) (sym has.1) (refl, kept.1),
+                subst (λ (o : Option ℕ). MatchOption o ((m.found ≡ set m.found place (Some (length steps))) × (steps_after ≡ steps ++ record { place = place; pair = pair; link = next } ∷ [])) (λ (k : ℕ). (m.found ≡ m.found) × (steps_after ≡ steps))) (sym has.1) (refl, kept.1),
               )
         ]
 

@@ -8,10 +8,10 @@ use Rattle.relay_trails.specs.declared.step.Link.{Link}
 use Rattle.relay_trails.specs.declared.step.Link.TheVariants.{Recipient, Item}
 use Rattle.relay_trails.specs.declared.step.Step.{Step}
 use Rattle.relay_trails.specs.Trails.{Trail, IsLess, ends_in}
-use Rattle.relay_trails.specs.Steps.{IsBackward, IsEarlier, IsKept, IsTaken, link_at, next_trail, place_at, trail_at}
+use Rattle.relay_trails.specs.Steps.{IsBackward, IsEarlier, IsKept, IsTaken, link_at, next_trail, pair_at, place_at, trail_at}
 use Rattle.relay_trails.specs.Searches.{IsAt, IsAtMost, IsCovered, pair_in, step_of}
 use Rattle.relay_trails.proofs.Ends.{option_cases}
-use Rattle.relay_trails.proofs.Linking.{earlier_backward, one_more, last_cases, trail_before, trail_new, place_before, place_new, link_before, link_new, next_same, linked_push, links_rise}
+use Rattle.relay_trails.proofs.Linking.{earlier_backward, one_more, last_cases, trail_before, trail_new, pair_before, pair_new, place_before, place_new, link_before, link_new, next_same, linked_push, links_rise}
 
 -- the next link of the same kind
 abbrev pub link_after : Link → Link
@@ -73,12 +73,12 @@ module _ (g : GraphParts) (pairs : List Reached) (found : List (Option ℕ)) (st
           }
 
     -- it has none yet
-    module _ (none : step_of found place ≡ None) where
+    module _ (none : step_of found place ≡ None) (pair : Reached) (pair_is : pair ≡ pair_in pairs place) where
       abbrev new_found : List (Option ℕ)
       new_found = set found place (Some (length steps))
 
       abbrev new_step : Step
-      new_step = record { place = place; link = next }
+      new_step = record { place = place; pair = pair; link = next }
 
       abbrev new_steps : List Step
       new_steps = steps ++ new_step ∷ []
@@ -128,6 +128,13 @@ module _ (g : GraphParts) (pairs : List Reached) (found : List (Option ℕ)) (st
             | inr new ↦ ap (λ (n : ℕ). ends_in g (trail_at new_steps n)) new ∙ ap (ends_in g) trail_last ∙ ends ∙ ap (λ (q : ℕ). Some (pair_in pairs q)) (sym (ap (place_at new_steps) new ∙ place_new steps new_step))
           ]
 
+      pairs_new : (k : ℕ) → k < length new_steps → pair_at new_steps k ≡ pair_in pairs (place_at new_steps k)
+      pairs_new k h =
+          elim (last_cases steps new_step k h) [
+            | inl old ↦ pair_before steps new_step k old ∙ at.search.pairs_are k old ∙ ap (pair_in pairs) (sym (place_before steps new_step k old))
+            | inr new ↦ ap (pair_at new_steps) new ∙ pair_new steps new_step ∙ pair_is ∙ ap (pair_in pairs) (sym (ap (place_at new_steps) new ∙ place_new steps new_step))
+          ]
+
       rising : (j k : ℕ) → j < k → k < length new_steps → IsLess (trail_at new_steps j) (trail_at new_steps k)
       rising j k before h =
           elim (last_cases steps new_step k h) [
@@ -162,6 +169,7 @@ module _ (g : GraphParts) (pairs : List Reached) (found : List (Option ℕ)) (st
               steps_found = steps_found;
               places = places;
               ends = ends_new;
+              pairs_are = pairs_new;
               linked = linked_push steps new_step at.search.linked back;
               rising = rising;
             };
@@ -187,30 +195,30 @@ module _ (g : GraphParts) (pairs : List Reached) (found : List (Option ℕ)) (st
                 ];
           }
 
-    module _ (found_after : List (Option ℕ)) (steps_after : List Step) (taken : IsTaken place next found steps found_after steps_after) where
+    module _ (pair : Reached) (pair_is : pair ≡ pair_in pairs place) (found_after : List (Option ℕ)) (steps_after : List Step) (taken : IsTaken place pair next found steps found_after steps_after) where
       pub taken_at : IsAt g pairs found_after steps_after (link_after next)
       taken_at =
           elim (option_cases (step_of found place)) [
             | inl none ↦
-                let made = MatchOption-at_none ((found_after ≡ set found place (Some (length steps))) × (steps_after ≡ steps ++ record { place = place; link = next } ∷ [])) (λ (k : ℕ). (found_after ≡ found) × (steps_after ≡ steps)) none taken in
+                let made = MatchOption-at_none ((found_after ≡ set found place (Some (length steps))) × (steps_after ≡ steps ++ record { place = place; pair = pair; link = next } ∷ [])) (λ (k : ℕ). (found_after ≡ found) × (steps_after ≡ steps)) none taken in
                 subst (λ (f : List (Option ℕ)). IsAt g pairs f steps_after (link_after next)) (sym made.0)
-                (subst (λ (s : List Step). IsAt g pairs (set found place (Some (length steps))) s (link_after next)) (sym made.1) (taken_anew none))
+                (subst (λ (s : List Step). IsAt g pairs (set found place (Some (length steps))) s (link_after next)) (sym made.1) (taken_anew none pair pair_is))
             | inr has ↦
-                let kept = MatchOption-at_some ((found_after ≡ set found place (Some (length steps))) × (steps_after ≡ steps ++ record { place = place; link = next } ∷ [])) (λ (k : ℕ). (found_after ≡ found) × (steps_after ≡ steps)) has.0 has.1 taken in
+                let kept = MatchOption-at_some ((found_after ≡ set found place (Some (length steps))) × (steps_after ≡ steps ++ record { place = place; pair = pair; link = next } ∷ [])) (λ (k : ℕ). (found_after ≡ found) × (steps_after ≡ steps)) has.0 has.1 taken in
                 subst (λ (f : List (Option ℕ)). IsAt g pairs f steps_after (link_after next)) (sym kept.0)
                 (subst (λ (s : List Step). IsAt g pairs found s (link_after next)) (sym kept.1) (taken_before has.0 has.1))
           ]
 
-pub taken_kept : (place : ℕ) (next : Link) (found : List (Option ℕ)) (steps : List Step) (found_after : List (Option ℕ)) (steps_after : List Step) → IsTaken place next found steps found_after steps_after → IsKept steps steps_after
-taken_kept place next found steps found_after steps_after taken =
+pub taken_kept : (place : ℕ) (pair : Reached) (next : Link) (found : List (Option ℕ)) (steps : List Step) (found_after : List (Option ℕ)) (steps_after : List Step) → IsTaken place pair next found steps found_after steps_after → IsKept steps steps_after
+taken_kept place pair next found steps found_after steps_after taken =
     elim (option_cases (step_of found place)) [
       | inl none ↦
-          let made = MatchOption-at_none ((found_after ≡ set found place (Some (length steps))) × (steps_after ≡ steps ++ record { place = place; link = next } ∷ [])) (λ (k : ℕ). (found_after ≡ found) × (steps_after ≡ steps)) none taken in
-          let s : Step = record { place = place; link = next } in
+          let made = MatchOption-at_none ((found_after ≡ set found place (Some (length steps))) × (steps_after ≡ steps ++ record { place = place; pair = pair; link = next } ∷ [])) (λ (k : ℕ). (found_after ≡ found) × (steps_after ≡ steps)) none taken in
+          let s : Step = record { place = place; pair = pair; link = next } in
           let more = one_more steps s in
           subst (IsKept steps) (sym made.1) (record { longer = omega arith; places = place_before steps s })
       | inr has ↦
-          let kept = MatchOption-at_some ((found_after ≡ set found place (Some (length steps))) × (steps_after ≡ steps ++ record { place = place; link = next } ∷ [])) (λ (k : ℕ). (found_after ≡ found) × (steps_after ≡ steps)) has.0 has.1 taken in
+          let kept = MatchOption-at_some ((found_after ≡ set found place (Some (length steps))) × (steps_after ≡ steps ++ record { place = place; pair = pair; link = next } ∷ [])) (λ (k : ℕ). (found_after ≡ found) × (steps_after ≡ steps)) has.0 has.1 taken in
           subst (IsKept steps) (sym kept.1) (record { longer = omega arith; places = λ k h. refl })
     ]
 

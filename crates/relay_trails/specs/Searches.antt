@@ -6,7 +6,7 @@ use Rattle.relay_pairs.specs.declared.reached.Reached.{Reached}
 use Rattle.relay_trails.specs.declared.step.Link.{Link}
 use Rattle.relay_trails.specs.declared.step.Step.{Step}
 use Rattle.relay_trails.specs.Trails.{Trail, IsLess, IsBest, ends_in}
-use Rattle.relay_trails.specs.Steps.{AreLinked, IsEarlier, link_at, next_trail, place_at, trail_at}
+use Rattle.relay_trails.specs.Steps.{AreLinked, IsEarlier, link_at, next_trail, pair_at, place_at, trail_at}
 
 abbrev pub no_pair : Reached
 no_pair = record { sender = 0; node = 0 }
@@ -22,12 +22,13 @@ step_of found place = slice_index_or found place None
 abbrev pub IsAtMost : Trail → Trail → Type 0
 IsAtMost t u = IsLess t u ⊎ (t ≡ u)
 
--- Each step has a place of its own, and a trail that ends in the pair of that place. The trails rise.
+-- Each step has a place of its own, the pair there, and a trail that ends in that pair. The trails rise.
 pub record IsSearch (g : GraphParts) (pairs : List Reached) (found : List (Option ℕ)) (steps : List Step) : Type 0 where
   pub sized : length found ≡ length pairs
   pub steps_found : (place k : ℕ) → step_of found place ≡ Some k → (k < length steps) × (place_at steps k ≡ place)
   pub places : (k : ℕ) → k < length steps → (place_at steps k < length pairs) × (step_of found (place_at steps k) ≡ Some k)
   pub ends : (k : ℕ) → k < length steps → ends_in g (trail_at steps k) ≡ Some (pair_in pairs (place_at steps k))
+  pub pairs_are : (k : ℕ) → k < length steps → pair_at steps k ≡ pair_in pairs (place_at steps k)
   pub linked : AreLinked steps
   pub rising : (j k : ℕ) → j < k → k < length steps → IsLess (trail_at steps j) (trail_at steps k)
 
@@ -50,8 +51,9 @@ pub record IsMarkedAt (g : GraphParts) (pairs : List Reached) (marks : List Bool
   pub marked : map is_some found ≡ marks
   pub at : IsAt g pairs found steps next
 
--- Each step has a place, and a trail that ends in the pair of that place.
+-- Each step has a place and the pair there, and a trail that ends in that pair.
 pub record AreEnds (g : GraphParts) (pairs : List Reached) (steps : List Step) : Type 0 where
+  pub pairs_are : (k : ℕ) → k < length steps → pair_at steps k ≡ pair_in pairs (place_at steps k)
   pub places : (k : ℕ) → k < length steps → place_at steps k < length pairs
   pub ends : (k : ℕ) → k < length steps → ends_in g (trail_at steps k) ≡ Some (pair_in pairs (place_at steps k))
 

@@ -1,5 +1,6 @@
 -- The steps of a search, and the trails that they stand for.
 use Rattle.std.specs.Prelude.{◌≡◌, ℕ, ◌<◌, ◌≤◌, Bool, true, false, List, [], ◌∷◌, ◌++◌, length, slice_index_or, slice_set, MatchOption, ◌⊎◌, ⊤, Option, Some, None}
+use Rattle.relay_pairs.specs.declared.reached.Reached.{Reached}
 use Rattle.relay_trails.specs.declared.step.Link.{Link}
 use Rattle.relay_trails.specs.declared.step.Link.TheVariants.{Recipient, Item}
 use Rattle.relay_trails.specs.declared.step.Step.{Step}
@@ -9,7 +10,7 @@ abbrev pub no_trail : Trail
 no_trail = record { recipient = 0; items = [] }
 
 abbrev pub no_step : Step
-no_step = record { place = 0; link = Recipient 0 }
+no_step = record { place = 0; pair = record { sender = 0; node = 0 }; link = Recipient 0 }
 
 -- the trail with one more item
 abbrev pub with_item : Trail → ℕ → Trail
@@ -33,6 +34,9 @@ module _ (steps : List Step) where
 
   abbrev pub place_at : ℕ → ℕ
   place_at k = (slice_index_or steps k no_step).place
+
+  abbrev pub pair_at : ℕ → Reached
+  pair_at k = (slice_index_or steps k no_step).pair
 
   abbrev pub link_at : ℕ → Link
   link_at k = (slice_index_or steps k no_step).link
@@ -59,15 +63,15 @@ pub record AreLinked (steps : List Step) : Type 0 where
   pub trails : (k : ℕ) → k < length steps → trail_at steps k ≡ next_trail steps (link_at steps k)
 
 -- A pair that has no step yet gets one, behind those that there are.
-abbrev pub IsTaken : ℕ → Link → List (Option ℕ) → List Step → List (Option ℕ) → List Step → Type 0
-IsTaken place link found steps found_after steps_after =
+abbrev pub IsTaken : ℕ → Reached → Link → List (Option ℕ) → List Step → List (Option ℕ) → List Step → Type 0
+IsTaken place pair link found steps found_after steps_after =
     MatchOption (slice_index_or found place None)
-    ((found_after ≡ slice_set found place (Some (length steps))) × (steps_after ≡ steps ++ record { place = place; link = link } ∷ []))
+    ((found_after ≡ slice_set found place (Some (length steps))) × (steps_after ≡ steps ++ record { place = place; pair = pair; link = link } ∷ []))
     (λ k. (found_after ≡ found) × (steps_after ≡ steps))
 
 -- A place without a mark gets one, and a step. Of a place with a mark nothing changes.
-pub record IsMarked (place : ℕ) (link : Link) (marks : List Bool) (steps : List Step) (marks_after : List Bool) (steps_after : List Step) : Type 0 where
-  pub fresh : slice_index_or marks place false ≡ false → (marks_after ≡ slice_set marks place true) × (steps_after ≡ steps ++ record { place = place; link = link } ∷ [])
+pub record IsMarked (place : ℕ) (pair : Reached) (link : Link) (marks : List Bool) (steps : List Step) (marks_after : List Bool) (steps_after : List Step) : Type 0 where
+  pub fresh : slice_index_or marks place false ≡ false → (marks_after ≡ slice_set marks place true) × (steps_after ≡ steps ++ record { place = place; pair = pair; link = link } ∷ [])
   pub known : slice_index_or marks place false ≡ true → (marks_after ≡ marks) × (steps_after ≡ steps)
 
 -- the steps that there were are still there

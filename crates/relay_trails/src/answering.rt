@@ -88,11 +88,12 @@ fn read_back(
     ensures nodes { IfOk result (HasNodes graph.now) }
 {
     let _ = graph;
+    let _ = pairs;
     let mut items = Vec::new(alloc);
     let mut nodes = Vec::new(alloc);
     loop {
-        let Step { place, link } = steps[at];
-        nodes.push(pairs[place].node)?;
+        let Step { pair, link, .. } = steps[at];
+        nodes.push(pair.node)?;
         match link {
             Link::Recipient(recipient) => {
                 items.reverse();

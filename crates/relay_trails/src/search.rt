@@ -51,15 +51,12 @@ impl Search {
         // For what the call says alone: there are few nodes.
         let _ = graph.nodes();
         for (recipient, node) in graph.roots().iter().enumerate() {
-            let place = place_of(
-                pairs,
-                Reached {
-                    sender: 0,
-                    node: *node,
-                },
-                *node as usize,
-            );
-            self.take(place, Link::Recipient(recipient))?;
+            let pair = Reached {
+                sender: 0,
+                node: *node,
+            };
+            let place = place_of(pairs, pair, *node as usize);
+            self.take(place, pair, Link::Recipient(recipient))?;
         }
         Ok(())
     }
@@ -95,31 +92,31 @@ impl Search {
     {
         // For what the call says alone: there are few nodes.
         let _ = graph.nodes();
-        let at = self.steps[from].place;
-        let pair = pairs[at];
+        let Step {
+            place: at,
+            pair,
+            ..
+        } = self.steps[from];
         let sender = graph.sender_after(pair.sender, pair.node);
         for (item, node) in graph.children(pair.node).iter().enumerate() {
-            let place = place_of(
-                pairs,
-                Reached {
-                    sender,
-                    node: *node,
-                },
-                likely_place(at, pair.node, *node),
-            );
-            self.take(place, Link::Item(from, item))?;
+            let child = Reached {
+                sender,
+                node: *node,
+            };
+            let place = place_of(pairs, child, likely_place(at, pair.node, *node));
+            self.take(place, child, Link::Item(from, item))?;
         }
         Ok(())
     }
 
     // Comes to a pair, if it hasn't before.
-    fn take(&mut self, place: usize, link: Link) -> Result<(), AllocError>
+    fn take(&mut self, place: usize, pair: Reached, link: Link) -> Result<(), AllocError>
         requires { place < length self.old.marks.items }
-        ensures { OnOk result (IsMarked place link self.old.marks.items self.old.steps.items self.new.marks.items self.new.steps.items) }
+        ensures { OnOk result (IsMarked place pair link self.old.marks.items self.old.steps.items self.new.marks.items self.new.steps.items) }
     {
         if !self.marks[place] {
             self.marks[place] = true;
-            self.steps.push(Step { place, link })?;
+            self.steps.push(Step { place, pair, link })?;
         }
         Ok(())
     }

@@ -1,4 +1,5 @@
 //! One step of the search.
+use relay_pairs::Reached;
 
 // What a trail goes through last: a recipient, or after the trail of an earlier step one more item.
 #[derive(Clone, Copy)]
@@ -7,9 +8,11 @@ pub(crate) enum Link {
     Item(usize, usize),
 }
 
-// A pair by its place among those that are reached, and what its best trail goes through last.
+// A pair and its place among those that are reached, and what its best trail goes through last. The search reads the pair here, where it
+// has just been put, and waits for no read of its place.
 #[derive(Clone, Copy)]
 pub(crate) struct Step {
     pub(crate) place: usize,
+    pub(crate) pair: Reached,
     pub(crate) link: Link,
 }

@@ -32,7 +32,7 @@ loop-recipient-preserved c =
     let m = c.loop-recipient.invariant in
     let place = c.place_of-place.result in
     let inside = slice_get_within c.args.pairs.now place _ c.place_of-place.ensures in
-    let after = numbers_after c.args.graph.now c.args.pairs.now c.loop-recipient.self.marks.items steps (Recipient r) m place inside c.take.new.self.marks.items c.take.new.self.steps.items c.in_ok-take.ensures in
+    let after = numbers_after c.args.graph.now c.args.pairs.now c.loop-recipient.self.marks.items steps (Recipient r) m place (record { sender = 0; node = n }) inside c.take.new.self.marks.items c.take.new.self.steps.items c.in_ok-take.ensures in
     record {
       found = after.0;
       marked = after.1;
