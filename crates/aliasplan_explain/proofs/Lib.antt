@@ -3,6 +3,7 @@ pub mod TargetFacts
 pub mod RowFacts
 pub mod EndingFacts
 pub mod WalkFacts
+pub mod StepFacts
 pub mod AnswerFacts
 pub mod UnreachedFacts
 pub mod AskingFacts

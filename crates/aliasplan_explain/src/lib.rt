@@ -26,6 +26,7 @@ pub(crate) mod reading;
 mod rows;
 mod running;
 pub(crate) mod sought;
+mod step_line;
 pub(crate) mod stretch;
 mod targets;
 mod telling;

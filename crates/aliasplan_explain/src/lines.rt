@@ -1,6 +1,6 @@
 //! The lines of the steps of a trail.
 //!
-//! A step is made and told at once, so that steps take no room. Each worker tells a stretch of the trail.
+//! A step is told as soon as it is known, so that steps take no room. Each worker tells a stretch of the trail.
 use relay_explain::GivenBy;
 use relay_text::{Address, Text};
 
@@ -21,8 +21,9 @@ ghost use Rattle.aliasplan_explain.specs.Stretches.{AreLinesOf, IsFirstLine, IsT
 
 use crate::ahead::{BLOCK, places_ahead};
 use crate::grounds::Grounds;
+use crate::step_line::put_step;
 use crate::stretch::{Stretch, stretches_of};
-use crate::walking::{first_step, given_by, next_step, owner_along};
+use crate::walking::{first_step, given_by, owner_along};
 use aliasplan::{Crew, Gate};
 use relay_trails::Found;
 use std::alloc::{AllocError, Global};
@@ -42,7 +43,6 @@ fn stretch_text(
     ensures { IfOk result (IsTextOf grounds.now.job.now grounds.now.basis.now.graph found.now stretch.start stretch.end) }
 {
     let nodes = found.nodes.as_slice();
-    let items = found.items.as_slice();
     let mut out = Vec::new(alloc);
     let mut ahead = Vec::with_capacity(alloc, BLOCK)?;
     for place in stretch.start..stretch.end {
@@ -51,9 +51,7 @@ fn stretch_text(
             places_ahead(grounds, &nodes[place..], &mut ahead)?;
         }
         let likely = ahead.get(ahead_by).copied().unwrap_or(0);
-        let (from, item, to) = (nodes[place], items[place], nodes[place + 1]);
-        let step = next_step(alloc, grounds, from, item, to, likely)?;
-        step.put_line(&mut out)?;
+        put_step(alloc, grounds, found, place, likely, &mut out)?;
     }
     Ok(Text::of(out))
 }

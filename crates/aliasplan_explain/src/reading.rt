@@ -36,17 +36,26 @@ fn alias_lines_of(alloc: Global, job: &Job) -> Result<Vec<Line>, AllocError>
     Ok(lines.lines.into_vec())
 }
 
-// What is read, where a thread of its own cuts the lines.
-fn side_by_side<G: Gate, R: Threads + Sync>(
+// What a job's plan is made from, with the lines of what is at fault, and the lines of its alias file, which a thread of its own cuts where
+// they are many.
+fn read_and_cut<G: Gate, R: Threads + Sync>(
     crew: &Crew<G, R>,
     job: &Job,
-) -> Result<Reading, RunFault>
+) -> (
+    Result<(Basis, FindingLines), RunFault>,
+    Result<Vec<Line>, AllocError>,
+)
     requires { IsJobWithin crew.now.limits.bytes job.now }
-    ensures reading { IfOk result (IsReadingOf job.now) }
-    ensures within { OnOk result (IsWithin crew.now.limits job.now) }
-    ensures refused { IfErr result (IsRefused crew.now.limits job.now) }
+    ensures basis { IfOk result.0 (λ both. IsBasisOf job.now both.0) }
+    ensures faults { IfOk result.0 (λ both. (q : List ℕ) → has_text both.1 q ≡ has_fault_line job.now q) }
+    ensures within { OnOk result.0 (IsWithin crew.now.limits job.now) }
+    ensures refused { IfErr result.0 (IsRefused crew.now.limits job.now) }
+    ensures lines { IfOk result.1 (λ lines. lines.items ≡ (logical_lines_of job.now.aliases).lines) }
 {
     let alloc = crew.alloc;
+    if crew.options.workers == 1 || job.aliases.len() < FEWEST_BYTES {
+        return (Basis::read(crew, job), alias_lines_of(alloc, job));
+    }
     let cut = || -> Result<Vec<Line>, AllocError>
         ensures { IfOk result (λ lines. lines.items ≡ (logical_lines_of job.entry.now.aliases).lines) }
     { alias_lines_of(alloc, job) };
@@ -54,16 +63,8 @@ fn side_by_side<G: Gate, R: Threads + Sync>(
         requires { IsSync R.row × IsJobWithin crew.now.limits.bytes job.now }
         ensures { IfOk result (λ both. IsBasisOf job.entry.now both.0 × ((q : List ℕ) → has_text both.1 q ≡ has_fault_line job.entry.now q)) × OnOk result (IsWithin crew.entry.now.limits job.entry.now) × IfErr result (IsRefused crew.entry.now.limits job.entry.now) }
     { Basis::read(crew, job) };
-    let (there, here) = join(crew.rt, cut, read);
-    let (basis, faults) = here?;
-    let Ok(alias_lines) = there else {
-        return Err(RunFault::Memory);
-    };
-    Ok(Reading {
-        basis,
-        faults,
-        alias_lines,
-    })
+    let (lines, read) = join(crew.rt, cut, read);
+    (read, lines)
 }
 
 impl Reading {
@@ -77,11 +78,9 @@ impl Reading {
         ensures within { OnOk result (IsWithin crew.now.limits job.now) }
         ensures refused { IfErr result (IsRefused crew.now.limits job.now) }
     {
-        if crew.options.workers > 1 && job.aliases.len() >= FEWEST_BYTES {
-            return side_by_side(crew, job);
-        }
-        let (basis, faults) = Basis::read(crew, job)?;
-        let Ok(alias_lines) = alias_lines_of(crew.alloc, job) else {
+        let (read, lines) = read_and_cut(crew, job);
+        let (basis, faults) = read?;
+        let Ok(alias_lines) = lines else {
             return Err(RunFault::Memory);
         };
         Ok(Reading {

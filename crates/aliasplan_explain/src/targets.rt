@@ -1,7 +1,9 @@
 //! What nodes are to a reader of an explanation.
-ghost use Rattle.std.specs.Prelude.{◌≡◌, Some, IsSome, IfOk};
+ghost use Rattle.std.specs.Prelude.{◌≡◌, Some, IsSome, IfOk, IfSome};
 ghost use Rattle.relay_tables.specs.declared.node.Node as nodes;
 ghost use Rattle.relay_tables.specs.Directory.{Directory};
+ghost use Rattle.relay_explain.specs.declared.entry.Entry.TheVariants as entries;
+ghost use Rattle.relay_explain.specs.declared.target.Target.TheVariants as targets;
 ghost use Rattle.aliasplan_explain.specs.Targets.{entry_at, target_at};
 
 use relay_explain::{Entry, Target};
@@ -33,6 +35,19 @@ pub(crate) fn entry_of(
             None => Ok(None),
         },
         _ => Ok(None),
+    }
+}
+
+/// The name of the alias that a node is, in place; `None` where it is none.
+pub(crate) fn alias_name<'a>(tables: &'a Tables, node: &Node) -> Option<&'a [u8]>
+    ensures { IfSome result (λ name. (entry_at tables.now node.now ≡ Some (entries.Alias name.now)) × (target_at tables.now node.now ≡ Some (targets.Alias name.now))) }
+{
+    let Node::Alias(number) = node else {
+        return None;
+    };
+    match tables.aliases().get(*number as usize) {
+        Some(entry) => Some(entry.name.as_bytes()),
+        None => None,
     }
 }
 

@@ -66,6 +66,13 @@ is_text target = after_spaces (codes "is" ∷ target_words target)
 abbrev pub step_line : Step → List ℕ
 step_line s = codes "step" ++ mention_text s.mention ++ is_text s.target
 
+-- the step by an item of one alias to another
+abbrev pub alias_step : List ℕ → ℕ → ℕ → List ℕ → List ℕ → Step
+alias_step from line item text to = record {
+  mention = Item (record { entry = entries.Alias from; line = line; item = item; text = text });
+  target = targets.Alias to;
+}
+
 -- a sender, and where it comes from
 abbrev pub given_words : GivenBy → List (List ℕ)
 given_words given.Envelope = codes "envelope" ∷ []

@@ -28,7 +28,7 @@ pub use listed::Listed;
 pub use outcome::Outcome;
 pub use record::{Fate, Record};
 pub use rule::Rule;
-pub use step::{Mention, Step};
+pub use step::{Mention, Step, put_alias_step};
 pub use target::Target;
 pub use telling::{Telling, telling_text};
 pub use told::Told;
