@@ -1,11 +1,11 @@
 -- What a binary search finds among pairs.
-use Rattle.std.proofs.Common.{◌≡◌, ℕ, ◌+◌, ◌*◌, ◌^◌, ◌<◌, ◌≤◌, List, length, get_or, slice_get, map, All, Contains, Some, Ok, Err, sym, ap, ◌∙◌, subst, inl, inr, arith}
+use Rattle.std.proofs.Common.{◌≡◌, ℕ, zero, suc, ◌+◌, ◌-◌, ◌*◌, ◌^◌, ◌<◌, ◌≤◌, List, length, get_or, slice_get, map, All, Contains, Some, Ok, Err, sym, ap, ◌∙◌, subst, inl, inr, arith}
 use Rattle.std.specs.List.Sorted.{IsStrictlyIncreasing, IsSearchInRange, IsBinarySearchResult, IsNonDecreasingBy}
 use Rattle.std.specs.Ordering.{nat_cmp, ordering_index}
 use Rattle.std.proofs.lemmas.Bool.{cases_lt}
 use Rattle.std.proofs.lemmas.Bool.Decides.{nat_tests}
 use Rattle.std.proofs.lemmas.Cmp.{ranked}
-use Rattle.std.proofs.lemmas.List.{length-map, get_or-map}
+use Rattle.std.proofs.lemmas.List.{length-map, get_or-map, get_or_default}
 use Rattle.std.proofs.lemmas.List.Elements.{All-contains}
 use Rattle.std.proofs.lemmas.List.Kept.{AllPairs-from_increasing}
 use Rattle.std.proofs.lemmas.List.Sorted.{IsNonDecreasingBy-from_default}
@@ -69,3 +69,32 @@ module _ (pairs : List Reached) (ascending : IsStrictlyIncreasing (map key_of pa
         | inl less ↦ let h : key_of (get_or pairs k pair) < key_of pair = ranked (key_of (get_or pairs k pair)) (key_of pair) _ (sym (parts.0 k pair (omega arith) less)) in omega (arith, h, e)
         | inr no_less ↦ let h : key_of pair < key_of (get_or pairs k pair) = ranked (key_of (get_or pairs k pair)) (key_of pair) _ (sym (parts.1 k pair no_less short)) in omega (arith, h, e)
       ]
+
+  -- Where all pairs are of one sender, and as many as the nodes, each stands in the place of its node's number: keys rise, and none is left out.
+  key_high_enough : (k : ℕ) → k < length pairs → k ≤ key_of (get_or pairs k no_pair)
+  key_high_enough zero short = omega arith
+  key_high_enough (suc k) short =
+      let before = key_high_enough k (omega (arith, short)) in
+      let more = key_rises k (suc k) (omega arith) short in
+      omega (arith, before, more)
+
+  key_low_enough : (below : (k : ℕ) → k < length pairs → key_of (get_or pairs k no_pair) < length pairs) (more k : ℕ) → k + more + 1 ≡ length pairs → key_of (get_or pairs k no_pair) + more < length pairs
+  key_low_enough below zero k e = let last = below k (omega (arith, e)) in omega (arith, last)
+  key_low_enough below (suc more) k e =
+      let next = key_low_enough below more (k + 1) (omega (arith, e)) in
+      let rises = key_rises k (k + 1) (omega arith) (omega (arith, e)) in
+      omega (arith, next, rises)
+
+  pub at_its_node : (count : ℕ) → All (λ p. (p.sender < 1) × (p.node < count)) pairs → length pairs ≡ count → slice_get pairs pair.node ≡ Some pair
+  at_its_node count inside long =
+      let k : ℕ = listed.0 in
+      let short : k < length pairs = listed.1 in
+      let here : get_or pairs k no_pair ≡ pair = get_or_default pairs k no_pair pair short ∙ listed.2 in
+      let below : (j : ℕ) → j < length pairs → key_of (get_or pairs j no_pair) < length pairs =
+      λ j within. let one = inside j no_pair within in omega (arith, one.0, one.1, long) in
+      let high = key_high_enough k short in
+      let low = key_low_enough below (length pairs - (k + 1)) k (omega (arith, short)) in
+      let key : key_of pair ≡ k = ap key_of (sym here) ∙ omega (arith, high, low, short) in
+      let one = subst (λ (p : Reached). (p.sender < 1) × (p.node < count)) here (inside k no_pair short) in
+      let node : pair.node ≡ k = omega (arith, key, one.0) in
+      ap (slice_get pairs) node ∙ slice_get-get_or pairs k no_pair short ∙ ap Some here

@@ -55,7 +55,7 @@ impl Search {
                 sender: 0,
                 node: *node,
             };
-            let place = place_of(pairs, pair, *node as usize);
+            let place = place_of(graph, pairs, pair, *node as usize);
             self.take(place, pair, Link::Recipient(recipient))?;
         }
         Ok(())
@@ -103,7 +103,7 @@ impl Search {
                 sender,
                 node: *node,
             };
-            let place = place_of(pairs, child, likely_place(at, pair.node, *node));
+            let place = place_of(graph, pairs, child, likely_place(at, pair.node, *node));
             self.take(place, child, Link::Item(from, item))?;
         }
         Ok(())

@@ -1,19 +1,12 @@
-use Rattle.std.proofs.Common.{ℕ, Ok, Err, rules, subst}
-use Rattle.std.specs.List.Sorted.{IsBinarySearchResult}
-use Rattle.std.specs.Ordering.{nat_cmp}
-use Rattle.std.proofs.lemmas.List.Sorted.{answers_always}
-use Rattle.relay_pairs.specs.Pairs.{key_of}
-use Rattle.relay_trails.proofs.Placing.{found_at, not_missing}
+use Rattle.std.proofs.Common.{◌<◌, ℕ, All, length, subst}
+use Rattle.relay_pairs.specs.declared.reached.Reached.{Reached}
+use Rattle.relay_trails.proofs.Placing.{at_its_node}
 use Rattle.relay_trails.proofs.places.place_of.Goals as goal
 
-pub unreachable-requires : goal.unreachable-requires
-unreachable-requires c =
-    let by_key = c.in-Err.ensures.position key_of (answers_always _ _ _ (λ f a r g called. search rules)) in
-    not_missing c.args.pairs.now c.requires.ascending c.requires.nodes c.args.pair c.requires.listed c.in-Err.field-0
-    (subst (λ (k : ℕ). IsBinarySearchResult (λ p. nat_cmp (key_of p) k) c.args.pairs.now (Err c.in-Err.field-0)) c.key.ensures by_key)
-
-pub returns-2 : goal.returns-2
-returns-2 c =
-    let by_key = c.in-Ok.ensures.position key_of (answers_always _ _ _ (λ f a r g called. search rules)) in
-    found_at c.args.pairs.now c.requires.ascending c.requires.nodes c.args.pair c.requires.listed c.in-Ok.place c.in-Ok.ensures.bound
-    (subst (λ (k : ℕ). IsBinarySearchResult (λ p. nat_cmp (key_of p) k) c.args.pairs.now (Ok c.in-Ok.place)) c.key.ensures by_key)
+pub returns-then-are_all_there : goal.returns-then-are_all_there
+returns-then-are_all_there c =
+    let pairs = c.args.pairs.now in
+    let nodes : ℕ = length c.args.graph.now.nodes in
+    let all = c.are_all_there.ensures c.if-are_all_there.true in
+    at_its_node pairs c.requires.ascending c.requires.nodes c.args.pair c.requires.listed nodes
+    (subst (λ (n : ℕ). All (λ (p : Reached). (p.sender < n) × (p.node < nodes)) pairs) all.0 c.requires.in_graph) all.1
