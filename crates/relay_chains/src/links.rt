@@ -53,6 +53,19 @@ impl Links {
         })
     }
 
+    /// These hashes, each under the number of its place. All of them at once take less time than one after another: a bucket's head lies
+    /// anywhere in memory, and where nothing else is done between two of them, they are waited for together.
+    pub fn of(alloc: Global, hashes: &[u32]) -> Result<Links, AllocError>
+        requires { length hashes.now < 2 ^ 32 - 2 }
+        ensures { IfOk result (λ links. links ≡ hashes.now) }
+    {
+        let count = (2 * hashes.len() + 1).min(MOST_HEADS);
+        let mut heads = vec![in alloc; 0; count]?;
+        let mut nodes = unlinked(alloc, hashes)?;
+        relink(&mut heads, &mut nodes);
+        Ok(Links { heads, nodes })
+    }
+
     /// The hash of the next number. `Err` where memory runs out: nothing is changed, and the hash may be tried again.
     pub fn push(&mut self, hash: u32) -> Result<(), AllocError>
         requires { length self.old < 2 ^ 32 - 2 }
@@ -191,6 +204,20 @@ fn walk(heads: &[u32], nodes: &[LinkNode], start: u32, hash: u32) -> u32
         word = node.link;
     }
     word
+}
+
+// Nodes of these hashes, which no head or link names yet.
+fn unlinked(alloc: Global, hashes: &[u32]) -> Result<Vec<LinkNode>, AllocError>
+    ensures { IfOk result (λ nodes. hashes_of nodes.items ≡ hashes.now) }
+{
+    let mut nodes = Vec::with_capacity(alloc, hashes.len())?;
+    for hash in hashes {
+        nodes.push_reserved(LinkNode {
+            hash: *hash,
+            link: 0,
+        });
+    }
+    Ok(nodes)
 }
 
 // Links all nodes anew under heads that name none.
