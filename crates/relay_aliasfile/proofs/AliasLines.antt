@@ -1,5 +1,5 @@
 -- What the logical lines of an alias file make together.
-use Rattle.std.proofs.Common.{◌≡◌, ℕ, Bool, true, false, List, [], ◌∷◌, ◌++◌, drop, map, refl, sym, ap, ◌∙◌, Some, None, Option}
+use Rattle.std.proofs.Common.{◌≡◌, ℕ, ◌+◌, Bool, true, false, List, [], ◌∷◌, ◌++◌, drop, map, refl, sym, ap, ◌∙◌, Some, None, Option, arith}
 use Rattle.std.specs.Prelude.{filter_map, option_map}
 use Rattle.std.specs.List.{cons_option, list_any}
 use Rattle.std.proofs.lemmas.Bool.{true≢false}
@@ -10,9 +10,10 @@ use Rattle.relay_text.specs.Bytes.{each_after}
 use Rattle.relay_text.specs.Lines.{logical_lines_of}
 use Rattle.relay_text.specs.declared.lines.Line.{Line}
 use Rattle.relay_aliasfile.specs.AliasFiles.{Heading, heading_of, heading_name, name_in, has_entry, entry_in, entry_of, faults_in, faults_of, alias_file_of}
-use Rattle.relay_aliasfile.specs.AliasTables.{new_entries, new_faults, next_repeat, repeats_behind, added_by, file_by}
+use Rattle.relay_aliasfile.specs.AliasTables.{new_entries, new_faults, next_repeat, repeats_behind, added_by, file_in, file_behind}
 use Rattle.relay_aliasfile.specs.Repeats.{entry_name, is_among, repeats_in}
 use Rattle.relay_aliasfile.specs.declared.aliases.AliasFile.{AliasFile}
+use Rattle.relay_aliasfile.proofs.HalvedLines.{moved_nowhere}
 
 abbrev names_of : List Line → List (List ℕ)
 names_of lines = filter_map name_in lines
@@ -41,6 +42,10 @@ module _ {Y : Type 0} (new : Bool → ℕ → Option Heading → List Y) (made :
     at (Some h) names more =
         ap (λ ys. ys ++ later (names_of earlier ++ h.name ∷ [])) (some earlier l h)
         ∙ ap (λ ys. made earlier l (Some h) ++ ys) (ap later (sym names) ∙ more)
+
+-- the file of a text that no line stands before
+abbrev file_by : List Bool → List ℕ → AliasFile
+file_by repeats text = file_in repeats (logical_lines_of text)
 
 file_by_repeats : (text : List ℕ) → file_by (repeats_in (names_of (logical_lines_of text).lines)) text ≡ alias_file_of text
 unfolding alias_file_of
@@ -81,13 +86,24 @@ same_without {Y} new (l ∷ ls) repeats e = at (heading_of l.text) (same_without
   at None same behind = ap (λ b. new b l.number None ++ added_by new [] ls) (sym (none_next repeats e)) ∙ ap (λ ys. new (next_repeat repeats) l.number None ++ ys) same
   at (Some h) same behind = ap (λ b. new b l.number (Some h) ++ added_by new [] ls) (sym (none_next repeats e)) ∙ ap (λ ys. new (next_repeat repeats) l.number (Some h) ++ ys) behind
 
--- ---- the file that is read as if no name came again, and the repeats among its entries
-module _ (text : List ℕ) (file : AliasFile) (repeats : List Bool) (first : file ≡ file_by [] text) (found : repeats ≡ repeats_in (map entry_name file.entries)) where
-  these : repeats ≡ repeats_in (names_of (logical_lines_of text).lines)
-  these = found ∙ ap repeats_in (ap (λ (f : AliasFile). map entry_name f.entries) first ∙ names_without (logical_lines_of text).lines)
+-- ---- where no line stands before the text
+numbers_at_start : (numbers : List ℕ) → map (λ n. 0 + n) numbers ≡ numbers
+numbers_at_start [] = refl
+numbers_at_start (n ∷ ns) = let same : 0 + n ≡ n = omega arith in rw (same, numbers_at_start ns) refl
 
-  pub read_again : file_by repeats text ≡ alias_file_of text
-  read_again = ap (λ bs. file_by bs text) these ∙ file_by_repeats text
+pub at_start : (repeats : List Bool) (text : List ℕ) → file_behind 0 repeats text ≡ file_by repeats text
+at_start repeats text =
+    let cut = logical_lines_of text in
+    ap (λ (lines : List Line). file_in repeats (record { lines = lines; orphans = map (λ n. 0 + n) cut.orphans })) (moved_nowhere cut.lines)
+    ∙ ap (λ (numbers : List ℕ). file_in repeats (record { lines = cut.lines; orphans = numbers })) (numbers_at_start cut.orphans)
+
+-- ---- the file that is read as if no name came again, and the repeats among its entries
+module _ (text : List ℕ) (file : AliasFile) (repeats : List Bool) (first : file ≡ file_behind 0 [] text) (found : repeats ≡ repeats_in (map entry_name file.entries)) where
+  these : repeats ≡ repeats_in (names_of (logical_lines_of text).lines)
+  these = found ∙ ap repeats_in (ap (λ (f : AliasFile). map entry_name f.entries) (first ∙ at_start [] text) ∙ names_without (logical_lines_of text).lines)
+
+  pub read_again : file_behind 0 repeats text ≡ alias_file_of text
+  read_again = at_start repeats text ∙ ap (λ bs. file_by bs text) these ∙ file_by_repeats text
 
   pub read_once : has_repeat repeats ≡ false → file ≡ alias_file_of text
   read_once none =
@@ -95,4 +111,4 @@ module _ (text : List ℕ) (file : AliasFile) (repeats : List Bool) (first : fil
       let e : added_by new_entries [] lines ≡ added_by new_entries repeats lines = same_without new_entries lines repeats none in
       let f : added_by new_faults [] lines ≡ added_by new_faults repeats lines = same_without new_faults lines repeats none in
       let same : file_by [] text ≡ file_by repeats text = cc in
-      first ∙ same ∙ read_again
+      first ∙ at_start [] text ∙ same ∙ sym (at_start repeats text) ∙ read_again

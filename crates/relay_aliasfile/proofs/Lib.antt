@@ -1,4 +1,5 @@
 pub mod FirstTexts
+pub mod HalvedLines
 pub mod MailboxNames
 pub mod Rows
 pub mod Outside
@@ -7,6 +8,9 @@ pub mod ItemForms
 pub mod OpenTexts
 pub mod ItemLists
 pub mod NameRepeats
+pub mod TwinFacts
+pub mod FirstByTwins
+pub mod HalvedEntries
 pub mod AliasLines
 pub mod IncludePaths
 pub mod FileSizes

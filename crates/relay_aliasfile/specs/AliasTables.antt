@@ -1,7 +1,8 @@
 -- What logical lines add to the entries and the faults that were gathered, where it's known which of their names are repeats.
 use Rattle.std.specs.Prelude.{ℕ, Bool, false, List, [], ◌∷◌, ◌++◌, map, drop, Option, Some, None, if◌then◌else◌, slice_index_or}
-use Rattle.relay_text.specs.Lines.{logical_lines_of}
 use Rattle.relay_text.specs.declared.lines.Line.{Line}
+use Rattle.relay_text.specs.declared.lines.Lines.{Lines}
+use Rattle.relay_aliasfile.specs.Halves.{lines_behind}
 use Rattle.relay_aliasfile.specs.AliasFiles.{Heading, heading_of, list_faults, orphan_fault}
 use Rattle.relay_aliasfile.specs.Items.{good_items}
 use Rattle.relay_aliasfile.specs.MailboxFiles.{fault}
@@ -34,7 +35,10 @@ abbrev pub added_by : {Y : Type 0} → (Bool → ℕ → Option Heading → List
 added_by new repeats [] = []
 added_by new repeats (l ∷ ls) = new (next_repeat repeats) l.number (heading_of l.text) ++ added_by new (repeats_behind (heading_of l.text) repeats) ls
 
--- an alias file of which these names are repeats
-abbrev pub file_by : List Bool → List ℕ → AliasFile
-file_by repeats text = let cut = logical_lines_of text in
-    record { entries = added_by new_entries repeats cut.lines; faults = map orphan_fault cut.orphans ++ added_by new_faults repeats cut.lines }
+-- an alias file of these logical lines, of which these names are repeats
+abbrev pub file_in : List Bool → Lines → AliasFile
+file_in repeats cut = record { entries = added_by new_entries repeats cut.lines; faults = map orphan_fault cut.orphans ++ added_by new_faults repeats cut.lines }
+
+-- the same of a text that so many lines of the file stand before
+abbrev pub file_behind : ℕ → List Bool → List ℕ → AliasFile
+file_behind passed repeats text = file_in repeats (lines_behind passed text)

@@ -13,3 +13,6 @@ pub mod Headings
 pub mod AliasTables
 pub mod Repeats
 pub mod ItemPlaces
+pub mod Twins
+pub mod Halves
+pub mod MailboxLines

@@ -1,5 +1,5 @@
 //! The entries of an alias file while they are gathered.
-ghost use Rattle.std.specs.Prelude.{◌≡◌, ◌++◌, ◌∷◌, [], drop, map, option_map, OnOk};
+ghost use Rattle.std.specs.Prelude.{◌≡◌, ◌<◌, ◌+◌, ◌^◌, ◌++◌, ◌∷◌, [], All, drop, map, option_map, OnOk};
 ghost use Rattle.relay_aliasfile.specs.AliasFiles.{list_faults, orphan_fault};
 ghost use Rattle.relay_aliasfile.specs.AliasTables.{new_entry, new_entries, new_faults, next_repeat, repeats_behind};
 ghost use Rattle.relay_aliasfile.specs.Headings.{heading_value};
@@ -37,14 +37,15 @@ impl<'a> AliasTable<'a> {
         }
     }
 
-    /// Adds the lines that continue no logical line.
-    pub(crate) fn add_orphans(&mut self, numbers: &[usize]) -> Result<(), AllocError>
+    /// Adds the lines that continue no logical line, where so many lines of the file stand before their text.
+    pub(crate) fn add_orphans(&mut self, passed: usize, numbers: &[usize]) -> Result<(), AllocError>
+        requires { All (λ n. passed + n < 2 ^ 64) numbers.now }
         ensures entries { OnOk result (self.new.entries ≡ self.old.entries) }
         ensures repeats { OnOk result (self.new.repeats ≡ self.old.repeats) }
-        ensures faults { OnOk result (self.new.faults.items ≡ self.old.faults.items ++ map orphan_fault numbers.now) }
+        ensures faults { OnOk result (self.new.faults.items ≡ self.old.faults.items ++ map orphan_fault (map (λ n. passed + n) numbers.now)) }
     {
         for number in numbers {
-            self.add_fault(*number, FaultKind::BadLine)?;
+            self.add_fault(passed + *number, FaultKind::BadLine)?;
         }
         Ok(())
     }

@@ -4,20 +4,25 @@
 //! the names sought that do. Where there are some, the file is read once more, and their lines are duplicates. So beside the entries
 //! there stand, while they are made, only the faults and the parts of one joined line: all lines with their headings and the places of
 //! their names would take some 140 bytes a line. An administrator's file seldom repeats a name, so it's mostly read once.
-ghost use Rattle.std.specs.Prelude.{◌≡◌, IfOk};
+//!
+//! Several threads each read a part of a long file, from one logical line to another. The second reading is one thread's.
+ghost use Rattle.std.specs.Prelude.{◌≡◌, ◌<◌, ◌+◌, ◌^◌, ◌++◌, [], length, IfOk};
+ghost use Rattle.std.specs.Thread.{IsSync};
 ghost use Rattle.relay_aliasfile.specs.AliasFiles.{alias_file_of, entry_items};
-ghost use Rattle.relay_aliasfile.specs.AliasTables.{file_by};
+ghost use Rattle.relay_aliasfile.specs.AliasTables.{file_behind};
 ghost use Rattle.relay_aliasfile.specs.IncludeNames.{include_names_in};
 
 use crate::alias_table::AliasTable;
 use crate::distinct::distinct_texts;
 use crate::entry::Entry;
 use crate::fault::LineFault;
+use crate::halves::{halves, line_count};
 use crate::heading::heading_in;
 use crate::paths::add_paths;
 use crate::repeats::repeats_of;
 use relay_text::{LogicalLines, Seq, Text};
 use std::alloc::{AllocError, Global};
+use std::thread::{Threads, join};
 
 /// The entries of an alias file, and the lines at fault.
 #[derive(Drop)]
@@ -35,32 +40,107 @@ pub struct AliasFile {
 /// for an entry whose name was there before, which is dropped with its list unread; `Empty` for an entry whose list has no item, good or
 /// bad, and which stays; `BadItem` for each item that is none of `Item`'s kinds, has a byte other than tab and 32 to 126, or leaves a
 /// quote open. `Err` where memory runs out.
-#[tactic(auto, using(crate::proofs::AliasLines::read_again))]
 pub fn parse_aliases(alloc: Global, bytes: &[u8]) -> Result<AliasFile, AllocError>
     ensures { IfOk result (λ file. file ≡ alias_file_of bytes.now) }
 {
-    let file = read_file(alloc, bytes, &[])?;
+    let file = read_file(alloc, 0, bytes, &[])?;
+    with_duplicates(alloc, bytes, file)
+}
+
+/// The same by so many threads, where the text is long. `Err` where memory runs out.
+pub fn parse_aliases_by<R: Threads + Sync>(
+    rt: &R,
+    alloc: Global,
+    workers: usize,
+    bytes: &[u8],
+) -> Result<AliasFile, AllocError>
+    ensures { IfOk result (λ file. file ≡ alias_file_of bytes.now) }
+{
+    let file = read_file_by(rt, alloc, workers, 0, bytes)?;
+    with_duplicates(alloc, bytes, file)
+}
+
+/// The file of a text that was read as if no name came again: this one, where none does.
+#[tactic(auto, using(crate::proofs::AliasLines::read_again))]
+fn with_duplicates(alloc: Global, bytes: &[u8], file: AliasFile) -> Result<AliasFile, AllocError>
+    requires { file ≡ file_behind 0 [] bytes.now }
+    ensures { IfOk result (λ file. file ≡ alias_file_of bytes.now) }
+{
     let repeats = repeats_of(alloc, file.entries.as_slice())?;
     if !repeats.contains(&true) {
         return Ok(file);
     }
     drop(file);
-    read_file(alloc, bytes, &repeats)
+    read_file(alloc, 0, bytes, &repeats)
 }
 
-/// The alias file of which the names are repeats that the list says are, one after another; a name past its end is none.
-fn read_file(alloc: Global, bytes: &[u8], repeats: &[bool]) -> Result<AliasFile, AllocError>
-    ensures { IfOk result (λ file. file ≡ file_by repeats.now bytes.now) }
+/// The alias file of which the names are repeats that the list says are, one after another; a name past its end is none. So many lines
+/// of the file stand before the text.
+fn read_file(
+    alloc: Global,
+    passed: usize,
+    bytes: &[u8],
+    repeats: &[bool],
+) -> Result<AliasFile, AllocError>
+    requires { passed + length bytes.now < 2 ^ 64 }
+    ensures { IfOk result (λ file. file ≡ file_behind passed repeats.now bytes.now) }
 {
     let mut lines = LogicalLines::new(alloc, bytes)?;
     let mut table = AliasTable::new(alloc, repeats);
-    table.add_orphans(lines.orphans())?;
+    table.add_orphans(passed, lines.orphans())?;
     let mut joined = Vec::new(alloc);
     while let Some(line) = lines.next_line(&mut joined)? {
         let heading = heading_in(alloc, line.text)?;
-        table.add_line(alloc, line.number, heading)?;
+        table.add_line(alloc, passed + line.number, heading)?;
     }
     Ok(table.into_file())
+}
+
+/// The same with no repeats by so many threads, this one among them, where the text is long enough for two.
+fn read_file_by<R: Threads + Sync>(
+    rt: &R,
+    alloc: Global,
+    workers: usize,
+    passed: usize,
+    bytes: &[u8],
+) -> Result<AliasFile, AllocError>
+    requires { passed + length bytes.now < 2 ^ 64 }
+    ensures { IfOk result (λ file. file ≡ file_behind passed [] bytes.now) }
+{
+    let Some((front, back)) = halves(workers, bytes) else {
+        return read_file(alloc, passed, bytes, &[]);
+    };
+    let behind = passed + line_count(front);
+    let share = workers / 2;
+    let rest = workers - share;
+    let (here, there) = join(
+        rt,
+        || -> Result<AliasFile, AllocError>
+            requires { IsSync R.row × (passed + length front.now < 2 ^ 64) }
+            ensures { IfOk result (λ file. file ≡ file_behind passed [] front.entry.now) }
+        { read_file_by(rt, alloc, share, passed, front) },
+        || -> Result<AliasFile, AllocError>
+            requires { IsSync R.row × (behind + length back.now < 2 ^ 64) }
+            ensures { IfOk result (λ file. file ≡ file_behind behind [] back.entry.now) }
+        { read_file_by(rt, alloc, rest, behind, back) },
+    );
+    let first = here?;
+    let second = there?;
+    both_files(first, second)
+}
+
+/// The files of two parts of a text as one.
+fn both_files(first: AliasFile, second: AliasFile) -> Result<AliasFile, AllocError>
+    ensures { IfOk result (λ file. file ≡ record { entries = first.entries ++ second.entries; faults = first.faults ++ second.faults }) }
+{
+    let mut entries = first.entries.into_vec();
+    entries.append(&mut second.entries.into_vec())?;
+    let mut faults = first.faults.into_vec();
+    faults.append(&mut second.faults.into_vec())?;
+    Ok(AliasFile {
+        entries: Seq::of(entries),
+        faults: Seq::of(faults),
+    })
 }
 
 /// The distinct paths of an alias file's include items, each by its first place, byte by byte: case counts. `Err` where memory runs

@@ -3,19 +3,29 @@ ghost use Rattle.std.specs.Prelude.{◌≡◌, ◌==◌, ◌++◌, ◌∷◌, []
 ghost use Rattle.std.specs.Str.{bytes_eq};
 ghost use Rattle.relay_text.specs.Bytes.{firsts};
 ghost use Rattle.relay_text.specs.FirstPlaces.{first_place};
+ghost use Rattle.relay_aliasfile.specs.Twins.{texts_of};
 
-use relay_text::{FirstPlaces, Seq, Text};
+use crate::first_places::first_places;
+use relay_text::{Seq, Text};
 use std::alloc::{AllocError, Global};
 
+/// References to the bytes of texts.
+fn bytes_of(alloc: Global, texts: &[Text]) -> Result<Vec<&[u8]>, AllocError>
+    ensures { IfOk result (λ bytes. texts_of bytes.items ≡ texts.now) }
+{
+    let mut bytes = Vec::with_capacity(alloc, texts.len())?;
+    for text in texts {
+        bytes.push_reserved(text.as_bytes());
+    }
+    Ok(bytes)
+}
+
 /// For each text the place where it stands first.
-fn first_places(alloc: Global, texts: &[Text]) -> Result<Vec<usize>, AllocError>
+fn places_of(alloc: Global, texts: &[Text]) -> Result<Vec<usize>, AllocError>
     ensures { IfOk result (λ places. places.items ≡ map (first_place texts.now) texts.now) }
 {
-    let mut places = FirstPlaces::new(alloc);
-    for text in texts {
-        places.push(text.as_bytes())?;
-    }
-    places.find(alloc)
+    let bytes = bytes_of(alloc, texts)?;
+    first_places(alloc, &bytes)
 }
 
 /// Puts a text at the end where its place is the first at which it stands.
@@ -37,7 +47,7 @@ fn put_first(
 pub fn distinct_texts(alloc: Global, texts: Vec<Text>) -> Result<Seq<Text>, AllocError>
     ensures { IfOk result (λ distinct. distinct ≡ firsts bytes_eq texts.items) }
 {
-    let places = first_places(alloc, texts.as_slice())?;
+    let places = places_of(alloc, texts.as_slice())?;
     let mut distinct = Vec::with_capacity(alloc, texts.len())?;
     let mut place = 0;
     for text in texts {

@@ -7,6 +7,8 @@ pub mod counts;
 mod distinct;
 pub mod entry;
 pub mod fault;
+mod first_places;
+mod halves;
 mod heading;
 pub mod includes;
 pub mod item;
@@ -14,6 +16,7 @@ mod item_text;
 mod item_texts;
 pub mod items;
 mod lists;
+mod mailbox_lines;
 pub mod mailboxes;
 mod names;
 mod paths;
@@ -24,9 +27,10 @@ pub mod reason;
 pub mod reasons;
 mod repeats;
 mod special;
+mod twins;
 mod unquoted;
 
-pub use aliases::{AliasFile, include_names, parse_aliases};
+pub use aliases::{AliasFile, include_names, parse_aliases, parse_aliases_by};
 pub use counts::file_counts;
 pub use entry::Entry;
 pub use fault::{FaultKind, LineFault};
@@ -35,7 +39,7 @@ pub use includes::{IncludeFile, include_names_of, parse_include};
 pub use item::Item;
 pub use items::Items;
 pub use lists::bad_items;
-pub use mailboxes::{MailboxFile, parse_mailboxes};
+pub use mailboxes::{MailboxFile, parse_mailboxes, parse_mailboxes_by};
 pub use places::{
     ItemPlace, entries_on_lines, entry_places, include_places, list_places, places_of_items,
 };

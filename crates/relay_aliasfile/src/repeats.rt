@@ -1,28 +1,29 @@
 //! Names that come again.
 ghost use Rattle.std.specs.Prelude.{◌≡◌, map, IfOk};
-ghost use Rattle.relay_text.specs.FirstPlaces.{first_place};
 ghost use Rattle.relay_aliasfile.specs.Repeats.{entry_name, repeats_in};
+ghost use Rattle.relay_aliasfile.specs.Twins.{texts_of};
 
 use crate::entry::Entry;
-use relay_text::FirstPlaces;
+use crate::first_places::first_places;
 use std::alloc::{AllocError, Global};
 
-/// For each entry the place of the first that has its name.
-fn name_places(alloc: Global, entries: &[Entry]) -> Result<Vec<usize>, AllocError>
-    ensures { IfOk result (λ places. let names = map entry_name entries.now in places.items ≡ map (first_place names) names) }
+/// The names of entries.
+fn names_of<'e>(alloc: Global, entries: &'e [Entry]) -> Result<Vec<&'e [u8]>, AllocError>
+    ensures { IfOk result (λ names. texts_of names.items ≡ map entry_name entries.now) }
 {
-    let mut places = FirstPlaces::new(alloc);
+    let mut names = Vec::with_capacity(alloc, entries.len())?;
     for entry in entries {
-        places.push(entry.name.as_bytes())?;
+        names.push_reserved(entry.name.as_bytes());
     }
-    places.find(alloc)
+    Ok(names)
 }
 
 /// For each entry whether one before it has its name.
 pub(crate) fn repeats_of(alloc: Global, entries: &[Entry]) -> Result<Vec<bool>, AllocError>
     ensures { IfOk result (λ repeats. repeats.items ≡ repeats_in (map entry_name entries.now)) }
 {
-    let places = name_places(alloc, entries)?;
+    let names = names_of(alloc, entries)?;
+    let places = first_places(alloc, &names)?;
     let mut repeats = Vec::with_capacity(alloc, places.len())?;
     for (place, first) in places.iter().enumerate() {
         repeats.push(*first != place)?;

@@ -1,8 +1,6 @@
-use Rattle.relay_text.specs.KeptLines.{kept_rest}
-use Rattle.relay_aliasfile.proofs.MailboxNames.{mailbox_file-made}
+use Rattle.std.proofs.Common.{◌≡◌, IfOk, subst}
+use Rattle.relay_aliasfile.proofs.MailboxNames.{mailbox_file_read}
 use Rattle.relay_aliasfile.proofs.mailboxes.parse_mailboxes.Goals as goal
 
 pub returns : goal.returns
-returns c =
-    rw (c.in_ok-distinct_texts.ensures, c.of.ensures)
-    (mailbox_file-made c.args.bytes.now c.loop-line.names.items c.loop-line.faults.items (kept_rest c.loop-line.lines) c.in_default.ensures.none c.loop-line.invariant.names c.loop-line.invariant.faults)
+returns c = subst (λ made. IfOk c.distinct_names.result (λ file. file ≡ made)) (mailbox_file_read c.args.bytes.now c.in_ok-lines.lines c.in_ok-lines.ensures) c.distinct_names.ensures

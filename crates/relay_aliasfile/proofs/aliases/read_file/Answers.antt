@@ -1,0 +1,20 @@
+use Rattle.std.proofs.Common.{rules, arith, ◌≡◌, ◌≤◌, ℕ, List, All, length, sym, ap, ◌∙◌, subst}
+use Rattle.relay_text.specs.Lines.{logical_lines_of}
+use Rattle.relay_text.specs.declared.lines.Lines.{Lines}
+use Rattle.relay_aliasfile.proofs.HalvedLines.{AreUpTo}
+use Rattle.relay_aliasfile.proofs.HalvedEntries.{up_to-orphans, up_to-logical_lines}
+use Rattle.relay_aliasfile.proofs.aliases.read_file.Goals as goal
+
+pub add_orphans-requires : goal.add_orphans-requires
+add_orphans-requires c =
+    let most = length c.args.bytes.now in
+    let these : c.orphans.result.now ≡ (logical_lines_of c.args.bytes.now).orphans = c.orphans.ensures ∙ ap (λ (lines : Lines). lines.orphans) c.in_ok-lines.ensures in
+    let low = subst (λ (numbers : List ℕ). All (λ n. n ≤ most) numbers) (sym these) (up_to-orphans c.args.bytes.now) in
+    λ k d within. omega (arith, low k d within, c.requires)
+
+pub loop-joined-init : goal.loop-joined-init
+loop-joined-init c = record {
+  entries = search rules;
+  faults = search rules;
+  numbers = subst (λ (lines : Lines). AreUpTo (length c.args.bytes.now) lines.lines) (sym c.in_ok-lines.ensures) (up_to-logical_lines c.args.bytes.now);
+}

@@ -1,0 +1,87 @@
+//! What the lines of a mailbox file say, before repeats are dropped.
+use crate::fault::{FaultKind, LineFault};
+use crate::halves::{halves, line_count};
+use crate::names::folded_name;
+use relay_text::{KeptLines, Text, trimmed};
+use std::alloc::{AllocError, Global};
+use std::thread::{Threads, join};
+
+/// The names on the lines of a text, repeats too, and its lines at fault.
+#[derive(Drop)]
+pub(crate) struct MailboxLines {
+    pub(crate) names: Vec<Text>,
+    pub(crate) faults: Vec<LineFault>,
+}
+
+ghost use Rattle.std.specs.Prelude.{◌≡◌, ◌+◌, ◌^◌, ◌<◌, ◌++◌, length, IfOk, OnOk};
+ghost use Rattle.std.specs.Thread.{IsSync};
+ghost use Rattle.relay_aliasfile.specs.MailboxLines.{AreRead};
+
+impl MailboxLines {
+    /// Reads one line after another. So many lines of the file stand before the text.
+    pub(crate) fn read(
+        alloc: Global,
+        passed: usize,
+        bytes: &[u8],
+    ) -> Result<MailboxLines, AllocError>
+        requires { passed + length bytes.now < 2 ^ 64 }
+        ensures { IfOk result (AreRead passed bytes.now) }
+    {
+        let mut names: Vec<Text> = Vec::new(alloc);
+        let mut faults: Vec<LineFault> = Vec::new(alloc);
+        let mut lines = KeptLines::new(bytes);
+        while let Some(line) = lines.next_line() {
+            match folded_name(alloc, trimmed(line.text))? {
+                Some(name) => names.push(name)?,
+                None => faults.push(LineFault {
+                    line: passed + line.number,
+                    kind: FaultKind::BadLine,
+                })?,
+            }
+        }
+        Ok(MailboxLines { names, faults })
+    }
+
+    /// The same by so many threads, this one among them, where the text is long enough for two.
+    pub(crate) fn read_by<R: Threads + Sync>(
+        rt: &R,
+        alloc: Global,
+        workers: usize,
+        passed: usize,
+        bytes: &[u8],
+    ) -> Result<MailboxLines, AllocError>
+        requires { passed + length bytes.now < 2 ^ 64 }
+        ensures { IfOk result (AreRead passed bytes.now) }
+    {
+        let Some((front, back)) = halves(workers, bytes) else {
+            return MailboxLines::read(alloc, passed, bytes);
+        };
+        let behind = passed + line_count(front);
+        let share = workers / 2;
+        let rest = workers - share;
+        let (here, there) = join(
+            rt,
+            || -> Result<MailboxLines, AllocError>
+                requires { IsSync R.row × (passed + length front.now < 2 ^ 64) }
+                ensures { IfOk result (AreRead passed front.entry.now) }
+            { MailboxLines::read_by(rt, alloc, share, passed, front) },
+            || -> Result<MailboxLines, AllocError>
+                requires { IsSync R.row × (behind + length back.now < 2 ^ 64) }
+                ensures { IfOk result (AreRead behind back.entry.now) }
+            { MailboxLines::read_by(rt, alloc, rest, behind, back) },
+        );
+        let mut lines = here?;
+        lines.append(there?)?;
+        Ok(lines)
+    }
+
+    /// Adds what the lines behind these say.
+    fn append(&mut self, mut more: MailboxLines) -> Result<(), AllocError>
+        ensures names { OnOk result (self.new.names.items ≡ self.old.names.items ++ more.names.items) }
+        ensures faults { OnOk result (self.new.faults.items ≡ self.old.faults.items ++ more.faults.items) }
+    {
+        self.names.append(&mut more.names)?;
+        self.faults.append(&mut more.faults)?;
+        Ok(())
+    }
+}
