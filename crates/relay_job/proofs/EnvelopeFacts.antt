@@ -1,20 +1,24 @@
 -- How the envelope follows from a pass over its commands.
 use Rattle.std.proofs.Common.{◌≡◌, ℕ, ◌+◌, ◌<◌, ◌≤◌, true, false, cond, ltb, List, [], ◌∷◌, ◌++◌, length, take, drop, Option, Some, None, Result, Ok, Err, refl, sym, ap, ◌∙◌, arith}
+use Rattle.std.specs.Prelude.{IfOk, IfErr}
 use Rattle.std.specs.List.{list_all, slice_get}
 use Rattle.std.specs.Option.{option_map, is_none}
 use Rattle.std.proofs.lemmas.List.{length-append, length-take, length-map, append_assoc, append-nil, nil_from_length}
 use Rattle.std.proofs.lemmas.Slice.Eq.{bytes_eq-Decides}
 use Rattle.std.proofs.lemmas.Bool.{le-ltb}
+use Rattle.std.proofs.lemmas.Result.{IfOk-weaker, IfErr-weaker}
 use Rattle.relay_text.specs.Bytes.{is_white, folded, trimmed_end, begins_with_word, each_after, first_of}
 use Rattle.relay_text.specs.AddressParts.{AddressParts}
 use Rattle.relay_text.specs.Addresses.{path_of, Fails}
 use Rattle.relay_text.specs.declared.fault.TextFault.{TextFault}
 use Rattle.relay_text.specs.declared.fault.TextFault.TheVariants as texts
 use Rattle.relay_text.specs.declared.lines.Line.{Line}
+use Rattle.relay_job.specs.declared.place.Place.{Place}
+use Rattle.relay_job.specs.declared.envelope.Envelope.{Envelope}
 use Rattle.relay_job.specs.declared.fault.RunFault.{RunFault}
 use Rattle.relay_job.specs.declared.fault.RunFault.TheVariants.{Read, TooLong, BadJob, BadSetting, BadEnvelope, TooManyNames, TooManyOwners, TooManyPairs, Write, Memory}
 use Rattle.relay_job.specs.JobText.{command_path, sender_in, recipient_in, breaks_envelope}
-use Rattle.relay_job.specs.JobParts.{commands_of, recipients_of, bad_recipients, first_bad_command, sender_of, Stops}
+use Rattle.relay_job.specs.JobParts.{commands_of, commands_at, recipients_of, bad_recipients, first_bad_recipient, first_bad_command, bad_envelope_at, sender_of, AreRecipientsOf, HasSender, IsEnvelopeAt, Stops}
 
 -- A line that begins with a word is at least as long.
 pub begins_with_word-length : (word line : List ℕ) → begins_with_word word line ≡ true → length word ≤ length line
@@ -60,14 +64,12 @@ RecipientsRead-more origin commands x xs recipients a h e = record {
 pub RecipientsRead-bad : (origin : List ℕ) (commands : List Line) (x : Line) (xs : List Line) (recipients : List AddressParts) → RecipientsRead origin commands (x ∷ xs) recipients → recipient_in origin x.text ≡ None → slice_get (bad_recipients origin commands) 0 ≡ Some x.number
 RecipientsRead-bad origin commands x xs recipients h e = ap (λ (ns : List ℕ). slice_get ns 0) (sym (rw e at h.unbroken))
 
-pub RecipientsRead-named : (origin : List ℕ) (commands rest : List Line) (recipients : List AddressParts) → RecipientsRead origin commands rest recipients → rest ≡ [] → recipients ≡ recipients_of origin commands
-RecipientsRead-named origin commands rest recipients h e = sym (append-nil recipients) ∙ rw e at h.named
-
-pub RecipientsRead-number : (origin : List ℕ) (commands rest : List Line) (recipients : List AddressParts) → RecipientsRead origin commands rest recipients → rest ≡ [] → length recipients ≡ length commands
-RecipientsRead-number origin commands rest recipients h e = omega (arith, h.number, ap length e)
-
-pub RecipientsRead-unbroken : (origin : List ℕ) (commands rest : List Line) (recipients : List AddressParts) → RecipientsRead origin commands rest recipients → rest ≡ [] → bad_recipients origin commands ≡ []
-RecipientsRead-unbroken origin commands rest recipients h e = sym (rw e at h.unbroken)
+pub RecipientsRead-end : (origin : List ℕ) (commands rest : List Line) (recipients : List AddressParts) → RecipientsRead origin commands rest recipients → rest ≡ [] → AreRecipientsOf origin commands recipients
+RecipientsRead-end origin commands rest recipients h e = record {
+  named = sym (append-nil recipients) ∙ rw e at h.named;
+  number = omega (arith, h.number, ap length e);
+  unbroken = sym (rw e at h.unbroken);
+}
 
 -- Behind the sender each command names a recipient.
 pub broken_behind_sender : (origin : List ℕ) (sender : Line) (earlier rest : List Line) → each_after (λ before x. cond (breaks_envelope origin before x) (x.number ∷ []) []) (sender ∷ earlier) rest ≡ bad_recipients origin rest
@@ -117,6 +119,28 @@ sender_of-first origin commands x xs sender c e = sym (rw (c, e))
 
 pub recipients_of-rest : (origin : List ℕ) (commands : List Line) (x : Line) (xs : List Line) (recipients : List AddressParts) → commands ≡ x ∷ xs → recipients ≡ recipients_of origin xs → recipients ≡ recipients_of origin (drop 1 commands)
 recipients_of-rest origin commands x xs recipients c h = rw c h
+
+-- Behind a sender, what was read of the recipients makes the envelope.
+abbrev IsMadeOf : Option AddressParts → List AddressParts → Envelope → Type 0
+IsMadeOf sender recipients e = (e.sender ≡ sender) × (e.recipients ≡ recipients) × (0 < length recipients)
+
+abbrev IsTooEarly : ℕ → List AddressParts → RunFault → Type 0
+IsTooEarly heading recipients fault = (fault ≡ BadEnvelope heading) × (length recipients ≡ 0)
+
+module _ (origin : List ℕ) (section : Place) (sender : Option AddressParts) (behind : List Line) (h : HasSender origin (commands_at section) sender behind) where
+  pub recipients-refused : (fault : RunFault) → Stops (first_bad_recipient origin behind) fault → Stops (bad_envelope_at origin section) fault
+  recipients-refused fault s = first_bad-recipients origin section.line (commands_at section) h.first behind sender fault h.parted h.named s
+
+  module _ (recipients : List AddressParts) (read : AreRecipientsOf origin behind recipients) (made : Result Envelope RunFault) where
+    pub envelope-made : IfOk made (IsMadeOf sender recipients) → IfOk made (IsEnvelopeAt origin section)
+    envelope-made = IfOk-weaker made _ _ (λ e is. record {
+      unbroken = first_bad-good origin section.line (commands_at section) h.first behind sender h.parted h.named read.unbroken (omega (arith, is.2, read.number));
+      sender = is.0 ∙ sender_of-first origin (commands_at section) h.first behind sender h.parted h.named;
+      recipients = is.1 ∙ recipients_of-rest origin (commands_at section) h.first behind recipients h.parted read.named;
+    })
+
+    pub envelope-early : IfErr made (IsTooEarly section.line recipients) → IfErr made (Stops (bad_envelope_at origin section))
+    envelope-early = IfErr-weaker made _ _ (λ fault is. rw is.0 (ap (option_map BadEnvelope) (first_bad-early origin section.line (commands_at section) h.first behind sender h.parted h.named (omega (arith, is.1, read.number)))))
 
 -- A line of white space alone is no command.
 pub commands_of-blank : (commands : List Line) (x : Line) (xs : List Line) → commands ≡ x ∷ xs → list_all is_white x.text ≡ true → commands_of commands ≡ commands_of xs

@@ -1,13 +1,13 @@
 -- What an envelope's section says by itself.
-use Rattle.std.proofs.Common.{◌≡◌, ℕ, List, drop, Option, Some, None, Result, Ok, Err, refl, ap, ◌∙◌}
+use Rattle.std.proofs.Common.{◌≡◌, ℕ, List, Option, Some, None, Result, Ok, Err, refl, sym, ap, ◌∙◌}
 use Rattle.std.specs.Prelude.{IfOk, IfErr}
 use Rattle.std.specs.Option.{option_map}
-use Rattle.relay_text.specs.declared.lines.Line.{Line}
 use Rattle.relay_job.specs.declared.envelope.Envelope.{Envelope}
+use Rattle.relay_job.specs.declared.place.Place.{Place}
 use Rattle.relay_job.specs.declared.fault.RunFault.{RunFault}
 use Rattle.relay_job.specs.declared.fault.RunFault.TheVariants.{BadEnvelope}
 use Rattle.relay_job.specs.JobAnswers.{Answers}
-use Rattle.relay_job.specs.JobParts.{first_bad_command, sender_of, recipients_of, Stops}
+use Rattle.relay_job.specs.JobParts.{commands_at, first_bad_command, bad_envelope_at, IsEnvelopeAt, Stops}
 use Rattle.relay_job.specs.Envelopes.{envelope_commands, envelope_fault, envelope_by, envelope_of}
 use Rattle.relay_job.proofs.ParseFacts.{Fails-from_stop}
 
@@ -19,15 +19,17 @@ envelope-good : (origin text : List ℕ) → envelope_fault origin text ≡ None
 unfolding envelope_of
 envelope-good origin text h = rw h
 
-pub envelope-read : (origin text : List ℕ) (heading : ℕ) (commands : List Line) (result : Result Envelope RunFault) → heading ≡ 0 → commands ≡ envelope_commands text
-    → IfOk result (λ (e : Envelope). e.sender ≡ sender_of origin commands) → IfOk result (λ (e : Envelope). e.recipients ≡ recipients_of origin (drop 1 commands)) → IfOk result (λ (e : Envelope). first_bad_command origin heading commands ≡ None)
-    → IfErr result (λ (fault : RunFault). Stops (option_map BadEnvelope (first_bad_command origin heading commands)) fault) → Answers result (envelope_of origin text)
-envelope-read origin text heading commands (Ok e) h c from to good bad =
-    let unbroken : envelope_fault origin text ≡ None = rw (h, c) at (ap (option_map BadEnvelope) good) in
-    let same : envelope_by origin (envelope_commands text) ≡ e = rw (← c, ← from, ← to) in
-    envelope-good origin text unbroken ∙ ap Ok same
-envelope-read origin text heading commands (Err fault) h c from to good bad =
-    Fails-from_stop _ fault (envelope_of origin text) (λ f g. envelope-fault origin text f (rw (h, c) at g)) bad
+pub envelope-read : (origin text : List ℕ) (section : Place) (result : Result Envelope RunFault) → section.line ≡ 0 → commands_at section ≡ envelope_commands text
+    → IfOk result (IsEnvelopeAt origin section) → IfErr result (Stops (bad_envelope_at origin section)) → Answers result (envelope_of origin text)
+envelope-read origin text section result h c = at result where
+  same : bad_envelope_at origin section ≡ envelope_fault origin text
+  same = ap (option_map BadEnvelope) (ap (λ (n : ℕ). first_bad_command origin n (commands_at section)) h ∙ ap (first_bad_command origin 0) c)
+
+  at : (r : Result Envelope RunFault) → IfOk r (IsEnvelopeAt origin section) → IfErr r (Stops (bad_envelope_at origin section)) → Answers r (envelope_of origin text)
+  at (Ok e) good bad =
+      let made : envelope_by origin (envelope_commands text) ≡ e = rw (← c, ← good.sender, ← good.recipients) in
+      envelope-good origin text (sym same ∙ ap (option_map BadEnvelope) good.unbroken) ∙ ap Ok made
+  at (Err fault) good bad = Fails-from_stop _ fault (envelope_of origin text) (λ f g. envelope-fault origin text f (sym same ∙ g)) bad
 
 -- A section that says an envelope has no fault, and its commands make it.
 pub envelope-unbroken : (origin text : List ℕ) (envelope : Envelope) → envelope_of origin text ≡ Ok envelope → first_bad_command origin 0 (envelope_commands text) ≡ None

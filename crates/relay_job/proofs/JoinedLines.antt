@@ -13,7 +13,7 @@ use Rattle.relay_job.specs.Envelopes.{EndsWithLine, joined_text}
 use Rattle.relay_job.proofs.SectionFacts.{content_before, part_if, or_later, part_in, include_if, includes_in, broken_after}
 
 -- A text is cut into lines as its two parts are, where the first ends with a line.
-some_line : (b : ℕ) (bs : List ℕ) → raw_lines (b ∷ bs) ≡ [] → ⊥
+pub some_line : (b : ℕ) (bs : List ℕ) → raw_lines (b ∷ bs) ≡ [] → ⊥
 some_line b bs = at (eqb b 10) (raw_lines bs) where
   at : (t : Bool) (lines : List (List ℕ)) → cond t ((b ∷ []) ∷ lines) (onto_first b lines) ≡ [] → ⊥
   at true lines h = cc

@@ -19,5 +19,7 @@ pub mod ReasonFacts
 pub mod RecipientLineFacts
 pub mod EnvelopeTextFacts
 pub mod JoinedLines
+pub mod PlaceCuts
+pub mod RecipientHalves
 pub mod ShiftedLines
 pub mod JoinedFacts

@@ -6,17 +6,21 @@ use Rattle.relay_text.specs.Bytes.{first_of}
 use Rattle.relay_text.specs.declared.lines.Line.{Line}
 use Rattle.relay_job.specs.declared.place.Place.{Place}
 use Rattle.relay_job.specs.declared.section.Section.{Section}
-use Rattle.relay_job.specs.declared.section.Section.TheVariants.{Settings, Envelope}
+use Rattle.relay_job.specs.declared.section.Section.TheVariants.{Settings, Aliases, Mailboxes, Transport, Mx, Envelope}
 use Rattle.relay_job.specs.declared.parts.Parts.{Parts}
+use Rattle.relay_job.specs.declared.envelope.Envelope as envelopes
 use Rattle.relay_job.specs.declared.job.Job.{Job}
+use Rattle.relay_job.specs.declared.job_files.JobFiles.{JobFiles}
 use Rattle.relay_job.specs.declared.settings.Settings as values
 use Rattle.relay_job.specs.declared.fault.RunFault.{RunFault}
 use Rattle.relay_job.specs.declared.fault.RunFault.TheVariants.{Read, TooLong, BadJob, BadSetting, BadEnvelope, TooManyNames, TooManyOwners, TooManyPairs, Write, Memory}
 use Rattle.relay_job.specs.JobAnswers.{Fails}
 use Rattle.relay_job.specs.Settings.{settings_of}
 use Rattle.relay_job.specs.JobText.{JobLine, content_of, named, Part, part_at, parts_of, included, part_lines, part_bytes, section_bytes, settings_part, envelope_part, envelope_lines, heading_number, bad_job, bad_setting, bad_envelope, job_settings, job_fault, sections_of, job_of}
-use Rattle.relay_job.specs.SectionPlaces.{word_of, place_of, part_behind, content_behind, line_behind, ArePartsOf}
-use Rattle.relay_job.specs.JobParts.{lines_of, commands_of, first_bad_setting, first_bad_command, sender_of, recipients_of, Stops}
+use Rattle.relay_job.specs.Jobs.{AreFilesOf, IsJobOf}
+use Rattle.relay_job.specs.Places.{content_at}
+use Rattle.relay_job.specs.SectionPlaces.{word_of, place_of, part_behind, content_behind, line_behind, ArePartsOf, setting_lines_of, HasSettings}
+use Rattle.relay_job.specs.JobParts.{lines_of, commands_of, commands_at, first_bad_setting, first_bad_command, bad_envelope_at, sender_of, recipients_of, IsEnvelopeAt, Stops}
 
 pub Fails-from_stop : {A : Type 0} (o : Option RunFault) (fault : RunFault) (given : Result A RunFault) → ((f : RunFault) → o ≡ Some f → given ≡ Err f) → Stops o fault → Fails fault given
 Fails-from_stop o Read given h s = h _ s
@@ -133,3 +137,41 @@ job-read text job lines heading commands j e g s n c h has from to =
     let parts : job_by text job.settings commands ≡ job = rw (← has.aliases, ← has.includes, ← has.mailboxes, ← has.transport, ← has.mx, ← from, ← to) in
     job-good text (none _ _ _ (ap (option_map BadJob) j) (ap (option_map BadSetting) good) (ap (option_map BadEnvelope) bad))
     ∙ ap Ok (sections_of-by text ∙ ap (λ (t : values.Settings). job_by text t (envelope_lines (envelope_part text))) settings ∙ ap (λ (l : List Line). job_by text job.settings l) c ∙ parts)
+
+-- ---- what follows from the parts of a job, and from what was read of them
+-- where the envelope's section stands among the parts
+pub record HasSectionAt (p : Parts) (section : Place) : Type 0 where
+  pub lines : content_at section ≡ content_behind (place_of p.sections Envelope)
+  pub heading : section.line ≡ line_behind (place_of p.sections Envelope)
+
+module _ (text : List ℕ) (p : Parts) (h : ArePartsOf text p) where
+  pub parts-settings : (fault : RunFault) → Stops (option_map BadSetting (first_bad_setting (setting_lines_of p))) fault → Fails fault (job_of text)
+  parts-settings fault s = Fails-from_stop _ fault (job_of text) (λ f g. job-bad_setting text f (setting_lines_of p) h.unbroken (settings_lines text p h) g) s
+
+  pub parts-files : (settings : values.Settings) (files : JobFiles) (envelope : envelopes.Envelope) (job : Job) → AreFilesOf p files → IsJobOf settings files envelope job → HasSections text job
+  parts-files settings files envelope job read is = record {
+    aliases = is.aliases ∙ read.aliases ∙ sym (bytes_of text p h Aliases);
+    includes = is.includes ∙ read.includes ∙ h.includes;
+    mailboxes = is.mailboxes ∙ read.mailboxes ∙ sym (bytes_of text p h Mailboxes);
+    transport = is.transport ∙ read.transport ∙ sym (bytes_of text p h Transport);
+    mx = is.mx ∙ read.mx ∙ sym (bytes_of text p h Mx);
+  }
+
+  module _ (settings : values.Settings) (origin : List ℕ) (section : Place) (set : HasSettings p settings) (own : origin ≡ settings.origin) (there : HasSectionAt p section) where
+    heading-is : heading_number (envelope_part text) ≡ section.line
+    heading-is = envelope_heading text p h ∙ sym there.heading
+
+    commands-are : envelope_lines (envelope_part text) ≡ commands_at section
+    commands-are = envelope_commands text p h ∙ ap (λ (lines : List JobLine). commands_of (lines_of lines)) (sym there.lines)
+
+    pub parts-envelope : (fault : RunFault) → Stops (bad_envelope_at origin section) fault → Fails fault (job_of text)
+    parts-envelope fault s = Fails-from_stop _ fault (job_of text) (λ f g. job-bad_envelope text f (setting_lines_of p) section.line (commands_at section) origin h.unbroken (settings_lines text p h) set.unbroken (own ∙ ap (λ (t : values.Settings). t.origin) set.are) heading-is commands-are g) s
+
+    pub parts-job : (files : JobFiles) (envelope : envelopes.Envelope) (job : Job) → AreFilesOf p files → IsEnvelopeAt origin section envelope → IsJobOf settings files envelope job → job_of text ≡ Ok job
+    parts-job files envelope job read e is =
+        let same : origin ≡ job.settings.origin = own ∙ ap (λ (t : values.Settings). t.origin) (sym is.settings) in
+        job-read text job (setting_lines_of p) section.line (commands_at section) h.unbroken (settings_lines text p h) set.unbroken (is.settings ∙ set.are) heading-is commands-are
+        (ap (λ (o : List ℕ). first_bad_command o section.line (commands_at section)) (sym same) ∙ e.unbroken)
+        (parts-files settings files envelope job read is)
+        (is.sender ∙ e.sender ∙ ap (λ (o : List ℕ). sender_of o (commands_at section)) same)
+        (is.recipients ∙ e.recipients ∙ ap (λ (o : List ℕ). recipients_of o (drop 1 (commands_at section))) same)

@@ -72,7 +72,7 @@ all_passed starts (b ∷ bs) h =
       at false e = ap suc e
 
 -- what a search from a place on looks through
-searched_from : (bytes : List ℕ) (from : ℕ) (found : Option ℕ) → IsFirstByte (is_byte 10) (take (length bytes - from) (drop from bytes)) found → IsFirstByte (is_byte 10) (drop from bytes) found
+pub searched_from : (bytes : List ℕ) (from : ℕ) (found : Option ℕ) → IsFirstByte (is_byte 10) (take (length bytes - from) (drop from bytes)) found → IsFirstByte (is_byte 10) (drop from bytes) found
 searched_from bytes from found h = rw (take_all (length bytes - from) (drop from bytes) (omega (arith, length-drop from bytes))) at h
 
 module _ (bytes : List ℕ) (place : ℕ) where
@@ -127,7 +127,7 @@ module _ (number b : ℕ) (raw : List ℕ) (other : eqb b 37 ≡ false) where
     at : (raw : List ℕ) → begins_with (codes "%") (line_text (b ∷ raw)) ≡ false
     at raw = grind arith
 
-  no_heading : is_heading (record { number = number; raw = b ∷ raw }) ≡ false
+  pub no_heading : is_heading (record { number = number; raw = b ∷ raw }) ≡ false
   no_heading = ap (λ t. t && not (begins_with (codes "%%") (line_text (b ∷ raw)))) (feed_or (eqb b 10) refl)
 
   itself : content_of (b ∷ raw) ≡ b ∷ raw
@@ -163,17 +163,8 @@ section_line number b raw raws other = at (is_heading (record { number = number;
   at false e = ap (λ l. l ++ content_bytes (content_before xs)) (itself number b raw other)
 
 -- A heading ends a section.
-section_end : (number : ℕ) (raw : List ℕ) (raws : List (List ℕ)) → is_heading (record { number = number; raw = raw }) ≡ true → section_at number (raw ∷ raws) ≡ []
-section_end number raw raws h = at (is_heading (record { number = number; raw = raw })) h where
-  x : JobLine
-  x = record { number = number; raw = raw }
-
-  xs : List JobLine
-  xs = numbered_from (number + 1) raws
-
-  at : (t : Bool) → t ≡ true → content_bytes (cond {A = Cut JobLine} t (record { before = []; pieces = (x ∷ content_before xs) ∷ (cut_before is_heading xs).pieces }) (record { before = x ∷ content_before xs; pieces = (cut_before is_heading xs).pieces })).before ≡ []
-  at true e = refl
-  at false e = absurd (true≢false (sym e))
+section_end : (number : ℕ) (raw : List ℕ) (raws : List (List ℕ)) → is_heading (record { number = number; raw = raw }) ≡ true → content_before (numbered_from number (raw ∷ raws)) ≡ []
+section_end number raw raws h = rw (h, content_before) refl
 
 -- A line that begins with one `%` is a heading.
 one_percent : (c : ℕ) (rest : List ℕ) → eqb c 37 ≡ false → begins_with (codes "%%") (without_cr (37 ∷ c ∷ rest)) ≡ false
@@ -207,11 +198,11 @@ other_percent b bs h = at (eqb b 37) refl where
   at true e = let is : b ≡ 37 = eqb-true b 37 e in let no : true ≡ false = rw is at h in absurd (true≢false no)
 
 -- A section ends at a line that begins with one `%`.
-section_nothing : (number : ℕ) (bs : List ℕ) → begins_with (codes "%%") (37 ∷ bs) ≡ false → section_at number (raw_lines (37 ∷ bs)) ≡ []
+pub section_nothing : (number : ℕ) (bs : List ℕ) → begins_with (codes "%%") (37 ∷ bs) ≡ false → content_before (numbered_from number (raw_lines (37 ∷ bs))) ≡ []
 section_nothing number [] h = section_end number (37 ∷ []) [] refl
 section_nothing number (b ∷ bs) h =
     let f = first_byte b bs (raw_lines (b ∷ bs)) refl in
-    ap (λ (lines : List (List ℕ)). section_at number (onto_first 37 lines)) f.2 ∙ section_end number (37 ∷ b ∷ f.0) f.1 (single_heading number b f.0 (other_percent b bs h))
+    ap (λ (lines : List (List ℕ)). content_before (numbered_from number (onto_first 37 lines))) f.2 ∙ section_end number (37 ∷ b ∷ f.0) f.1 (single_heading number b f.0 (other_percent b bs h))
 
 -- The lines of a section up to the first that begins with `%` stand for themselves, and the section ends there, unless that one begins with `%%`.
 abbrev pub behind_first : ℕ → List (List ℕ) → List ℕ
@@ -230,7 +221,7 @@ section_is true number (b ∷ bs) h = at (eqb b 37) refl (eqb b 10) refl h (sect
       → (begins_with (codes "%%") (drop (percent_place true bs) bs) ≡ false → section_at (number + 1) (raw_lines bs) ≡ take (percent_place true bs) bs)
       → (begins_with (codes "%%") (drop (percent_place false bs) bs) ≡ false → behind_first (number + 1) (raw_lines bs) ≡ take (percent_place false bs) bs)
       → section_at number (cond u ((b ∷ []) ∷ raw_lines bs) (onto_first b (raw_lines bs))) ≡ take (cond t 0 (suc (percent_place u bs))) (b ∷ bs)
-  at true e u f g whole part = let is : b ≡ 37 = eqb-true b 37 e in rw (← f, is) (section_nothing number bs (rw is at g))
+  at true e u f g whole part = let is : b ≡ 37 = eqb-true b 37 e in rw (← f, is) (ap content_bytes (section_nothing number bs (rw is at g)))
   at false e true f g whole part = section_line number b [] (raw_lines bs) e ∙ ap (λ (l : List ℕ). b ∷ l) (whole g)
   at false e false f g whole part = lines (raw_lines bs) e (part g)
 section_is false number (b ∷ bs) h = at (eqb b 10) h (section_is true number bs) (section_is false number bs) where
@@ -247,10 +238,10 @@ section_is false number (b ∷ bs) h = at (eqb b 10) h (section_is true number b
 
 -- ---- the lines behind the first ones
 -- 1 for an LF
-abbrev one : Bool → ℕ
+abbrev pub one : Bool → ℕ
 one t = cond t 1 0
 
-feeds-cons : (b : ℕ) (bs : List ℕ) → feeds (b ∷ bs) ≡ one (eqb b 10) + feeds bs
+pub feeds-cons : (b : ℕ) (bs : List ℕ) → feeds (b ∷ bs) ≡ one (eqb b 10) + feeds bs
 feeds-cons b bs = sum_by-cons (λ (x : ℕ). cond (eqb x 10) 1 0) b bs
 
 -- The lines of a text from the first on that begins with `%` are those behind the bytes before it.

@@ -1,5 +1,5 @@
 -- The parts of a job, each by its lines.
-use Rattle.std.specs.Prelude.{◌≡◌, ℕ, not, nat_lt, List, [], ◌∷◌, length, map, take, filter, filter_map, flat_map, Option, Some, None, is_none, unwrap_or, if◌then◌else◌, ⊤}
+use Rattle.std.specs.Prelude.{◌≡◌, ℕ, not, nat_lt, List, [], ◌∷◌, length, map, take, drop, filter, filter_map, flat_map, slice_get, Option, Some, None, is_none, option_map, unwrap_or, if◌then◌else◌, ⊤}
 use Rattle.std.specs.List.{list_all}
 use Rattle.relay_text.specs.Bytes.{is_white, first_of}
 use Rattle.relay_text.specs.Lines.{line_text}
@@ -7,8 +7,9 @@ use Rattle.relay_text.specs.AddressParts.{AddressParts}
 use Rattle.relay_text.specs.declared.lines.Line.{Line}
 use Rattle.relay_job.specs.declared.place.Place.{Place}
 use Rattle.relay_job.specs.declared.command.Command.{Command}
+use Rattle.relay_job.specs.declared.envelope.Envelope.{Envelope}
 use Rattle.relay_job.specs.declared.fault.RunFault.{RunFault}
-use Rattle.relay_job.specs.declared.fault.RunFault.TheVariants.{Memory}
+use Rattle.relay_job.specs.declared.fault.RunFault.TheVariants.{BadEnvelope, Memory}
 use Rattle.relay_job.specs.Settings.{breaks_settings, setting_lines}
 use Rattle.relay_job.specs.Places.{content_at}
 use Rattle.relay_job.specs.JobText.{JobLine, content_of, first_broken, breaks_envelope, sender_in, recipient_in}
@@ -45,6 +46,15 @@ recipients_of origin commands = filter_map (λ l. recipient_in origin l.text) co
 abbrev pub bad_recipients : List ℕ → List Line → List ℕ
 bad_recipients origin commands = flat_map (λ l. if is_none (recipient_in origin l.text) then (l.number ∷ []) else []) commands
 
+abbrev pub first_bad_recipient : List ℕ → List Line → Option RunFault
+first_bad_recipient origin commands = option_map BadEnvelope (slice_get (bad_recipients origin commands) 0)
+
+-- Each command names a recipient, and these are they.
+pub record AreRecipientsOf (origin : List ℕ) (commands : List Line) (recipients : List AddressParts) : Type 0 where
+  pub named : recipients ≡ recipients_of origin commands
+  pub number : length recipients ≡ length commands
+  pub unbroken : bad_recipients origin commands ≡ []
+
 -- the first command that breaks the envelope, or the heading's number where the commands end too early
 abbrev pub first_bad_command : List ℕ → ℕ → List Line → Option ℕ
 first_bad_command origin heading commands = first_of (
@@ -54,3 +64,18 @@ first_bad_command origin heading commands = first_of (
 
 abbrev pub sender_of : List ℕ → List Line → Option AddressParts
 sender_of origin commands = unwrap_or (first_of (map (λ l. sender_in origin l.text) (take 1 commands))) None
+
+-- The commands behind a heading, of which none breaks the envelope, say this one; else the first that breaks it is the fault.
+pub record IsEnvelopeAt (origin : List ℕ) (section : Place) (envelope : Envelope) : Type 0 where
+  pub unbroken : first_bad_command origin section.line (commands_at section) ≡ None
+  pub sender : envelope.sender ≡ sender_of origin (commands_at section)
+  pub recipients : envelope.recipients ≡ recipients_of origin (drop 1 (commands_at section))
+
+abbrev pub bad_envelope_at : List ℕ → Place → Option RunFault
+bad_envelope_at origin section = option_map BadEnvelope (first_bad_command origin section.line (commands_at section))
+
+-- The first command names the sender, and the others stand behind it.
+pub record HasSender (origin : List ℕ) (commands : List Line) (sender : Option AddressParts) (behind : List Line) : Type 0 where
+  pub first : Line
+  pub parted : commands ≡ first ∷ behind
+  pub named : sender_in origin first.text ≡ Some sender

@@ -7,6 +7,7 @@ pub mod SectionPlaces
 pub mod SettingValues
 pub mod JobParts
 pub mod JobSizes
+pub mod Jobs
 pub mod Reasons
 pub mod LocatedLines
 pub mod RecipientLines

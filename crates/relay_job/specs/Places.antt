@@ -1,6 +1,6 @@
 -- The lines that stand behind a place of a job.
-use Rattle.std.specs.Prelude.{ℕ, ◌+◌, List, map}
-use Rattle.std.specs.List.{enumerate_from}
+use Rattle.std.specs.Prelude.{◌≡◌, ℕ, ◌+◌, false, List, map}
+use Rattle.std.specs.List.{enumerate_from, list_any}
 use Rattle.relay_text.specs.Lines.{raw_lines, cut_before}
 use Rattle.relay_job.specs.declared.raw_line.RawLine.{RawLine}
 use Rattle.relay_job.specs.declared.place.Place.{Place}
@@ -20,3 +20,7 @@ lines_at p = numbered_from (p.line + 1) (raw_lines p.rest.now)
 -- the lines behind a place up to the next heading
 abbrev pub content_at : Place → List JobLine
 content_at p = (cut_before is_heading (lines_at p)).before
+
+-- No line behind a place is a heading: its section goes on to the text's end.
+abbrev pub IsWithinSection : Place → Type 0
+IsWithinSection p = list_any is_heading (lines_at p) ≡ false

@@ -11,9 +11,13 @@ use Rattle.relay_job.specs.declared.sections.Sections.{Sections}
 use Rattle.relay_job.specs.declared.include_place.IncludePlace.{IncludePlace}
 use Rattle.relay_job.specs.declared.parts.Parts.{Parts}
 use Rattle.relay_job.specs.declared.job.JobInclude.{JobInclude}
+use Rattle.relay_job.specs.declared.settings.Settings as values
 use Rattle.relay_job.specs.JobText.{JobLine, content_of, named, include, section_words, include_path, is_include_heading, Part, part_at, parts_of, included, bad_job}
 use Rattle.relay_job.specs.JobText as texts
+use Rattle.relay_text.specs.declared.lines.Line.{Line}
+use Rattle.relay_job.specs.JobParts.{lines_of, first_bad_setting}
 use Rattle.relay_job.specs.Places.{content_at}
+use Rattle.relay_job.specs.Settings.{settings_of}
 
 -- the heading of a section
 abbrev pub word_of : Section → List ℕ
@@ -92,3 +96,12 @@ pub record ArePartsOf (text : List ℕ) (p : Parts) : Type 0 where
   pub unbroken : bad_job text ≡ None
   pub places : (section : Section) → option_map (part_behind (word_of section)) (place_of p.sections section) ≡ part_at text (named (word_of section))
   pub includes : map include_at p.includes.items ≡ filter_map included (parts_of text)
+
+-- the lines of the settings
+abbrev pub setting_lines_of : Parts → List Line
+setting_lines_of p = lines_of (content_behind (place_of p.sections Settings))
+
+-- No line breaks the settings of a job's parts, and they are these.
+pub record HasSettings (p : Parts) (settings : values.Settings) : Type 0 where
+  pub unbroken : first_bad_setting (setting_lines_of p) ≡ None
+  pub are : settings ≡ settings_of (setting_lines_of p)

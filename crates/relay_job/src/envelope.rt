@@ -3,11 +3,10 @@ use crate::command::Command;
 use crate::fault::RunFault;
 use crate::place::Place;
 use crate::reason::Reason;
+use crate::recipient_reading::{read_recipients, read_recipients_by};
 use relay_text::{Address, Seq};
 use std::alloc::{AllocError, Global};
-
-/// Of how many bytes of an envelope one is a recipient's line: few lines are longer, and where many are shorter, their memory grows.
-const BYTES_FOR_RECIPIENT: usize = 64;
+use std::thread::Threads;
 
 /// The sender, none for the null path, and the recipients of an envelope (RFC 5321 section 4.1.1).
 #[derive(Drop)]
@@ -16,35 +15,29 @@ pub struct Envelope {
     pub recipients: Seq<Address>,
 }
 
-ghost use Rattle.std.specs.Prelude.{◌≡◌, ◌<◌, ℕ, [], ◌∷◌, Some, None, length, drop, slice_get, option_map, IsTrue, IfOk, IfErr, IfSome, IfNone};
+ghost use Rattle.std.specs.Prelude.{◌≡◌, ◌<◌, ℕ, Some, length, IsTrue, IfOk, IfErr};
 ghost use Rattle.relay_text.specs.Addresses.{is_origin};
-ghost use Rattle.relay_job.specs.JobText.{command_path, sender_in, recipient_in};
-ghost use Rattle.relay_job.specs.Places.{line_of};
 ghost use Rattle.relay_job.specs.Reasons.{BreaksEnvelope};
-ghost use Rattle.relay_job.specs.JobParts.{command_of, commands_at, recipients_of, bad_recipients, first_bad_command, sender_of, Stops};
+ghost use Rattle.relay_job.specs.JobParts.{commands_at, first_bad_command, bad_envelope_at, HasSender, IsEnvelopeAt, Stops};
 
-/// The recipients of the commands behind a place.
-fn read_recipients(
+/// The sender that the first command behind a heading names, and the place behind that command. BadEnvelope as from `Envelope::read`.
+fn read_sender<'a>(
     alloc: Global,
-    section: Place<'_>,
+    section: Place<'a>,
     origin: &[u8],
-) -> Result<Vec<Address>, RunFault>
+) -> Result<(Option<Address>, Place<'a>), RunFault>
     requires { IsTrue (is_origin origin.now) }
-    ensures recipients { IfOk result (λ recipients. recipients.items ≡ recipients_of origin.now (commands_at section.entry)) }
-    ensures number { IfOk result (λ recipients. length recipients.items ≡ length (commands_at section.entry)) }
-    ensures unbroken { IfOk result (λ recipients. bad_recipients origin.now (commands_at section.entry) ≡ []) }
-    ensures err { IfErr result (λ fault. Stops (option_map RunFault.BadEnvelope (slice_get (bad_recipients origin.now (commands_at section.entry)) 0)) fault) }
+    ensures ok { IfOk result (λ read. HasSender origin.now (commands_at section.entry) read.0 (commands_at read.1)) }
+    ensures err { IfErr result (Stops (bad_envelope_at origin.now section.entry)) }
 {
-    let mut recipients = Vec::with_capacity(alloc, section.rest.len() / BYTES_FOR_RECIPIENT)?;
-    let mut place = section;
-    while let Some((command, after)) = Command::split_from(&place) {
-        place = after;
-        match command.recipient(alloc, origin)? {
-            Some(address) => recipients.push(address)?,
-            None => return Err(RunFault::BadEnvelope(command.number)),
-        }
-    }
-    Ok(recipients)
+    let Some((command, behind)) = Command::split_from(&section) else {
+        return Err(RunFault::BadEnvelope(section.line));
+    };
+    let path = command.sender(alloc, origin)?;
+    let Some(sender) = path else {
+        return Err(RunFault::BadEnvelope(command.number));
+    };
+    Ok((sender, behind))
 }
 
 impl Envelope {
@@ -56,21 +49,42 @@ impl Envelope {
         origin: &[u8],
     ) -> Result<Envelope, RunFault>
         requires { IsTrue (is_origin origin.now) }
-        ensures sender { IfOk result (λ envelope. envelope.sender ≡ sender_of origin.now (commands_at section.entry)) }
-        ensures recipients { IfOk result (λ envelope. envelope.recipients ≡ recipients_of origin.now (drop 1 (commands_at section.entry))) }
-        ensures unbroken { IfOk result (λ envelope. first_bad_command origin.now section.entry.line (commands_at section.entry) ≡ None) }
-        ensures err { IfErr result (λ fault. Stops (option_map RunFault.BadEnvelope (first_bad_command origin.now section.entry.line (commands_at section.entry))) fault) }
+        ensures ok { IfOk result (IsEnvelopeAt origin.now section.entry) }
+        ensures err { IfErr result (Stops (bad_envelope_at origin.now section.entry)) }
     {
-        let Some((command, after)) = Command::split_from(&section) else {
-            return Err(RunFault::BadEnvelope(section.line));
-        };
-        let path = command.sender(alloc, origin)?;
-        let Some(sender) = path else {
-            return Err(RunFault::BadEnvelope(command.number));
-        };
-        let recipients = read_recipients(alloc, after, origin)?;
+        let (sender, behind) = read_sender(alloc, section, origin)?;
+        let recipients = read_recipients(alloc, behind, origin)?;
+        Envelope::of(section.line, sender, recipients)
+    }
+
+    /// The same, its recipients by so many threads, this one among them.
+    pub(crate) fn read_by<R: Threads + Sync>(
+        rt: &R,
+        alloc: Global,
+        workers: usize,
+        section: Place<'_>,
+        origin: &[u8],
+    ) -> Result<Envelope, RunFault>
+        requires { IsTrue (is_origin origin.now) }
+        ensures ok { IfOk result (IsEnvelopeAt origin.now section.entry) }
+        ensures err { IfErr result (Stops (bad_envelope_at origin.now section.entry)) }
+    {
+        let (sender, behind) = read_sender(alloc, section, origin)?;
+        let recipients = read_recipients_by(rt, alloc, workers, behind, origin)?;
+        Envelope::of(section.line, sender, recipients)
+    }
+
+    /// That of a sender and recipients. BadEnvelope has the heading's line, where there are none.
+    fn of(
+        heading: usize,
+        sender: Option<Address>,
+        recipients: Vec<Address>,
+    ) -> Result<Envelope, RunFault>
+        ensures ok { IfOk result (λ envelope. (envelope.sender ≡ sender) × (envelope.recipients ≡ recipients.items) × (0 < length recipients.items)) }
+        ensures err { IfErr result (λ fault. (fault ≡ RunFault.BadEnvelope heading) × (length recipients.items ≡ 0)) }
+    {
         if recipients.is_empty() {
-            return Err(RunFault::BadEnvelope(section.line));
+            return Err(RunFault::BadEnvelope(heading));
         }
         Ok(Envelope {
             sender,

@@ -1,4 +1,6 @@
 //! Jobs.
+use crate::envelope::Envelope;
+use crate::job_files::JobFiles;
 use crate::settings::Settings;
 use relay_text::{Address, Seq, Text};
 
@@ -27,4 +29,25 @@ pub struct Job {
     /// The envelope's sender, none for the null path.
     pub sender: Option<Address>,
     pub recipients: Seq<Address>,
+}
+
+impl Job {
+    ghost use Rattle.relay_job.specs.Jobs.{IsJobOf};
+
+    /// That of settings, files and an envelope.
+    pub(crate) fn of(settings: Settings, files: JobFiles, envelope: Envelope) -> Job
+        ensures { IsJobOf settings files envelope result }
+    {
+        let Envelope { sender, recipients } = envelope;
+        Job {
+            settings,
+            aliases: files.aliases,
+            includes: files.includes,
+            mailboxes: files.mailboxes,
+            transport: files.transport,
+            mx: files.mx,
+            sender,
+            recipients,
+        }
+    }
 }

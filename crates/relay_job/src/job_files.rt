@@ -1,7 +1,6 @@
 //! The bytes of a job's files and tables.
-ghost use Rattle.std.specs.Prelude.{◌≡◌, map, IfOk};
-ghost use Rattle.relay_job.specs.declared.section.Section.TheVariants as words;
-ghost use Rattle.relay_job.specs.SectionPlaces.{bytes_behind, include_at, place_of};
+ghost use Rattle.std.specs.Prelude.{IfOk};
+ghost use Rattle.relay_job.specs.Jobs.{AreFilesOf};
 
 use crate::content::section_bytes;
 use crate::include_place::read_includes;
@@ -24,11 +23,7 @@ pub struct JobFiles {
 impl JobFiles {
     /// Those of a job's parts, in memory of their own.
     pub fn read(alloc: Global, parts: &Parts<'_>) -> Result<JobFiles, AllocError>
-        ensures aliases { IfOk result (λ files. files.aliases ≡ bytes_behind (place_of parts.now.sections words.Aliases)) }
-        ensures includes { IfOk result (λ files. files.includes ≡ map include_at parts.now.includes.items) }
-        ensures mailboxes { IfOk result (λ files. files.mailboxes ≡ bytes_behind (place_of parts.now.sections words.Mailboxes)) }
-        ensures transport { IfOk result (λ files. files.transport ≡ bytes_behind (place_of parts.now.sections words.Transport)) }
-        ensures mx { IfOk result (λ files. files.mx ≡ bytes_behind (place_of parts.now.sections words.Mx)) }
+        ensures { IfOk result (AreFilesOf parts.now) }
     {
         let sections = parts.sections;
         Ok(JobFiles {

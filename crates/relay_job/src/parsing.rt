@@ -1,7 +1,11 @@
 //! What a job's text says, and what an envelope's says by itself.
-ghost use Rattle.std.specs.Prelude.{◌≡◌, IsTrue};
+ghost use Rattle.std.specs.Prelude.{◌≡◌, option_map, IsTrue, IfOk, IfErr};
+ghost use Rattle.std.specs.Thread.{IsSync};
 ghost use Rattle.relay_text.specs.Addresses.{is_origin};
+ghost use Rattle.relay_job.specs.JobParts.{first_bad_setting, bad_envelope_at, IsEnvelopeAt, Stops};
 ghost use Rattle.relay_job.specs.JobText.{job_of};
+ghost use Rattle.relay_job.specs.Jobs.{AreFilesOf};
+ghost use Rattle.relay_job.specs.SectionPlaces.{setting_lines_of, HasSettings};
 ghost use Rattle.relay_job.specs.Tables.{tables_of};
 ghost use Rattle.relay_job.specs.Envelopes.{envelope_of};
 ghost use Rattle.relay_job.specs.JobAnswers.{Answers};
@@ -12,10 +16,13 @@ use crate::job::Job;
 use crate::job_files::JobFiles;
 use crate::parts::Parts;
 use crate::place::Place;
+use crate::recipient_reading::workers_for;
 use crate::section::Section;
 use crate::setting_values::SettingValues;
+use crate::settings::Settings;
 use relay_text::Seq;
-use std::alloc::Global;
+use std::alloc::{AllocError, Global};
+use std::thread::{Threads, join};
 
 /// The job that a text is: its settings, the bytes of its mailboxes and tables, and the envelope.
 ///
@@ -27,26 +34,71 @@ pub fn parse_job(alloc: Global, bytes: &[u8]) -> Result<Job, RunFault>
     ensures { Answers result (job_of bytes.now) }
 {
     let parts = Parts::find(alloc, bytes)?;
-    let sections = parts.sections;
-    let values = SettingValues::read(alloc, sections.section(Section::Settings))?;
-    let settings = values.settings(alloc)?;
-    let envelope = Envelope::read(
-        alloc,
-        sections.section(Section::Envelope),
-        settings.origin.as_bytes(),
-    )?;
+    let settings = read_settings(alloc, &parts)?;
+    let section = parts.sections.section(Section::Envelope);
+    let envelope = Envelope::read(alloc, section, settings.origin.as_bytes())?;
     let files = JobFiles::read(alloc, &parts)?;
-    let Envelope { sender, recipients } = envelope;
-    Ok(Job {
-        settings,
-        aliases: files.aliases,
-        includes: files.includes,
-        mailboxes: files.mailboxes,
-        transport: files.transport,
-        mx: files.mx,
-        sender,
-        recipients,
-    })
+    Ok(Job::of(settings, files, envelope))
+}
+
+/// The same, by so many threads, this one among them: the recipients of a long envelope are read by several, while one copies the files
+/// and tables. Where a thread can't be started, its work is done in this one.
+pub fn parse_job_by<R: Threads + Sync>(
+    rt: &R,
+    alloc: Global,
+    workers: usize,
+    bytes: &[u8],
+) -> Result<Job, RunFault>
+    ensures { Answers result (job_of bytes.now) }
+{
+    let parts = Parts::find(alloc, bytes)?;
+    let settings = read_settings(alloc, &parts)?;
+    let section = parts.sections.section(Section::Envelope);
+    let readers = workers_for(workers, bytes.len());
+    let origin = settings.origin.as_bytes();
+    let (envelope, files) = read_both(rt, alloc, readers, &parts, section, origin)?;
+    Ok(Job::of(settings, files, envelope))
+}
+
+/// The envelope behind a heading, and the files and tables of a job's parts. From three workers on one copies these meanwhile; two read
+/// the envelope sooner together, since copying takes much less time than reading.
+fn read_both<R: Threads + Sync>(
+    rt: &R,
+    alloc: Global,
+    workers: usize,
+    parts: &Parts<'_>,
+    section: Place<'_>,
+    origin: &[u8],
+) -> Result<(Envelope, JobFiles), RunFault>
+    requires { IsTrue (is_origin origin.now) }
+    ensures ok { IfOk result (λ both. IsEnvelopeAt origin.now section.entry both.0 × AreFilesOf parts.now both.1) }
+    ensures err { IfErr result (Stops (bad_envelope_at origin.now section.entry)) }
+{
+    if workers < 3 {
+        let envelope = Envelope::read_by(rt, alloc, workers, section, origin)?;
+        return Ok((envelope, JobFiles::read(alloc, parts)?));
+    }
+    let rest = workers - 1;
+    let copy = || -> Result<JobFiles, AllocError>
+        ensures { IfOk result (AreFilesOf parts.entry.now) }
+    { JobFiles::read(alloc, parts) };
+    let read = || -> Result<Envelope, RunFault>
+        requires { IsSync R.row × IsTrue (is_origin origin.now) }
+        ensures { IfOk result (IsEnvelopeAt origin.entry.now section.entry) × IfErr result (Stops (bad_envelope_at origin.entry.now section.entry)) }
+    { Envelope::read_by(rt, alloc, rest, section, origin) };
+    let (there, here) = join(rt, copy, read);
+    let envelope = here?;
+    Ok((envelope, there?))
+}
+
+/// The settings of a job's parts. BadSetting as from `parse_job`.
+fn read_settings(alloc: Global, parts: &Parts<'_>) -> Result<Settings, RunFault>
+    ensures ok { IfOk result (HasSettings parts.now) }
+    ensures err { IfErr result (Stops (option_map RunFault.BadSetting (first_bad_setting (setting_lines_of parts.now)))) }
+{
+    let section = parts.sections.section(Section::Settings);
+    let values = SettingValues::read(alloc, section)?;
+    Ok(values.settings(alloc)?)
 }
 
 /// The settings, files and tables of a text, as the job of a null sender who writes to nobody. An envelope may stand in the text or
@@ -57,20 +109,13 @@ pub fn parse_tables(alloc: Global, bytes: &[u8]) -> Result<Job, RunFault>
     ensures { Answers result (tables_of bytes.now) }
 {
     let parts = Parts::find(alloc, bytes)?;
-    let sections = parts.sections;
-    let values = SettingValues::read(alloc, sections.section(Section::Settings))?;
-    let settings = values.settings(alloc)?;
+    let settings = read_settings(alloc, &parts)?;
     let tables = JobFiles::read(alloc, &parts)?;
-    Ok(Job {
-        settings,
-        aliases: tables.aliases,
-        includes: tables.includes,
-        mailboxes: tables.mailboxes,
-        transport: tables.transport,
-        mx: tables.mx,
+    let nobody = Envelope {
         sender: None,
         recipients: Seq::of(Vec::new(alloc)),
-    })
+    };
+    Ok(Job::of(settings, tables, nobody))
 }
 
 /// What an envelope's section says by itself, without a heading, where addresses without a domain are of this origin. A heading ends

@@ -1,5 +1,6 @@
 //! Lines that begin with `%`.
-ghost use Rattle.std.specs.Prelude.{◌≡◌, ◌+◌, ◌≤◌, ◌<◌, true, false, length, drop};
+ghost use Rattle.std.specs.Prelude.{◌≡◌, ◌+◌, ◌≤◌, ◌<◌, true, false, length, take, drop};
+ghost use Rattle.relay_job.specs.Envelopes.{EndsWithLine};
 ghost use Rattle.relay_job.specs.PercentLines.{begins_line, percent_place};
 
 use bstr::ByteSlice;
@@ -8,6 +9,7 @@ use bstr::ByteSlice;
 /// and not the end of each line. Of a line with a `%` inside it the end is, so that many of them cost no more than one.
 pub(crate) fn percent_line_place(bytes: &[u8]) -> usize
     ensures len { result ≡ percent_place true bytes.now }
+    ensures begins { result < length bytes.now → EndsWithLine (take result bytes.now) }
     ensures within { result ≤ length bytes.now }
 {
     let mut rest = bytes;
@@ -21,9 +23,10 @@ pub(crate) fn percent_line_place(bytes: &[u8]) -> usize
 }
 
 /// The place of the line behind the one that a byte stands in, or the length where there is none.
-fn next_line_place(bytes: &[u8], place: usize) -> usize
+pub(crate) fn next_line_place(bytes: &[u8], place: usize) -> usize
     requires { place < length bytes.now }
     ensures passed { place + percent_place false (drop place bytes.now) ≡ result + percent_place true (drop result bytes.now) }
+    ensures begins { result < length bytes.now → EndsWithLine (take result bytes.now) }
     ensures further { place < result }
     ensures within { result ≤ length bytes.now }
 {

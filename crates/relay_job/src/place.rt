@@ -2,8 +2,8 @@
 ghost use Rattle.std.specs.Prelude.{◌+◌, ◌^◌, ◌<◌, length};
 
 use crate::line_feeds::line_feeds;
-use crate::percent_line::percent_line_place;
-use crate::raw_line::RawLine;
+use crate::percent_line::{next_line_place, percent_line_place};
+use crate::raw_line::{RawLine, is_doubled};
 use relay_text::split_line;
 
 /// A place behind a line of a job, or at its start.
@@ -17,9 +17,10 @@ pub struct Place<'a> {
 }
 
 impl<'a> Place<'a> {
-    ghost use Rattle.std.specs.Prelude.{◌≡◌, ◌≤◌, [], ◌∷◌, ◌++◌, IfSome, IfNone};
-    ghost use Rattle.relay_job.specs.JobText.{job_lines};
-    ghost use Rattle.relay_job.specs.Places.{line_of, lines_at, content_at};
+    ghost use Rattle.std.specs.Prelude.{◌≡◌, ◌≤◌, ◌==◌, [], ◌∷◌, ◌++◌, take, drop, flat_map, count_by, IfSome, IfNone};
+    ghost use Rattle.relay_job.specs.Envelopes.{EndsWithLine};
+    ghost use Rattle.relay_job.specs.JobText.{job_lines, content_of};
+    ghost use Rattle.relay_job.specs.Places.{line_of, lines_at, content_at, IsWithinSection};
     ghost use Rattle.relay_job.specs.PercentLines.{from_percent_line};
 
     /// The start of a job.
@@ -53,9 +54,48 @@ impl<'a> Place<'a> {
         ensures lines { lines_at result ≡ from_percent_line (lines_at self.now) }
         ensures no_longer { length result.rest.now ≤ length self.now.rest.now }
     {
+        self.split_lines(percent_line_place(self.rest)).1
+    }
+
+    /// This section with nothing behind it, where no line of it begins with `%%`: its lines stand for themselves.
+    pub(crate) fn plain(&self) -> Option<Place<'a>>
+        ensures content { IfSome result (λ plain. content_at plain ≡ content_at self.now) }
+        ensures within { IfSome result (λ plain. IsWithinSection plain) }
+        ensures bytes { IfSome result (λ plain. plain.rest.now ≡ flat_map (λ l. content_of l.raw) (content_at self.now)) }
+    {
         let (front, rest) = self.rest.split_at(percent_line_place(self.rest));
+        if is_doubled(rest) {
+            return None;
+        }
+        Some(Place {
+            line: self.line,
+            rest: front,
+        })
+    }
+
+    /// The lines up to the one that holds the byte of this index, and those behind it.
+    pub(crate) fn split_behind(&self, index: usize) -> (Place<'a>, Place<'a>)
+        requires { index < length self.now.rest.now }
+        ensures { lines_at self.now ≡ lines_at result.0 ++ lines_at result.1 }
+    {
+        self.split_lines(next_line_place(self.rest, index))
+    }
+
+    /// The lines up to so many bytes on, where a line begins or nothing is left, and those behind them.
+    fn split_lines(&self, len: usize) -> (Place<'a>, Place<'a>)
+        requires within { len ≤ length self.now.rest.now }
+        requires begins { len < length self.now.rest.now → EndsWithLine (take len self.now.rest.now) }
+        ensures lines { lines_at self.now ≡ lines_at result.0 ++ lines_at result.1 }
+        ensures front { (result.0.line ≡ self.now.line) × (result.0.rest.now ≡ take len self.now.rest.now) }
+        ensures behind { (result.1.line ≡ self.now.line + count_by (λ b. b == 10) (take len self.now.rest.now)) × (result.1.rest.now ≡ drop len self.now.rest.now) }
+    {
+        let (front, rest) = self.rest.split_at(len);
         let line = self.line + line_feeds(front);
-        Place { line, rest }
+        let before = Place {
+            line: self.line,
+            rest: front,
+        };
+        (before, Place { line, rest })
     }
 
     /// The next line of this section, and the place behind it; `None` at the next heading and at the job's end.

@@ -9,4 +9,4 @@ use Rattle.relay_job.proofs.parsing.parse_envelope.Goals as goal
 pub returns : goal.returns
 returns c =
     let commands : commands_at c.start.result ≡ envelope_commands c.args.bytes.now = ap (λ (lines : List JobLine). commands_of (lines_of (cut_before is_heading lines).before)) c.start.ensures.lines in
-    envelope-read c.args.origin.now c.args.bytes.now c.start.result.line (commands_at c.start.result) c.read.result c.start.ensures.number commands c.read.ensures.sender c.read.ensures.recipients c.read.ensures.unbroken c.read.ensures.err
+    envelope-read c.args.origin.now c.args.bytes.now c.start.result c.read.result c.start.ensures.number commands c.read.ensures.ok c.read.ensures.err
