@@ -1,7 +1,7 @@
 -- Lemmas on what is found of a graph so far.
 use Rattle.std.proofs.Common.{◌≡◌, ◌≢◌, ℕ, zero, suc, ◌+◌, ◌<◌, ◌≤◌, Bool, true, false, Option, Some, None, Err, Vec, Global, List, [], ◌∷◌, ◌++◌, length, map, take, get_or, slice_get, AllPairs, Contains, refl, sym, ap, ◌∙◌, subst, inl, inr, arith}
 use Rattle.std.specs.Prelude.{unwrap_or}
-use Rattle.std.specs.List.{All, concat, flat_map, list_any}
+use Rattle.std.specs.List.{All, flat_map, list_any}
 use Rattle.std.specs.Cmp.{IsEquivalence}
 use Rattle.std.proofs.lemmas.Bool.{cases_Bool, cases_eq, cases_lt, both_ways}
 use Rattle.std.proofs.lemmas.List.{length_push, get_or_push, get_or_append_left, map_push, take_all, take_more, take-append-le}

@@ -21,3 +21,4 @@ pub mod ParsedFiles
 pub mod GraphsFrom
 pub mod Counts
 pub mod Found
+pub mod Looks

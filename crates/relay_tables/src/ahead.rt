@@ -3,10 +3,14 @@
 //! A look-up reads the head of a bucket, the hashes in it and the text of a number under its own hash, which lie apart in memory. It
 //! waits for each of them in turn, and the next look-up waits for it. Read by themselves for a block of look-ups, with little between,
 //! they are waited for at the same time, and the look-ups find them at hand. What is read here decides nothing: a look-up reads it again.
+//!
+//! A name is looked up in the tables, and then among the nodes where there are some, unless it's an alias. Where it's known what it stands
+//! for, only the nodes are read.
 ghost use Rattle.std.specs.Prelude.{◌≤◌, length};
 
 use crate::numbering::Numbering;
 use crate::tables::Tables;
+use crate::target::Target;
 use relay_aliasfile::{Entry, Item};
 use relay_chains::hash_text;
 use relay_text::Address;
@@ -47,18 +51,19 @@ impl Hashes {
     }
 }
 
-// The hashes of a block's look-ups. A name that isn't folded has another one here than where it's looked up.
+// The hashes of a block's look-ups: of names in the tables and the nodes, and of what is looked up among the nodes alone. A name that
+// isn't folded has another one here than where it's looked up.
 #[derive(Drop)]
 struct Block {
     names: Hashes,
-    addresses: Hashes,
+    nodes: Hashes,
 }
 
 impl Block {
     fn none() -> Block {
         Block {
             names: Hashes::none(),
-            addresses: Hashes::none(),
+            nodes: Hashes::none(),
         }
     }
 
@@ -67,8 +72,7 @@ impl Block {
         if tables.may_be_local(address) {
             self.names.put(hash_text(tables.key(), address.local()));
         } else {
-            self.addresses
-                .put(hash_text(tables.key(), address.joined()));
+            self.nodes.put(hash_text(tables.key(), address.joined()));
         }
     }
 
@@ -81,15 +85,34 @@ impl Block {
         }
     }
 
+    // What the node of an address is looked up by, where it's known what the address stands for. An alias isn't looked up.
+    fn put_address_node(&mut self, tables: &Tables, address: &Address, found: Option<Target>) {
+        match found {
+            Some(Target::Alias(_)) => {}
+            Some(_) => self.nodes.put(hash_text(tables.key(), address.local())),
+            None => self.nodes.put(hash_text(tables.key(), address.joined())),
+        }
+    }
+
+    // The same of an item.
+    fn put_item_node(&mut self, tables: &Tables, item: &Item, found: Option<Target>) {
+        match (item, found) {
+            (Item::Bare(_), Some(Target::Alias(_))) => {}
+            (Item::Bare(name), _) => self.nodes.put(hash_text(tables.key(), name.as_bytes())),
+            (Item::Full(address), _) => self.put_address_node(tables, address, found),
+            _ => {}
+        }
+    }
+
     // Reads for all of them.
     #[inline(never)]
-    fn read(&self, tables: &Tables, names: &Numbering) -> usize {
+    fn read(&self, tables: &Tables, names: Option<&Numbering>) -> usize {
         let hashes = self.names.as_slice();
         let mut words = [0u32; BLOCK];
         find_entries(tables, hashes, &mut words);
         let entries = read_entry_names(tables, names, hashes, &mut words);
         let mailboxes = read_mailbox_names(tables, &words[..hashes.len()]);
-        let nodes = read_nodes(names, self.addresses.as_slice());
+        let nodes = read_nodes(names, self.nodes.as_slice());
         entries.wrapping_add(mailboxes).wrapping_add(nodes)
     }
 }
@@ -106,7 +129,7 @@ fn find_entries(tables: &Tables, hashes: &[u32], words: &mut [u32; BLOCK])
 // Reads the names of the entries of the words. Where there is none, the word becomes that of the newest mailbox.
 fn read_entry_names(
     tables: &Tables,
-    names: &Numbering,
+    names: Option<&Numbering>,
     hashes: &[u32],
     words: &mut [u32; BLOCK],
 ) -> usize
@@ -115,7 +138,7 @@ fn read_entry_names(
     let mut seen = 0usize;
     for place in 0..hashes.len() {
         if words[place] == 0 {
-            seen = seen.wrapping_add(names.newest(hashes[place]) as usize);
+            seen = seen.wrapping_add(newest_node(names, hashes[place]));
             words[place] = tables.newest_mailbox(hashes[place]);
         } else {
             seen = seen.wrapping_add(tables.entry_len(words[place]));
@@ -134,45 +157,84 @@ fn read_mailbox_names(tables: &Tables, words: &[u32]) -> usize {
     seen
 }
 
+// The word of the newest node under a hash, where there are nodes.
+fn newest_node(names: Option<&Numbering>, hash: u32) -> usize {
+    match names {
+        Some(names) => names.newest(hash) as usize,
+        None => 0,
+    }
+}
+
 // Reads the newest nodes under the hashes.
-fn read_nodes(names: &Numbering, hashes: &[u32]) -> usize {
+fn read_nodes(names: Option<&Numbering>, hashes: &[u32]) -> usize {
     let mut seen = 0usize;
     for hash in hashes {
-        seen = seen.wrapping_add(names.newest(*hash) as usize);
+        seen = seen.wrapping_add(newest_node(names, *hash));
     }
     seen
 }
 
-// Reads for the first items.
+// Reads for the first items, of which it may be known what they stand for.
 #[inline(never)]
-fn read_items(tables: &Tables, names: &Numbering, items: &[Item]) -> usize {
+fn read_items(
+    tables: &Tables,
+    names: Option<&Numbering>,
+    items: &[Item],
+    found: &[Option<Target>],
+) -> usize {
     let mut block = Block::none();
-    for item in items.iter().take(BLOCK) {
-        block.put_item(tables, item);
+    for place in 0..items.len().min(BLOCK) {
+        match found.get(place) {
+            Some(target) => block.put_item_node(tables, &items[place], *target),
+            None => block.put_item(tables, &items[place]),
+        }
     }
     block.read(tables, names)
 }
 
 // The same for the first items of entries.
 #[inline(never)]
-fn read_entries(tables: &Tables, names: &Numbering, entries: &[Entry]) -> usize {
+fn read_entries(
+    tables: &Tables,
+    names: Option<&Numbering>,
+    entries: &[Entry],
+    found: &[Option<Target>],
+) -> usize {
     let mut block = Block::none();
+    let mut place = 0usize;
     for entry in entries.iter().take(BLOCK) {
-        if let Some(item) = entry.items.as_slice().first() {
-            block.put_item(tables, item);
+        let items = entry.items.as_slice();
+        match (items.first(), found.get(place)) {
+            (Some(item), Some(target)) => block.put_item_node(tables, item, *target),
+            (Some(item), None) => block.put_item(tables, item),
+            (None, _) => {}
         }
+        place = place.wrapping_add(items.len());
     }
     block.read(tables, names)
 }
 
 // The same for recipients.
 #[inline(never)]
-fn read_recipients(tables: &Tables, names: &Numbering, recipients: &[Address]) -> usize {
+fn read_recipients(
+    tables: &Tables,
+    names: Option<&Numbering>,
+    recipients: &[Address],
+    found: &[Option<Target>],
+) -> usize {
     let mut block = Block::none();
-    for address in recipients.iter().take(BLOCK) {
-        block.put_address(tables, address);
+    for place in 0..recipients.len().min(BLOCK) {
+        match found.get(place) {
+            Some(target) => block.put_address_node(tables, &recipients[place], *target),
+            None => block.put_address(tables, &recipients[place]),
+        }
     }
     block.read(tables, names)
+}
+
+// What there is from a place on.
+fn rest_of(found: &[Option<Target>], start: usize) -> &[Option<Target>] {
+    &found[start.min(found.len())..]
 }
 
 /// Whether look-ups are read for ahead, and a sum of what was read last, which means nothing: it's kept so that no read is left out.
@@ -191,40 +253,57 @@ impl Ahead {
         }
     }
 
-    /// Reads for the items of a list from one on, where a block begins there. A single item is read for with its entry.
+    /// For a share of look-ups that several threads have: the processor of a new one has nothing of the tables in its own cache.
+    pub(crate) fn of_thread() -> Ahead {
+        Ahead {
+            is_worth: true,
+            seen: 0,
+        }
+    }
+
+    /// Reads for the items of a list from one on, where a block begins there. What is found for the first items of the list may be given,
+    /// and so may the nodes. A single item is read for with its entry.
     #[inline]
     pub(crate) fn read_items(
         &mut self,
         tables: &Tables,
-        names: &Numbering,
+        names: Option<&Numbering>,
         items: &[Item],
+        found: &[Option<Target>],
         start: usize,
     ) {
         if self.is_worth && items.len() > 1 && start % BLOCK == 0 && start < items.len() {
-            self.seen = read_items(tables, names, &items[start..]);
+            self.seen = read_items(tables, names, &items[start..], rest_of(found, start));
         }
     }
 
-    /// The same for the first items of the entries from one on.
+    /// The same for the first items of the entries from one on. What is given is found for their first items.
     #[inline]
-    pub(crate) fn read_entries(&mut self, tables: &Tables, names: &Numbering, start: usize) {
+    pub(crate) fn read_entries(
+        &mut self,
+        tables: &Tables,
+        names: Option<&Numbering>,
+        found: &[Option<Target>],
+        start: usize,
+    ) {
         let entries = tables.aliases();
         if self.is_worth && start % BLOCK == 0 && start < entries.len() {
-            self.seen = read_entries(tables, names, &entries[start..]);
+            self.seen = read_entries(tables, names, &entries[start..], found);
         }
     }
 
-    /// The same for the recipients from one on.
+    /// The same for the recipients from one on. What is given is found for the first of all.
     #[inline]
     pub(crate) fn read_recipients(
         &mut self,
         tables: &Tables,
-        names: &Numbering,
+        names: Option<&Numbering>,
         recipients: &[Address],
+        found: &[Option<Target>],
         start: usize,
     ) {
         if self.is_worth && start % BLOCK == 0 && start < recipients.len() {
-            self.seen = read_recipients(tables, names, &recipients[start..]);
+            self.seen = read_recipients(tables, names, &recipients[start..], rest_of(found, start));
         }
     }
 }

@@ -1,15 +1,16 @@
 //! The nodes of a graph, and a row of numbers for each entry.
-ghost use Rattle.std.specs.Prelude.{◌≡◌, ◌<◌, ◌≤◌, ◌^◌, length, IfOk, OnOk, Err};
+ghost use Rattle.std.specs.Prelude.{◌≡◌, ◌<◌, ◌≤◌, ◌^◌, length, map, IfOk, OnOk, Err};
 ghost use Rattle.relay_tables.specs.Graphs.{nodes_of};
+ghost use Rattle.relay_tables.specs.Looking.{recipient_found, found_from, AreFirst};
 ghost use Rattle.relay_tables.specs.Building.{AreRows};
 
 use crate::adjacency::Adjacency;
-use crate::ahead::Ahead;
 use crate::fault::TableFault;
 use crate::node::Node;
 use crate::numbering::Numbering;
 use crate::rowing::{Scratch, number_aliases, number_includes, number_recipients};
 use crate::tables::Tables;
+use crate::target::Target;
 use relay_text::Address;
 use std::alloc::Global;
 
@@ -39,6 +40,11 @@ fn include_items(tables: &Tables) -> usize {
     count
 }
 
+/// How many items all entries have.
+pub(crate) fn item_count(tables: &Tables) -> usize {
+    alias_items(tables).saturating_add(include_items(tables))
+}
+
 // How many targets are expected: as many as there are items and recipients, but no more than `most`, and at least 1.
 fn expected(items: usize, recipients: usize, most: usize) -> usize
     ensures { 1 ≤ result }
@@ -46,35 +52,66 @@ fn expected(items: usize, recipients: usize, most: usize) -> usize
     items.saturating_add(recipients).min(most).max(1)
 }
 
-/// The rows of the tables and recipients, where there are at most `names` nodes.
+// How many items are to be numbered: where something is found for them, it's found for all.
+fn known_count(tables: &Tables, found: &[Option<Target>]) -> usize {
+    if found.is_empty() {
+        item_count(tables)
+    } else {
+        found.len()
+    }
+}
+
+/// The rows of the tables and recipients, where there are at most `names` nodes. What is found for the first items and for the first
+/// recipients may be given; the others are looked up.
 pub(crate) fn number_all(
     alloc: Global,
     tables: &Tables,
     recipients: &[Address],
+    items: &[Option<Target>],
+    addresses: &[Option<Target>],
     names: usize,
 ) -> Result<Rows, TableFault>
-    requires { names ≤ 2 ^ 24 }
+    requires names { names ≤ 2 ^ 24 }
+    requires items { AreFirst items.now (found_from tables.now 0) }
+    requires addresses { AreFirst addresses.now (map (recipient_found tables.now) recipients.now) }
     ensures rows { IfOk result (λ rows. AreRows tables.now recipients.now rows.nodes.items rows.children rows.roots.items) }
     ensures within { OnOk result (length (nodes_of tables.now recipients.now) ≤ names) }
     ensures few { IfOk result (λ rows. length rows.nodes.items ≤ names) }
     ensures full { result ≡ Err TableFault.TooManyNames → names < length (nodes_of tables.now recipients.now) }
     ensures owners { result ≡ Err TableFault.TooManyOwners → ⊥ }
 {
-    let items = alias_items(tables).saturating_add(include_items(tables));
-    let heads = expected(items, recipients.len(), names);
+    let count = known_count(tables, items);
+    let heads = expected(count, recipients.len(), names);
     let aliases = tables.aliases().len();
     let includes = tables.includes().len();
     let mut numbering = Numbering::new(alloc, tables.key(), aliases, includes, heads, names)?;
-    let mut scratch = Scratch {
-        name: Vec::new(alloc),
-        row: Vec::new(alloc),
-        ahead: Ahead::of(heads),
-    };
+    let mut scratch = Scratch::new(alloc, heads);
     let entries = aliases.saturating_add(includes);
     let mut children = Adjacency::with_capacity(alloc, entries)?;
-    number_aliases(alloc, tables, &mut numbering, &mut scratch, &mut children)?;
-    number_includes(alloc, tables, &mut numbering, &mut scratch, &mut children)?;
-    let roots = number_recipients(alloc, tables, recipients, &mut numbering, &mut scratch)?;
+    let rest = number_aliases(
+        alloc,
+        tables,
+        items,
+        &mut numbering,
+        &mut scratch,
+        &mut children,
+    )?;
+    number_includes(
+        alloc,
+        tables,
+        rest,
+        &mut numbering,
+        &mut scratch,
+        &mut children,
+    )?;
+    let roots = number_recipients(
+        alloc,
+        tables,
+        recipients,
+        addresses,
+        &mut numbering,
+        &mut scratch,
+    )?;
     Ok(Rows {
         nodes: numbering.into_nodes(),
         children,

@@ -38,7 +38,7 @@ impl TableCounts {
         ensures refusal { Refuses result (refusal_of tables.now [] names owners) }
     {
         let no_recipients: &[Address] = &[];
-        let rows = number_all(alloc, tables, no_recipients, names)?;
+        let rows = number_all(alloc, tables, no_recipients, &[], &[], names)?;
         let owned = count_owners(tables);
         if owned > owners {
             return Err(TableFault::TooManyOwners);

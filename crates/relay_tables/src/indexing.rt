@@ -28,11 +28,11 @@ pub(crate) fn entry_links(alloc: Global, key: u64, entries: &[Entry]) -> Result<
     requires { length entries.now < 2 ^ 32 - 2 }
     ensures { IfOk result (λ links. links ≡ map (name_hash key) entries.now) }
 {
-    let mut links = Links::new(alloc, 2 * entries.len() + 1)?;
+    let mut hashes = Vec::with_capacity(alloc, entries.len())?;
     for entry in entries {
-        links.push(hash_text(key, entry.name.as_bytes()))?;
+        hashes.push_reserved(hash_text(key, entry.name.as_bytes()));
     }
-    Ok(links)
+    Links::of(alloc, &hashes)
 }
 
 /// The hashes of the include files' paths.
@@ -44,11 +44,11 @@ pub(crate) fn include_links(
     requires { length includes.now < 2 ^ 32 - 2 }
     ensures { IfOk result (λ links. links ≡ map (path_hash key) includes.now) }
 {
-    let mut links = Links::new(alloc, 2 * includes.len() + 1)?;
+    let mut hashes = Vec::with_capacity(alloc, includes.len())?;
     for include in includes {
-        links.push(hash_text(key, include.path.as_bytes()))?;
+        hashes.push_reserved(hash_text(key, include.path.as_bytes()));
     }
-    Ok(links)
+    Links::of(alloc, &hashes)
 }
 
 /// The hashes of the mailboxes' names.
@@ -56,11 +56,11 @@ pub(crate) fn mailbox_links(alloc: Global, key: u64, names: &[Text]) -> Result<L
     requires { length names.now < 2 ^ 32 - 2 }
     ensures { IfOk result (λ links. links ≡ map (text_hash key) names.now) }
 {
-    let mut links = Links::new(alloc, 2 * names.len() + 1)?;
+    let mut hashes = Vec::with_capacity(alloc, names.len())?;
     for name in names {
-        links.push(hash_text(key, name.as_bytes()))?;
+        hashes.push_reserved(hash_text(key, name.as_bytes()));
     }
-    Ok(links)
+    Links::of(alloc, &hashes)
 }
 
 /// The place of the first entry of a name with this hash.

@@ -10,14 +10,13 @@ ghost use Rattle.relay_tables.specs.Sending.{IsOwnedBy};
 ghost use Rattle.relay_tables.specs.Reaches.{owner_at, MayAddSender, AreFound, IsReach};
 
 use crate::adjacency::Adjacency;
-use crate::ahead::Ahead;
 use crate::fault::TableFault;
+use crate::listed::items_of;
 use crate::node::Node;
 use crate::numbering::Numbering;
 use crate::rowing::{Scratch, number_items, number_recipients};
 use crate::sending::{SenderList, number_owner};
 use crate::tables::Tables;
-use relay_aliasfile::Item;
 use relay_text::Address;
 use std::alloc::{AllocError, Global};
 
@@ -34,13 +33,6 @@ pub(crate) struct Reach {
     pub(crate) senders: SenderList,
     pub(crate) owners: Vec<Option<u32>>,
     pub(crate) scratch: Scratch,
-}
-
-// The items that a node leads to, and the alias that they stand in.
-#[derive(Clone, Copy)]
-struct Items<'a> {
-    items: &'a [Item],
-    parent: Option<u32>,
 }
 
 /// All that recipients lead to, where that is at most `names` nodes: a row for each node, in the order of their numbers.
@@ -81,18 +73,15 @@ fn reach_roots(
 {
     let heads = recipients.len().max(FEW);
     let mut numbering = Numbering::new(alloc, tables.key(), 0, 0, heads, names)?;
-    let mut scratch = Scratch {
-        name: Vec::new(alloc),
-        row: Vec::new(alloc),
-        ahead: Ahead::of(heads),
-    };
-    let roots = number_recipients(alloc, tables, recipients, &mut numbering, &mut scratch)?;
+    let mut scratch = Scratch::new(alloc, heads);
+    let roots = number_recipients(alloc, tables, recipients, &[], &mut numbering, &mut scratch)?;
+    let owners = Vec::new(alloc);
     Ok(Reach {
         names: numbering,
         roots,
         children: Adjacency::with_capacity(alloc, FEW)?,
         senders: SenderList::new(alloc, 1, sender)?,
-        owners: Vec::new(alloc),
+        owners,
         scratch,
     })
 }
@@ -112,12 +101,12 @@ fn reach_more(alloc: Global, tables: &Tables, found: &mut Reach) -> Result<(), T
     let node = found.names.node(number);
     let owner = number_sender(alloc, tables, node, &mut found.senders)?;
     found.owners.push(owner)?;
-    let Items { items, parent } = items_of(tables, node);
+    let list = items_of(tables, node);
     number_items(
         alloc,
         tables,
-        items,
-        parent,
+        list,
+        &[],
         &mut found.names,
         &mut found.scratch,
     )?;
@@ -145,34 +134,5 @@ fn number_sender(
             }
         }
         _ => Ok(None),
-    }
-}
-
-// The items of an alias or an include file of the tables; nothing else has any.
-fn items_of<'a>(tables: &'a Tables, node: &Node) -> Items<'a>
-    ensures targets { targets_of tables.now node.now ≡ map (item_target tables.now result.parent) result.items.now }
-    ensures good { IsTrue (list_all is_good_item result.items.now) }
-    ensures parent { IfSome result.parent (λ number. number < length tables.now.aliases) }
-{
-    let none = Items {
-        items: &[],
-        parent: None,
-    };
-    match node {
-        Node::Alias(number) => match tables.aliases().get(*number as usize) {
-            Some(entry) => Items {
-                items: entry.items.as_slice(),
-                parent: Some(*number),
-            },
-            None => none,
-        },
-        Node::Include(number) => match tables.includes().get(*number as usize) {
-            Some(include) => Items {
-                items: include.items.as_slice(),
-                parent: None,
-            },
-            None => none,
-        },
-        _ => none,
     }
 }

@@ -4,6 +4,7 @@ ghost use Rattle.std.specs.List.{list_all, range_with_len};
 ghost use Rattle.relay_tables.specs.declared.node.Node.TheVariants.{Alias, Include};
 ghost use Rattle.relay_tables.specs.Parts.{is_good_item};
 ghost use Rattle.relay_tables.specs.Targets.{item_target, recipient_target, targets_of};
+ghost use Rattle.relay_tables.specs.Looking.{item_found, recipient_found, found_from, AreFirst};
 ghost use Rattle.relay_tables.specs.Numbering.{Numbers};
 ghost use Rattle.relay_tables.specs.Rowing.{nodes_in, some_of, Adds};
 
@@ -11,11 +12,14 @@ use crate::adjacency::Adjacency;
 use crate::ahead::Ahead;
 use crate::fault::TableFault;
 use crate::leading::{number_address, number_item};
+use crate::listed::Listed;
+use crate::looking::{target_of_address, target_of_item};
 use crate::numbering::Numbering;
 use crate::tables::Tables;
+use crate::target::Target;
 use relay_aliasfile::Item;
 use relay_text::Address;
-use std::alloc::Global;
+use std::alloc::{AllocError, Global};
 
 /// What is written over for each row: a folded name, and the numbers of a row; and what reads for the look-ups ahead.
 #[derive(Drop)]
@@ -25,82 +29,167 @@ pub(crate) struct Scratch {
     pub(crate) ahead: Ahead,
 }
 
-/// The numbers of the targets of items that stand in a parent, in their order, with repeats: they go into the scratch's row.
+impl Scratch {
+    /// For about so many look-ups.
+    pub(crate) fn new(alloc: Global, lookups: usize) -> Scratch {
+        Scratch {
+            name: Vec::new(alloc),
+            row: Vec::new(alloc),
+            ahead: Ahead::of(lookups),
+        }
+    }
+}
+
+// What is found for an item: what stands in its place, or what is looked up now.
+fn item_found_at(
+    tables: &Tables,
+    found: &[Option<Target>],
+    place: usize,
+    item: &Item,
+    parent: Option<u32>,
+    name: &mut Vec<u8>,
+) -> Result<Option<Target>, AllocError>
+    requires parent { IfSome parent (λ number. number < length tables.now.aliases) }
+    requires found { IfSome (slice_get found.now place) (λ target. target ≡ item_found tables.now parent item.now) }
+    ensures { IfOk result (λ target. target ≡ item_found tables.now parent item.now) }
+{
+    match found.get(place) {
+        Some(target) => Ok(*target),
+        None => target_of_item(tables, item, parent, name),
+    }
+}
+
+// The same for a recipient.
+fn recipient_found_at(
+    tables: &Tables,
+    found: &[Option<Target>],
+    place: usize,
+    address: &Address,
+    name: &mut Vec<u8>,
+) -> Result<Option<Target>, AllocError>
+    requires found { IfSome (slice_get found.now place) (λ target. target ≡ recipient_found tables.now address.now) }
+    ensures { IfOk result (λ target. target ≡ recipient_found tables.now address.now) }
+{
+    match found.get(place) {
+        Some(target) => Ok(*target),
+        None => target_of_address(tables, address, None, name),
+    }
+}
+
+/// The numbers of the targets of items, in their order, with repeats: they go into the scratch's row. What is found for the first of them
+/// may be given; the others are looked up.
 pub(crate) fn number_items(
     alloc: Global,
     tables: &Tables,
-    items: &[Item],
-    parent: Option<u32>,
+    list: Listed<'_>,
+    found: &[Option<Target>],
     names: &mut Numbering,
     scratch: &mut Scratch,
 ) -> Result<(), TableFault>
-    requires items { IsTrue (list_all is_good_item items.now) }
-    requires parent { IfSome parent (λ number. number < length tables.now.aliases) }
-    ensures row { OnOk result (nodes_in names.new.nodes scratch.new.row.items ≡ some_of (map (item_target tables.now parent) items.now)) }
-    ensures numbers { Numbers names.old (map (item_target tables.now parent) items.now) result names.new }
+    requires items { IsTrue (list_all is_good_item list.items.now) }
+    requires parent { IfSome list.parent (λ number. number < length tables.now.aliases) }
+    requires found { AreFirst found.now (map (item_found tables.now list.parent) list.items.now) }
+    ensures row { OnOk result (nodes_in names.new.nodes scratch.new.row.items ≡ some_of (map (item_target tables.now list.entry.parent) list.entry.items.now)) }
+    ensures numbers { Numbers names.old (map (item_target tables.now list.entry.parent) list.entry.items.now) result names.new }
 {
+    let Listed { items, parent } = list;
     scratch.row.clear();
     for item in items {
         let start = scratch.row.len();
-        scratch.ahead.read_items(tables, names, items, start);
-        let number = number_item(alloc, tables, item, parent, names, &mut scratch.name)?;
+        scratch
+            .ahead
+            .read_items(tables, Some(names), items, found, start);
+        let target = item_found_at(tables, found, start, item, parent, &mut scratch.name)?;
+        let number = number_item(alloc, tables, item, target, names, &mut scratch.name)?;
         scratch.row.push(number)?;
     }
     Ok(())
 }
 
-/// A row behind these for each alias, in order: the targets of its items.
-pub(crate) fn number_aliases(
+/// A row behind these for each alias, in order: the targets of its items. What is found for the first items of all entries may be given;
+/// what is found for the include files comes back.
+pub(crate) fn number_aliases<'a>(
     alloc: Global,
     tables: &Tables,
+    found: &'a [Option<Target>],
     names: &mut Numbering,
     scratch: &mut Scratch,
     rows: &mut Adjacency,
-) -> Result<(), TableFault>
+) -> Result<&'a [Option<Target>], TableFault>
     requires room { length rows.old + length tables.now.aliases < 2 ^ 31 }
+    requires found { AreFirst found.now (found_from tables.now 0) }
+    ensures rest { IfOk result (λ rest. AreFirst rest.now (found_from tables.now (length tables.now.aliases))) }
     ensures count { OnOk result (length rows.new ≡ length rows.old + length tables.now.aliases) }
     ensures rows { OnOk result (Adds names.old.nodes rows.old (map (λ n. targets_of tables.now (Alias n)) (range_with_len 0 (length tables.now.aliases))) names.new.nodes rows.new) }
     ensures numbers { Numbers names.old (flat_map (λ n. targets_of tables.now (Alias n)) (range_with_len 0 (length tables.now.aliases))) result names.new }
 {
     let entries = tables.aliases();
+    let mut rest = found;
     for number in 0..entries.len() {
-        scratch.ahead.read_entries(tables, names, number);
+        scratch
+            .ahead
+            .read_entries(tables, Some(names), rest, number);
         let items = entries[number].items.as_slice();
-        number_items(alloc, tables, items, Some(number as u32), names, scratch)?;
+        let parent = Some(number as u32);
+        let (part, others) = rest.split_at(items.len().min(rest.len()));
+        number_items(
+            alloc,
+            tables,
+            Listed { items, parent },
+            part,
+            names,
+            scratch,
+        )?;
         rows.push(&scratch.row)?;
+        rest = others;
     }
-    Ok(())
+    Ok(rest)
 }
 
-/// A row behind these for each include file, in order: the targets of its items.
+/// A row behind these for each include file, in order: the targets of its items. What is found for the first of them may be given.
 pub(crate) fn number_includes(
     alloc: Global,
     tables: &Tables,
+    found: &[Option<Target>],
     names: &mut Numbering,
     scratch: &mut Scratch,
     rows: &mut Adjacency,
 ) -> Result<(), TableFault>
     requires room { length rows.old + length tables.now.includes < 2 ^ 31 }
+    requires found { AreFirst found.now (found_from tables.now (length tables.now.aliases)) }
     ensures rows { OnOk result (Adds names.old.nodes rows.old (map (λ n. targets_of tables.now (Include n)) (range_with_len 0 (length tables.now.includes))) names.new.nodes rows.new) }
     ensures numbers { Numbers names.old (flat_map (λ n. targets_of tables.now (Include n)) (range_with_len 0 (length tables.now.includes))) result names.new }
 {
     let includes = tables.includes();
+    let mut rest = found;
     for number in 0..includes.len() {
         let items = includes[number].items.as_slice();
-        number_items(alloc, tables, items, None, names, scratch)?;
+        let parent = None;
+        let (part, others) = rest.split_at(items.len().min(rest.len()));
+        number_items(
+            alloc,
+            tables,
+            Listed { items, parent },
+            part,
+            names,
+            scratch,
+        )?;
         rows.push(&scratch.row)?;
+        rest = others;
     }
     Ok(())
 }
 
-/// The recipients' targets, in order, with repeats.
+/// The recipients' targets, in order, with repeats. What is found for the first of them may be given.
 pub(crate) fn number_recipients(
     alloc: Global,
     tables: &Tables,
     recipients: &[Address],
+    found: &[Option<Target>],
     names: &mut Numbering,
     scratch: &mut Scratch,
 ) -> Result<Vec<u32>, TableFault>
+    requires found { AreFirst found.now (map (recipient_found tables.now) recipients.now) }
     ensures roots { IfOk result (λ roots. nodes_in names.new.nodes roots.items ≡ some_of (map (recipient_target tables.now) recipients.now)) }
     ensures numbers { Numbers names.old (map (recipient_target tables.now) recipients.now) result names.new }
 {
@@ -109,8 +198,9 @@ pub(crate) fn number_recipients(
         let start = roots.len();
         scratch
             .ahead
-            .read_recipients(tables, names, recipients, start);
-        let number = number_address(alloc, tables, address, None, names, &mut scratch.name)?;
+            .read_recipients(tables, Some(names), recipients, found, start);
+        let target = recipient_found_at(tables, found, start, address, &mut scratch.name)?;
+        let number = number_address(alloc, tables, address, target, names, &mut scratch.name)?;
         roots.push(number)?;
     }
     Ok(roots)

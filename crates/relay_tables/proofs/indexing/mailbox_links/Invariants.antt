@@ -1,7 +1,9 @@
-use Rattle.std.proofs.Common.{◌≡◌, map, take}
+use Rattle.std.proofs.Common.{◌≡◌, ◌+◌, ◌-◌, ◌≤◌, length, map, take, vec_capacity, vec_len}
 use Rattle.relay_chains.specs.TextHash.{text_hash}
 use Rattle.relay_tables.proofs.indexing.mailbox_links.Given as goal
 
--- the hashes of the first
 abbrev pub invariant-loop-name : goal.invariant-loop-name
-invariant-loop-name l = l.links ≡ map (text_hash l.key) (take l.name-index l.names)
+invariant-loop-name l = record {
+  hashes : l.hashes.items ≡ map (text_hash l.key) (take l.name-index l.names);
+  room : vec_len l.hashes + (length l.names - l.name-index) ≤ vec_capacity l.hashes;
+}

@@ -24,4 +24,4 @@ returns-clause-reach c =
     let rs = c.args.recipients.now in
     let s : Numbered = c.in_ok-numbering.numbering in
     let none : s.nodes ≡ [] = ap (λ (m : Numbered). m.nodes) c.in_ok-numbering.ensures.made in
-    reach_start d _ rs _ s none (c.numbering.view_is ∙ c.in_ok-roots.ensures.numbers) (ap (λ (m : Numbered). nodes_in m.nodes c.in_ok-roots.roots.items) c.numbering.view_is ∙ c.in_ok-roots.ensures.roots) c.in_ok-with_capacity.ensures c.in_ok-new.ensures c.new-5.ensures.items
+    reach_start d _ rs _ s none (c.numbering.view_is ∙ c.in_ok-roots.ensures.numbers) (ap (λ (m : Numbered). nodes_in m.nodes c.in_ok-roots.roots.items) c.numbering.view_is ∙ c.in_ok-roots.ensures.roots) c.in_ok-with_capacity.ensures c.in_ok-new.ensures c.new-owners.ensures.items

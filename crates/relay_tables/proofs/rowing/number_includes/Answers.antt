@@ -1,4 +1,4 @@
-use Rattle.std.proofs.Common.{arith, ◌≡◌, ℕ, ◌+◌, ◌<◌, List, [], ◌∷◌, ◌++◌, length, map, None, Err, sym, ap, ◌∙◌, subst}
+use Rattle.std.proofs.Common.{arith, ◌≡◌, ℕ, ◌+◌, ◌<◌, List, [], ◌∷◌, ◌++◌, length, map, Option, None, Err, sym, ap, ◌∙◌, subst}
 use Rattle.std.specs.List.{flat_map, range_with_len}
 use Rattle.std.proofs.lemmas.List.{length_push}
 use Rattle.std.proofs.lemmas.List.FromFn.{map-range_with_len_more}
@@ -6,14 +6,17 @@ use Rattle.std.proofs.lemmas.Result.{err_from_is_err_and}
 use Rattle.relay_tables.specs.declared.node.Node.{Node}
 use Rattle.relay_tables.specs.declared.node.Node.TheVariants.{Include}
 use Rattle.relay_tables.specs.Targets.{item_target, targets_of}
+use Rattle.relay_tables.specs.declared.target.Target.{Target}
+use Rattle.relay_tables.specs.Looking.{item_found, found_from, AreFirst}
 use Rattle.relay_tables.specs.Numbering.{Numbered, Numbers, with_all}
 use Rattle.relay_tables.specs.Rowing.{nodes_in, some_of, Adds}
+use Rattle.relay_tables.proofs.Looks.{include_cut}
 use Rattle.relay_tables.proofs.Runs.{flat_run_more}
 use Rattle.relay_tables.proofs.RowSteps.{with_all-none, with_all-more, refused, adds_none, adds_more, flat_split, include_targets, include_items_good}
 use Rattle.relay_tables.proofs.rowing.number_includes.Goals as goal
 
 pub loop-number-init : goal.loop-number-init
-loop-number-init c = record { count = omega arith; names = sym (with_all-none c.args.names.now); rows = adds_none c.args.names.now.nodes c.args.rows.now }
+loop-number-init c = record { count = omega arith; found = subst (λ (k : ℕ). AreFirst c.args.found.now (found_from c.args.tables.now k)) (omega arith) c.requires.found; names = sym (with_all-none c.args.names.now); rows = adds_none c.args.names.now.nodes c.args.rows.now }
 
 pub number_items-requires-clause-items : goal.number_items-requires-clause-items
 number_items-requires-clause-items c =
@@ -37,7 +40,7 @@ returns-in_err-number_items-clause-numbers c =
     (refused (Unit {0}) (Unit {0}) e c.args.names.now l.names new new (flat_map f (range_with_len 0 l.number)) (f l.number) split.0 (flat_map f (range_with_len 0 (length d.includes))) l.invariant.names split.1 h)
 
 pub push-requires : goal.push-requires
-push-requires c = omega (arith, c.loop-number.invariant.count, ap length c.includes-includes.ensures.entries, c.requires)
+push-requires c = omega (arith, c.loop-number.invariant.count, ap length c.includes-includes.ensures.entries, c.requires.room)
 
 pub loop-number-preserved : goal.loop-number-preserved
 loop-number-preserved c =
@@ -55,8 +58,18 @@ loop-number-preserved c =
     adds_more s.nodes l.names.nodes new.nodes c.args.rows.now l.rows (map f (range_with_len 0 l.number)) c.deref.result.now (f l.number) l.invariant.rows (ap (λ (m : Numbered). m.nodes) step) row in
     let pushed : Adds s.nodes c.args.rows.now (map f (range_with_len 0 l.number) ++ f l.number ∷ []) new.nodes c.push.new.self =
     subst (λ (rs : List (List ℕ)). Adds s.nodes c.args.rows.now (map f (range_with_len 0 l.number) ++ f l.number ∷ []) new.nodes rs) (sym c.in_ok-push.ensures.ok) added in
+    let cut = include_cut d l.number c.includes-includes.result.now c.index-includes-number.result c.as_slice-items.result.now l.rest.now c.min.result c.includes-includes.ensures.entries c.loop-number-test.true c.index-includes-number.is c.as_slice-items.ensures c.min.ensures l.invariant.found in
     record {
+      found = subst (λ (found : List (Option Target)). AreFirst found (found_from d (length d.aliases + (l.number + 1)))) (sym c.split_at.ensures.back) cut.1;
       count = omega (arith, l.invariant.count, ap length c.in_ok-push.ensures.ok, length_push l.rows c.deref.result.now);
       names = with_all-more s l.names new (flat_map f (range_with_len 0 l.number)) (f l.number) (flat_map f (range_with_len 0 (l.number + 1))) l.invariant.names step (flat_run_more f l.number);
       rows = subst (λ (tss : List (List Node)). Adds s.nodes c.args.rows.now tss new.nodes c.push.new.self) (sym more) pushed;
     }
+
+pub number_items-requires-clause-found : goal.number_items-requires-clause-found
+number_items-requires-clause-found c =
+    let l = c.loop-number in
+    let d = c.args.tables.now in
+    let items = c.as_slice-items.result.now in
+    let cut = include_cut d l.number c.includes-includes.result.now c.index-includes-number.result items l.rest.now c.min.result c.includes-includes.ensures.entries c.loop-number-test.true c.index-includes-number.is c.as_slice-items.ensures c.min.ensures l.invariant.found in
+    subst (λ (found : List (Option Target)). AreFirst found (map (item_found d None) items)) (sym c.split_at.ensures.front) cut.0

@@ -1,0 +1,224 @@
+-- Lemmas on what is found of names.
+use Rattle.std.proofs.Common.{◌≡◌, ℕ, zero, suc, ◌+◌, ◌-◌, ◌<◌, ◌≤◌, ◌⊎◌, inl, inr, min, Bool, true, false, cond, Option, Some, None, List, [], ◌∷◌, ◌++◌, length, map, get_or, take, drop, slice_get, refl, sym, ap, ◌∙◌, subst, arith}
+use Rattle.std.specs.Prelude.{IfSome, option_map}
+use Rattle.std.specs.List.{flat_map}
+use Rattle.std.specs.Char.{to_ascii_lowercase}
+use Rattle.std.proofs.lemmas.List.{append_assoc, append-nil, length-take, length-map, take-append-drop, take_all, drop_all, take-take, drop-drop, take_at, drop_at, take-append-le, drop-append-le, drop_more, drop-take, take-map, drop-map}
+use Rattle.std.proofs.Math.Seq.{take-append-add, drop-append-add, drop-nil}
+use Rattle.std.proofs.lemmas.Bool.{cases_lt}
+use Rattle.std.proofs.lemmas.Option.{slice_get_read, slice_get-map, same_Some}
+use Rattle.std.proofs.lemmas.Str.Ascii.{lowercase-lowercase}
+use Rattle.relay_text.specs.Bytes.{folded}
+use Rattle.relay_text.specs.AddressParts.{AddressParts}
+use Rattle.relay_aliasfile.specs.declared.item.Item.{Item}
+use Rattle.relay_aliasfile.specs.declared.item.Item.TheVariants.{Bare, Full, Include as Included, Command as Piped, File as Stored}
+use Rattle.relay_aliasfile.specs.declared.entry.Entry.{Entry}
+use Rattle.relay_tables.specs.declared.include_entry.IncludeEntry.{IncludeEntry}
+use Rattle.relay_tables.specs.declared.target.Target.{Target}
+use Rattle.relay_tables.specs.declared.node.Node.{Node}
+use Rattle.relay_tables.specs.declared.node.Node.TheVariants.{Alias, Include, Remote}
+use Rattle.relay_tables.specs.Directory.{Directory}
+use Rattle.relay_tables.specs.Targets.{is_local_address, name_target, address_target, item_target, items_of_entry, items_of_include}
+use Rattle.relay_tables.specs.Graphs.{entry_nodes}
+use Rattle.relay_tables.specs.Rowing.{nodes_in, some_of}
+use Rattle.relay_tables.specs.Looking.{name_found, address_found, item_found, node_found, found_from, address_node, item_node, AreFirst}
+use Rattle.relay_tables.proofs.Numbers.{length-entries, entry_alias, entry_include}
+use Rattle.relay_tables.proofs.Turning.{map_after}
+
+-- what is folded stays as it is
+pub folded-folded : (name : List ℕ) → folded (folded name) ≡ folded name
+folded-folded name = map_after to_ascii_lowercase to_ascii_lowercase to_ascii_lowercase lowercase-lowercase name
+
+module _ (d : Directory) where
+  -- what is found leads where it should
+  pub address_leads : (parent : Option ℕ) (a : AddressParts) → address_node d a (address_found d parent a) ≡ address_target d parent a
+  address_leads parent a = at (is_local_address d.local a) where
+    at : (b : Bool) → address_node d a (cond b (Some (name_found d parent a.local)) None) ≡ cond b (name_target d parent a.local) (Remote a)
+    at true = refl
+    at false = refl
+
+  pub item_leads : (parent : Option ℕ) (item : Item) → item_node d item (item_found d parent item) ≡ item_target d parent item
+  item_leads parent (Bare name) = refl
+  item_leads parent (Full a) = address_leads parent a
+  item_leads parent (Included path) = refl
+  item_leads parent (Piped text) = refl
+  item_leads parent (Stored path) = refl
+
+  -- what is found for the entries from one on is what is found for that one, and then for the others
+  found_more : (k : ℕ) (n : Node) → k < length (entry_nodes d) → get_or (entry_nodes d) k n ≡ n → found_from d k ≡ node_found d n ++ found_from d (k + 1)
+  unfolding found_from
+  found_more k n below is =
+      ap (flat_map (node_found d)) (drop_more (entry_nodes d) k n below ∙ ap (λ (m : Node). m ∷ drop (k + 1) (entry_nodes d)) is)
+
+  pub alias_found_more : (k : ℕ) → k < length d.aliases → found_from d k ≡ node_found d (Alias k) ++ found_from d (k + 1)
+  alias_found_more k below = found_more k (Alias k) (omega (arith, length-entries (length d.aliases) (length d.includes))) (entry_alias (length d.aliases) (length d.includes) k below)
+
+  pub include_found_more : (k : ℕ) → k < length d.includes → found_from d (length d.aliases + k) ≡ node_found d (Include k) ++ found_from d (length d.aliases + (k + 1))
+  include_found_more k below =
+      found_more (length d.aliases + k) (Include k) (omega (arith, length-entries (length d.aliases) (length d.includes))) (entry_include (length d.aliases) (length d.includes) k below)
+      ∙ ap (λ (m : ℕ). node_found d (Include k) ++ found_from d m) (omega arith)
+
+  pub found_none : (k : ℕ) → length d.aliases + length d.includes ≤ k → found_from d k ≡ []
+  unfolding found_from
+  found_none k past = ap (flat_map (node_found d)) (drop_all k (entry_nodes d) (omega (arith, length-entries (length d.aliases) (length d.includes))))
+
+-- what is found for the items of an alias, and of an include file
+pub alias_found : (d : Directory) (k : ℕ) (entries : List Entry) (x : Entry) (items : List Item) → entries ≡ d.aliases → k < length entries → x ≡ get_or entries k x → items ≡ (get_or entries k x).items
+    → node_found d (Alias k) ≡ map (item_found d (Some k)) items
+alias_found d k entries x items are below at is =
+    let there : slice_get d.aliases k ≡ Some x = ap (λ (es : List Entry). slice_get es k) (sym are) ∙ slice_get_read entries (length entries) k x refl below at in
+    ap (λ (e : Option Entry). map (item_found d (Some k)) (items_of_entry d e)) there ∙ ap (map (item_found d (Some k))) (sym (is ∙ ap (λ (e : Entry). e.items) (sym at)))
+
+pub include_found : (d : Directory) (k : ℕ) (entries : List IncludeEntry) (x : IncludeEntry) (items : List Item) → entries ≡ d.includes → k < length entries → x ≡ get_or entries k x → items ≡ (get_or entries k x).items
+    → node_found d (Include k) ≡ map (item_found d None) items
+include_found d k entries x items are below at is =
+    let there : slice_get d.includes k ≡ Some x = ap (λ (es : List IncludeEntry). slice_get es k) (sym are) ∙ slice_get_read entries (length entries) k x refl below at in
+    ap (λ (e : Option IncludeEntry). map (item_found d None) (items_of_include d e)) there ∙ ap (map (item_found d None)) (sym (is ∙ ap (λ (e : IncludeEntry). e.items) (sym at)))
+
+-- The first of some are the first of all.
+pub first_whole : (found all : List (Option Target)) → AreFirst found all → all ≡ found ++ drop (length found) all
+first_whole found all first = sym (take-append-drop (length found) all) ∙ ap (λ (xs : List (Option Target)). xs ++ drop (length found) all) (sym first)
+
+pub first_from : (found more all : List (Option Target)) → all ≡ found ++ more → AreFirst found all
+first_from found more all is = sym (take_at found more (length found) refl) ∙ ap (take (length found)) (sym is)
+
+pub first_none : (all : List (Option Target)) → AreFirst [] all
+first_none all = first_from [] all all refl
+
+pub first_of_take : (n : ℕ) (all : List (Option Target)) → AreFirst (take n all) all
+first_of_take n all = first_from (take n all) (drop n all) all (sym (take-append-drop n all))
+
+pub first_at : (found all : List (Option Target)) (k : ℕ) (t : Option Target) → AreFirst found all → slice_get found k ≡ Some t → slice_get all k ≡ Some t
+first_at found all k t first at =
+    ap (λ (xs : List (Option Target)). slice_get xs k) (first_whole found all first) ∙ in_front found (drop (length found) all) k at where
+      in_front : (xs ys : List (Option Target)) (k : ℕ) → slice_get xs k ≡ Some t → slice_get (xs ++ ys) k ≡ Some t
+      in_front [] ys k e = cc
+      in_front (x ∷ xs) ys zero e = e
+      in_front (x ∷ xs) ys (suc k) e = in_front xs ys k e
+
+-- The first of what is found for a list and others, cut behind the list or at their own end, are the first of both.
+pub first_cut : (found xs ys : List (Option Target)) (k : ℕ) → k ≡ min (length xs) (length found) → AreFirst found (xs ++ ys) → AreFirst (take k found) xs × AreFirst (drop k found) ys
+first_cut found xs ys k at first = pick (cases_lt (length found) (length xs)) where
+  rest : List (Option Target)
+  rest = drop (length found) (xs ++ ys)
+
+  whole : xs ++ ys ≡ found ++ drop (length found) (xs ++ ys)
+  whole = first_whole found (xs ++ ys) first
+
+  pick : (length found < length xs) ⊎ (length xs ≤ length found) → AreFirst (take k found) xs × AreFirst (drop k found) ys
+  pick (inl short) =
+      let front : take k found ≡ found = take_all k found (omega arith) in
+      let back : drop k found ≡ [] = drop_all k found (omega arith) in
+      let few : length found ≤ length xs = omega arith in
+      (subst (λ (fs : List (Option Target)). AreFirst fs xs) (sym front) (first ∙ take-append-le (length found) xs ys few), subst (λ (fs : List (Option Target)). AreFirst fs ys) (sym back) (first_none ys))
+  pick (inr long) =
+      let is : k ≡ length xs = omega arith in
+      let within : k ≤ length found = omega arith in
+      let front : take k found ≡ xs = sym (take-append-le k found (drop (length found) (xs ++ ys)) within) ∙ ap (take k) (sym whole) ∙ take_at xs ys k (sym is) in
+      let back : drop k found ++ drop (length found) (xs ++ ys) ≡ ys = sym (drop-append-le k found (drop (length found) (xs ++ ys)) within) ∙ ap (drop k) (sym whole) ∙ drop_at xs ys k (sym is) in
+      (first_from (take k found) [] xs (sym front ∙ sym (append-nil (take k found))), first_from (drop k found) (drop (length found) (xs ++ ys)) ys (sym back))
+
+-- cut behind the items of an alias, and of an include file
+pub alias_cut : (d : Directory) (k : ℕ) (entries : List Entry) (x : Entry) (items : List Item) (rest : List (Option Target)) (cut : ℕ) → entries ≡ d.aliases → k < length entries → x ≡ get_or entries k x → items ≡ (get_or entries k x).items
+    → cut ≡ min (length items) (length rest) → AreFirst rest (found_from d k) → AreFirst (take cut rest) (map (item_found d (Some k)) items) × AreFirst (drop cut rest) (found_from d (k + 1))
+alias_cut d k entries x items rest cut are below at is place first =
+    let more : found_from d k ≡ map (item_found d (Some k)) items ++ found_from d (k + 1) =
+    alias_found_more d k (omega (arith, ap length are)) ∙ ap (λ (found : List (Option Target)). found ++ found_from d (k + 1)) (alias_found d k entries x items are below at is) in
+    first_cut rest (map (item_found d (Some k)) items) (found_from d (k + 1)) cut (omega (arith, length-map items (item_found d (Some k)))) (subst (AreFirst rest) more first)
+
+pub include_cut : (d : Directory) (k : ℕ) (entries : List IncludeEntry) (x : IncludeEntry) (items : List Item) (rest : List (Option Target)) (cut : ℕ) → entries ≡ d.includes → k < length entries → x ≡ get_or entries k x → items ≡ (get_or entries k x).items
+    → cut ≡ min (length items) (length rest) → AreFirst rest (found_from d (length d.aliases + k)) → AreFirst (take cut rest) (map (item_found d None) items) × AreFirst (drop cut rest) (found_from d (length d.aliases + (k + 1)))
+include_cut d k entries x items rest cut are below at is place first =
+    let more : found_from d (length d.aliases + k) ≡ map (item_found d None) items ++ found_from d (length d.aliases + (k + 1)) =
+    include_found_more d k (omega (arith, ap length are)) ∙ ap (λ (found : List (Option Target)). found ++ found_from d (length d.aliases + (k + 1))) (include_found d k entries x items are below at is) in
+    first_cut rest (map (item_found d None) items) (found_from d (length d.aliases + (k + 1))) cut (omega (arith, length-map items (item_found d None))) (subst (AreFirst rest) more first)
+
+-- a target that stands in a place is what is found for what stands there
+pub found_here : {X : Type 0} (f : X → Option Target) (xs : List X) (found : List (Option Target)) (k : ℕ) (x : X) → AreFirst found (map f xs) → k < length xs → x ≡ get_or xs k x → IfSome (slice_get found k) (λ t. t ≡ f x)
+found_here {X} f xs found k x first below is = at (slice_get found k) refl where
+  there : slice_get (map f xs) k ≡ Some (f x)
+  there = slice_get-map f xs k ∙ ap (option_map f) (slice_get_read xs (length xs) k x refl below is)
+
+  at : (o : Option (Option Target)) → slice_get found k ≡ o → IfSome o (λ t. t ≡ f x)
+  at None e = tt
+  at (Some t) e = same_Some t (f x) (sym (first_at found (map f xs) k t first e) ∙ there)
+
+-- Parts of lists.
+take_both : {X : Type 0} (n : ℕ) (xs ys : List X) → take n (xs ++ ys) ≡ take n xs ++ take (n - length xs) ys
+take_both {X} n xs ys = pick (cases_lt (length xs) n) where
+  pick : (length xs < n) ⊎ (n ≤ length xs) → take n (xs ++ ys) ≡ take n xs ++ take (n - length xs) ys
+  pick (inl over) =
+      let sum : length xs + (n - length xs) ≡ n = omega arith in
+      let all : take n xs ≡ xs = take_all n xs (omega arith) in
+      ap (λ (k : ℕ). take k (xs ++ ys)) (sym sum) ∙ take-append-add xs ys (n - length xs) ∙ ap (λ (zs : List X). zs ++ take (n - length xs) ys) (sym all)
+  pick (inr within) =
+      let none : n - length xs ≡ 0 = omega arith in
+      take-append-le n xs ys within ∙ sym (append-nil (take n xs)) ∙ ap (λ (k : ℕ). take n xs ++ take k ys) (sym none)
+
+-- what lies past a list lies behind it
+pub drop_past : {X : Type 0} (n : ℕ) (xs ys : List X) → length xs ≤ n → drop n (xs ++ ys) ≡ drop (n - length xs) ys
+drop_past {X} n xs ys over =
+    let sum : length xs + (n - length xs) ≡ n = omega arith in
+    ap (λ (k : ℕ). drop k (xs ++ ys)) (sym sum) ∙ drop-append-add xs ys (n - length xs)
+
+drop_both : {X : Type 0} (n : ℕ) (xs ys : List X) → drop n (xs ++ ys) ≡ drop n xs ++ drop (n - length xs) ys
+drop_both {X} n xs ys = pick (cases_lt (length xs) n) where
+  pick : (length xs < n) ⊎ (n ≤ length xs) → drop n (xs ++ ys) ≡ drop n xs ++ drop (n - length xs) ys
+  pick (inl over) =
+      let within : length xs ≤ n = omega arith in
+      drop_past n xs ys within ∙ ap (λ (zs : List X). zs ++ drop (n - length xs) ys) (sym (drop_all n xs within))
+  pick (inr within) =
+      let none : n - length xs ≡ 0 = omega arith in
+      drop-append-le n xs ys within ∙ ap (λ (k : ℕ). drop n xs ++ drop k ys) (sym none)
+
+-- what is found for a part of a list stands in its place among all
+pub part_found : {X : Type 0} (f : X → Option Target) (xs : List X) (start most : ℕ) → map f (take most (drop start xs)) ≡ take most (drop start (map f xs))
+part_found {X} f xs start most = sym (take-map f most (drop start xs)) ∙ ap (take most) (sym (drop-map f start xs))
+
+-- A part of the items of an entry, and what is then left of the part that is sought.
+pub part_more : {X : Type 0} (f : X → Option Target) (items part : List X) (all behind found new goal : List (Option Target)) (passed left passed2 left2 : ℕ) → part ≡ take left (drop passed items) → all ≡ map f items ++ behind
+    → new ≡ found ++ map f part → passed2 ≡ passed - length items → left2 ≡ left - length part → found ++ take left (drop passed all) ≡ goal → new ++ take left2 (drop passed2 behind) ≡ goal
+part_more {X} f items part all behind found new goal passed left passed2 left2 is whole added passed_is left_is before =
+    let fs = map f items in
+    let cut : List (Option Target) = drop passed fs in
+    let here : map f part ≡ take left (drop passed (map f items)) = ap (map f) is ∙ part_found f items passed left in
+    let count : length part ≡ min left (length (drop passed (map f items))) = sym (length-map part f) ∙ ap length here ∙ length-take left (drop passed (map f items)) in
+    let lefts : left - length (drop passed (map f items)) ≡ left2 = omega arith in
+    let passes : passed - length (map f items) ≡ passed2 = omega (arith, length-map items f) in
+    let split : take left (drop passed all) ≡ map f part ++ take left2 (drop passed2 behind) =
+    ap (λ (xs : List (Option Target)). take left (drop passed xs)) whole
+    ∙ ap (take left) (drop_both passed (map f items) behind)
+    ∙ take_both left (drop passed (map f items)) (drop (passed - length (map f items)) behind)
+    ∙ ap (λ (xs : List (Option Target)). xs ++ take (left - length (drop passed (map f items))) (drop (passed - length (map f items)) behind)) (sym here)
+    ∙ ap (λ (k : ℕ). map f part ++ take k (drop (passed - length (map f items)) behind)) lefts
+    ∙ ap (λ (k : ℕ). map f part ++ take left2 (drop k behind)) passes in
+    ap (λ (xs : List (Option Target)). xs ++ take left2 (drop passed2 behind)) added
+    ∙ append_assoc found (map f part) (take left2 (drop passed2 behind))
+    ∙ ap (λ (xs : List (Option Target)). found ++ xs) (sym split)
+    ∙ before
+
+-- nothing is left of the part, or behind it
+pub part_whole : (found goal behind : List (Option Target)) (passed left : ℕ) → left ≡ 0 → found ++ take left (drop passed behind) ≡ goal → found ≡ goal
+part_whole found goal behind passed left none before =
+    sym (append-nil found) ∙ ap (λ (k : ℕ). found ++ take k (drop passed behind)) (sym none) ∙ before
+
+pub part_last : (found goal behind : List (Option Target)) (passed left : ℕ) → behind ≡ [] → found ++ take left (drop passed behind) ≡ goal → found ≡ goal
+part_last found goal behind passed left none before =
+    let empty : take left (drop passed behind) ≡ [] = ap (λ (xs : List (Option Target)). take left (drop passed xs)) none ∙ ap (take left) (drop-nil passed) ∙ take_all left [] (omega arith) in
+    sym (append-nil found) ∙ ap (λ (xs : List (Option Target)). found ++ xs) (sym empty) ∙ before
+
+-- a share behind the rest
+pub shares_are : {X : Type 0} (all : List X) (start rest share count last : ℕ) → rest + share ≡ count → last ≡ start + rest → take rest (drop start all) ++ take share (drop last all) ≡ take count (drop start all)
+shares_are {X} all start rest share count last sum at =
+    let part = drop start all in
+    let behind : drop last all ≡ drop rest (drop start all) = ap (λ (k : ℕ). drop k all) at ∙ sym (drop-drop rest start all) in
+    let within : rest ≤ rest + share = omega arith in
+    ap (λ (xs : List X). take rest (drop start all) ++ take share xs) behind
+    ∙ ap (λ (xs : List X). take rest (drop start all) ++ xs) (sym (drop-take rest share (drop start all)))
+    ∙ ap (λ (xs : List X). xs ++ drop rest (take (rest + share) (drop start all))) (sym (take-take rest (rest + share) (drop start all) within))
+    ∙ take-append-drop rest (take (rest + share) (drop start all))
+    ∙ ap (λ (k : ℕ). take k (drop start all)) sum
+
+-- a row has as many numbers as it leads to
+pub row_length : (nodes : List Node) (row : List ℕ) (ts : List Node) → nodes_in nodes row ≡ some_of ts → length row ≡ length ts
+row_length nodes row ts is = sym (length-map row (slice_get nodes)) ∙ ap length is ∙ length-map ts (λ (n : Node). Some n)

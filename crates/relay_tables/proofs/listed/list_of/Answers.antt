@@ -1,0 +1,25 @@
+use Rattle.std.proofs.Common.{arith, ◌≡◌, ℕ, List, ◌++◌, ◌+◌, ◌-◌, ◌<◌, Option, length, sym, ap, ◌∙◌}
+use Rattle.relay_tables.specs.declared.node.Node.TheVariants.{Include}
+use Rattle.relay_tables.specs.declared.target.Target.{Target}
+use Rattle.relay_tables.specs.Looking.{node_found, found_from}
+use Rattle.relay_tables.proofs.Looks.{alias_found_more, include_found_more}
+use Rattle.relay_tables.proofs.listed.list_of.Goals as goal
+
+pub returns-then-number-aliases-clause-found : goal.returns-then-number-aliases-clause-found
+returns-then-number-aliases-clause-found c =
+    let d = c.args.tables.now in
+    let n = c.args.number in
+    alias_found_more d n (omega (arith, ap length c.aliases-aliases.ensures.entries)) ∙ ap (λ (found : List (Option Target)). found ++ found_from d (n + 1)) c.items_of.ensures.found
+
+pub returns-else-number-aliases-clause-found : goal.returns-else-number-aliases-clause-found
+returns-else-number-aliases-clause-found c =
+    let d = c.args.tables.now in
+    let n = c.args.number in
+    let k = n - length c.aliases-aliases.result.now in
+    let sum : length d.aliases + k ≡ n = omega (arith, ap length c.aliases-aliases.ensures.entries) in
+    let more : length d.aliases + (k + 1) ≡ n + 1 = omega arith in
+    let below : k < length d.includes = omega (arith, c.requires) in
+    ap (found_from d) (sym sum)
+    ∙ include_found_more d k below
+    ∙ ap (λ (m : ℕ). node_found d (Include k) ++ found_from d m) more
+    ∙ ap (λ (found : List (Option Target)). found ++ found_from d (n + 1)) c.items_of-else-number-aliases.ensures.found

@@ -1,0 +1,12 @@
+use Rattle.std.proofs.Common.{arith, ℕ, List, ◌++◌, ap, ◌∙◌}
+use Rattle.std.proofs.lemmas.List.{with_items_is}
+use Rattle.relay_text.specs.Bytes.{folded}
+use Rattle.relay_tables.proofs.Looks.{folded-folded}
+use Rattle.relay_tables.proofs.looking.write_folded.Goals as goal
+
+pub returns-clause-folded : goal.returns-clause-folded
+returns-clause-folded c =
+    let local = c.args.local.now in
+    let name = with_items_is c.extend_from_slice.new.self c.fold.new.bytes (omega arith) ∙ c.fold.ensures
+    ∙ ap folded (c.deref_mut.ensures.value ∙ c.in_ok-extend_from_slice.ensures.items ∙ ap (λ (xs : List ℕ). xs ++ local) c.clear.ensures.items) in
+    rw name (folded-folded local)

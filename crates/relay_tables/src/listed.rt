@@ -1,0 +1,61 @@
+//! What an alias or an include file lists.
+ghost use Rattle.std.specs.Prelude.{◌≡◌, ◌<◌, ◌+◌, ◌++◌, length, map, IfSome, IsTrue};
+ghost use Rattle.std.specs.List.{list_all};
+ghost use Rattle.relay_tables.specs.Parts.{is_good_item};
+ghost use Rattle.relay_tables.specs.Targets.{item_target, targets_of};
+ghost use Rattle.relay_tables.specs.Looking.{item_found, node_found, found_from};
+
+use crate::node::Node;
+use crate::tables::Tables;
+use relay_aliasfile::Item;
+
+/// Items, and the alias that they stand in.
+#[derive(Clone, Copy)]
+pub(crate) struct Listed<'a> {
+    pub(crate) items: &'a [Item],
+    pub(crate) parent: Option<u32>,
+}
+
+/// The items of an alias or an include file of the tables; nothing else has any.
+pub(crate) fn items_of<'a>(tables: &'a Tables, node: &Node) -> Listed<'a>
+    ensures targets { targets_of tables.now node.now ≡ map (item_target tables.now result.parent) result.items.now }
+    ensures found { node_found tables.now node.now ≡ map (item_found tables.now result.parent) result.items.now }
+    ensures good { IsTrue (list_all is_good_item result.items.now) }
+    ensures parent { IfSome result.parent (λ number. number < length tables.now.aliases) }
+{
+    let none = Listed {
+        items: &[],
+        parent: None,
+    };
+    match node {
+        Node::Alias(number) => match tables.aliases().get(*number as usize) {
+            Some(entry) => Listed {
+                items: entry.items.as_slice(),
+                parent: Some(*number),
+            },
+            None => none,
+        },
+        Node::Include(number) => match tables.includes().get(*number as usize) {
+            Some(include) => Listed {
+                items: include.items.as_slice(),
+                parent: None,
+            },
+            None => none,
+        },
+        _ => none,
+    }
+}
+
+/// What an entry lists, by its number: that of an alias, or behind all aliases that of an include file.
+pub(crate) fn list_of(tables: &Tables, number: usize) -> Listed<'_>
+    requires { number < length tables.now.aliases + length tables.now.includes }
+    ensures found { found_from tables.now number ≡ map (item_found tables.now result.parent) result.items.now ++ found_from tables.now (number + 1) }
+    ensures parent { IfSome result.parent (λ number. number < length tables.now.aliases) }
+{
+    let aliases = tables.aliases().len();
+    if number < aliases {
+        items_of(tables, &Node::Alias(number as u32))
+    } else {
+        items_of(tables, &Node::Include((number - aliases) as u32))
+    }
+}

@@ -1,0 +1,57 @@
+//! The recipients of an envelope, as they are looked up.
+use crate::tables::Tables;
+use relay_text::Address;
+
+/// The recipients, in order.
+#[derive(Drop)]
+pub(crate) struct SoughtRecipients<'a> {
+    pub(crate) tables: &'a Tables,
+    pub(crate) recipients: &'a [Address],
+}
+
+ghost use Rattle.std.specs.Prelude.{◌≡◌, map, take, drop, IfOk};
+ghost use Rattle.relay_tables.specs.Looking.{recipient_found};
+
+use crate::ahead::Ahead;
+use crate::looking::target_of_address;
+use crate::sought::{Sought, part_of};
+use crate::target::Target;
+use std::alloc::{AllocError, Global};
+
+// What is found for the recipients from one on, so many of them at most.
+fn recipients_found(
+    alloc: Global,
+    tables: &Tables,
+    recipients: &[Address],
+    start: usize,
+    most: usize,
+) -> Result<Vec<Option<Target>>, AllocError>
+    ensures { IfOk result (λ found. found.items ≡ take most (drop start (map (recipient_found tables.now) recipients.now))) }
+{
+    let part = part_of(recipients, start, most);
+    let mut found = Vec::with_capacity(alloc, part.len())?;
+    let mut name = Vec::new(alloc);
+    let mut ahead = Ahead::of_thread();
+    for (place, address) in part.iter().enumerate() {
+        ahead.read_recipients(tables, None, part, &[], place);
+        let target = target_of_address(tables, address, None, &mut name)?;
+        found.push(target)?;
+    }
+    Ok(found)
+}
+
+impl Sought for SoughtRecipients<'_> {
+    ghost use Rattle.std.specs.Prelude.{map};
+    ghost use Rattle.relay_tables.specs.Looking.{recipient_found};
+
+    ghost all_found = { λ s. map (recipient_found s.tables.now) s.recipients.now };
+
+    fn part_found(
+        &self,
+        alloc: Global,
+        start: usize,
+        most: usize,
+    ) -> Result<Vec<Option<Target>>, AllocError> {
+        recipients_found(alloc, self.tables, self.recipients, start, most)
+    }
+}
