@@ -7,7 +7,7 @@ ghost use Rattle.relay_planning.specs.Written.{summary_of, text_in};
 ghost use Rattle.aliasplan.specs.Outcomes.{IsAnswer, RefusesBytes};
 ghost use Rattle.relay_planning.specs.Plans.{IsFewest, IsPlanOf};
 
-use relay_job::{Job, RunFault, parse_job};
+use relay_job::{Job, RunFault, parse_job_by};
 use relay_planning::{Form, Limits, Options, Summary, plan_job};
 use relay_rounds::Gate;
 use relay_text::Text;
@@ -72,7 +72,7 @@ pub fn answer_input<G: Gate, R: Threads + Sync>(
     ensures answered { IfOk result (λ answer. IsAnswer limits options.form input answer.text answer.summary) }
     ensures refused { IfErr result (RefusesBytes limits input) }
 {
-    let job = parse_job(alloc, input.as_bytes())?;
+    let job = parse_job_by(rt, alloc, options.workers, input.as_bytes())?;
     if input.len() > LARGE {
         drop(input);
     }

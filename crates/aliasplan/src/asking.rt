@@ -139,7 +139,7 @@ fn domains_of_sources<G: Gate, R: Threads + Sync>(
     ensures within { OnOk result (IsWithin crew.now.limits job.now) }
     ensures refused { IfErr result (IsRefused crew.now.limits job.now) }
 {
-    let graph = graph_of(crew.alloc, job, &sources.tables, crew.limits)?;
+    let graph = graph_of(crew, job, &sources.tables)?;
     domains_of_graph(crew, job, &sources.router, &graph)
 }
 

@@ -47,25 +47,23 @@ fn reached_graph(
 }
 
 /// A graph of what a job's envelope reaches: of that alone, unless it has to be counted whether there are too many names or owners.
-fn part_of(
-    alloc: Global,
+fn part_of<G: Gate, R: Threads + Sync>(
+    crew: &Crew<G, R>,
     job: &JobView<'_>,
     sources: &Sources,
     counts: TableCounts,
-    limits: Limits,
 ) -> Result<Graph, RunFault>
     requires read { AreRead (without_envelope job.now) sources.now counts }
-    requires limits { AreLimits limits }
     ensures graph { IfOk result (IsJobPart job.now) }
-    ensures names { OnOk result (name_count job.now ≤ limits.names) }
-    ensures owners { OnOk result (owned_count job.now ≤ limits.owners) }
-    ensures refused { IfErr result (IsRefused limits job.now) }
+    ensures names { OnOk result (name_count job.now ≤ crew.now.limits.names) }
+    ensures owners { OnOk result (owned_count job.now ≤ crew.now.limits.owners) }
+    ensures refused { IfErr result (IsRefused crew.now.limits job.now) }
 {
     names_are_counted();
-    if are_surely_within(counts, job.recipients().len(), limits) {
-        reached_graph(alloc, job, &sources.tables, limits)
+    if are_surely_within(counts, job.recipients().len(), crew.limits) {
+        reached_graph(crew.alloc, job, &sources.tables, crew.limits)
     } else {
-        graph_of(alloc, job, &sources.tables, limits)
+        graph_of(crew, job, &sources.tables)
     }
 }
 
@@ -83,7 +81,7 @@ pub fn plan_envelope<G: Gate, R: Threads + Sync>(
     ensures within { OnOk result (IsWithin crew.now.limits job.now) }
     ensures refused { IfErr result (IsRefused crew.now.limits job.now) }
 {
-    let graph = part_of(crew.alloc, job, sources, counts, crew.limits)?;
+    let graph = part_of(crew, job, sources, counts)?;
     let pairs = pairs_of(crew, job, &graph)?;
     let lines = FindingLines::new(crew.alloc);
     match plan_reached(crew, job, sources, &graph, &pairs, lines) {

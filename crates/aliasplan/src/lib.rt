@@ -33,7 +33,9 @@ pub use listing_domains::run_domains;
 pub use planner::Planner;
 pub use reading::read_job;
 pub use relay_gather::{Paths, Source, SourceFault};
-pub use relay_job::{Envelope, Job, JobInclude, RunFault, Settings, parse_job, parse_tables};
+pub use relay_job::{
+    Envelope, Job, JobInclude, RunFault, Settings, parse_job, parse_job_by, parse_tables,
+};
 pub use relay_planning::{Crew, Form, Limits, Options, Summary, own_names, plan_job, reason_for};
 pub use relay_rounds::{Gate, NoGate};
 pub use returned::Returned;

@@ -11,7 +11,7 @@ use crate::asking::domains;
 use crate::device::{Feed, Sink};
 use crate::reading::read_job;
 use crate::writing::write_text;
-use relay_job::{Job, RunFault, parse_job};
+use relay_job::{Job, RunFault, parse_job_by};
 use relay_planning::Crew;
 use relay_rounds::Gate;
 use relay_text::Text;
@@ -55,7 +55,7 @@ fn domain_text<G: Gate, R: Threads + Sync>(
     ensures text { IfOk result (λ text. IsDomainText crew.now.limits input.now text.items) }
     ensures refused { IfErr result (RefusesBytes crew.now.limits input.now) }
 {
-    let job = parse_job(crew.alloc, input)?;
+    let job = parse_job_by(crew.rt, crew.alloc, crew.options.workers, input)?;
     domain_lines(crew, &job)
 }
 

@@ -182,7 +182,7 @@ fn returned_sources<G: Gate, R: Threads + Sync>(
     ensures within { OnOk result (IsReturnedWithin crew.now.limits job.now) }
     ensures refused { IfErr result (IsUnreturned crew.now.limits job.now) }
 {
-    match graph_of(crew.alloc, job, &sources.tables, crew.limits) {
+    match graph_of(crew, job, &sources.tables) {
         Ok(graph) => returned_graph(crew, job, sources, &graph, lines),
         Err(fault) => Err(fault),
     }

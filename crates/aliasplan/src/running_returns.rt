@@ -14,7 +14,7 @@ use crate::reading::read_job;
 use crate::returned::Returned;
 use crate::returning::returns;
 use crate::writing::write_text;
-use relay_job::{Job, RunFault, parse_job};
+use relay_job::{Job, RunFault, parse_job_by};
 use relay_planning::{Crew, Form, Summary};
 use relay_returns::{returned_plan_text, returned_wire_text};
 use relay_rounds::Gate;
@@ -63,7 +63,7 @@ fn answer_input<G: Gate, R: Threads + Sync>(
     ensures answered { IfOk result (λ answer. IsReturnedAnswer crew.now.limits crew.now.options.form input.now answer.text answer.summary) }
     ensures refused { IfErr result (RefusesReturnBytes crew.now.limits input.now) }
 {
-    let job = parse_job(crew.alloc, input)?;
+    let job = parse_job_by(crew.rt, crew.alloc, crew.options.workers, input)?;
     answer_job(crew, &job)
 }
 

@@ -7,7 +7,7 @@ ghost use Rattle.aliasplan_command.specs.Summaries.{IsSummary};
 
 use crate::json_form::json_text;
 use aliasplan::{
-    Feed, Limits, NoGate, Options, RunFault, Sink, Summary, parse_job, plan_job, read_job,
+    Feed, Limits, NoGate, Options, RunFault, Sink, Summary, parse_job_by, plan_job, read_job,
     write_text,
 };
 use std::thread::Threads;
@@ -26,7 +26,7 @@ fn answer_as_json<R: AllocGlobal + Threads + Sync>(
     ensures refused { IfErr result (RefusesBytes limits input.now) }
 {
     let alloc = rt.alloc();
-    let job = parse_job(alloc, input)?;
+    let job = parse_job_by(rt, alloc, options.workers, input)?;
     let plan = plan_job(rt, alloc, &job, options, limits, &NoGate)?;
     let summary = Summary::of(&plan)?;
     let text = json_text(alloc, &plan, summary)?;

@@ -68,7 +68,7 @@ fn with_graph<G: Gate, R: Threads + Sync>(
     ensures within { OnOk result (IsWithin crew.now.limits job.now) }
     ensures refused { IfErr result (IsRefused crew.now.limits job.now) }
 {
-    match graph_of(crew.alloc, job, &sources.tables, crew.limits) {
+    match graph_of(crew, job, &sources.tables) {
         Ok(graph) => with_pairs(crew, job, sources, graph),
         Err(fault) => Err(fault),
     }

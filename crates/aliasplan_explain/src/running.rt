@@ -15,7 +15,9 @@ ghost use Rattle.aliasplan_explain.specs.Runs.{Explains, IsExplained, WritesExpl
 ghost use Rattle.aliasplan_explain.specs.Tellings.{has_transaction};
 
 use crate::explaining::explain;
-use aliasplan::{Crew, Failed, Feed, Gate, Job, RunFault, Sink, parse_job, read_job, write_text};
+use aliasplan::{
+    Crew, Failed, Feed, Gate, Job, RunFault, Sink, parse_job_by, read_job, write_text,
+};
 use relay_explain::{Asked, Outcome, Telling, telling_text};
 use relay_job::{each_recipient_has_line, recipient_lines};
 use relay_text::{Seq, Text};
@@ -79,7 +81,7 @@ fn answer_input<G: Gate, R: Threads + Sync>(
     ensures refused { IfErr result (RefusesBytes crew.now.limits input.now) }
 {
     each_recipient_has_line();
-    let job = parse_job(crew.alloc, input)?;
+    let job = parse_job_by(crew.rt, crew.alloc, crew.options.workers, input)?;
     let lines = recipient_lines(crew.alloc, input)?;
     answer_job(crew, &job, &lines, asked)
 }

@@ -1,9 +1,10 @@
 //! Jobs and their plans' texts, worked by hand, and what a job says.
 use growth_answers::inputs::{are_texts, is_address};
 use growth_answers::{Answer, Teller, Unready, call, judged};
-use relay_job::{Job, RunFault, Settings, parse_job, parse_tables};
+use relay_job::{Job, RunFault, Settings, parse_job, parse_job_by, parse_tables};
 use relay_routes::Transport;
 use std::alloc::Global;
+use std::thread::Threads;
 
 /// A message to one mailbox.
 pub const FIRST_JOB: &[u8] = b"%settings\n\
@@ -208,6 +209,14 @@ fn reads_a_job(alloc: Global) -> Result<Answer, Unready> {
     }
 }
 
+fn reads_a_job_by<R: Threads + Sync>(rt: &R, alloc: Global) -> Result<Answer, Unready> {
+    match parse_job_by(rt, alloc, 2, FIRST_JOB) {
+        Ok(job) => Ok(judged(job, is_first_job)),
+        Err(RunFault::Memory) => Ok(Answer::Refused),
+        Err(_) => Ok(Answer::Wrong),
+    }
+}
+
 /// Whether these are the first job's settings and mailboxes, for nobody.
 fn are_first_tables(tables: &Job) -> bool {
     are_settings(&tables.settings)
@@ -243,9 +252,11 @@ fn reads_a_job_of_lists(alloc: Global) -> Result<Answer, Unready> {
     }
 }
 
-pub(crate) fn tell<R: Print + AllocGlobal>(teller: &mut Teller<'_, R>) {
-    let alloc = teller.rt.alloc();
+pub(crate) fn tell<R: Print + AllocGlobal + Threads + Sync>(teller: &mut Teller<'_, R>) {
+    let rt = teller.rt;
+    let alloc = rt.alloc();
     call!(teller, "parse_job", reads_a_job(alloc));
+    call!(teller, "parse_job_by", reads_a_job_by(rt, alloc));
     call!(teller, "parse_job, lists", reads_a_job_of_lists(alloc));
     call!(teller, "parse_tables", reads_tables(alloc));
 }

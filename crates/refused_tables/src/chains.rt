@@ -1,6 +1,6 @@
 //! Sets of keys and of texts, numbered in the order in which they came.
-use growth_answers::{Answer, Seen, Teller, Unready, call, case, twice};
-use relay_chains::{ChainFault, Chains, Interner, Key};
+use growth_answers::{Answer, Seen, Teller, Unready, call, case, judged, twice};
+use relay_chains::{ChainFault, Chains, Interner, Key, Links};
 use std::alloc::Global;
 
 /// What a new or known key or text answers.
@@ -152,6 +152,18 @@ fn interns_more_texts(alloc: Global) -> Result<Seen, Unready> {
     Ok(seen.max(Seen::at_once(Answer::given(are_right))))
 }
 
+/// Each hash by the word of its newest number, which is that number and one more.
+fn are_linked(links: &Links) -> bool {
+    links.len() == 3 && links.newest(7) == 3 && links.newest(9) == 2 && links.newest(8) == 0
+}
+
+fn links_hashes(alloc: Global) -> Result<Answer, Unready> {
+    match Links::of(alloc, &[7, 9, 7]) {
+        Ok(links) => Ok(judged(links, are_linked)),
+        Err(_) => Ok(Answer::Refused),
+    }
+}
+
 pub(crate) fn tell<R: Print + AllocGlobal>(teller: &mut Teller<'_, R>) {
     let alloc = teller.rt.alloc();
     call!(teller, "Chains::new", makes_chains(alloc));
@@ -168,4 +180,5 @@ pub(crate) fn tell<R: Print + AllocGlobal>(teller: &mut Teller<'_, R>) {
         "Interner::intern, six texts",
         interns_more_texts(alloc)
     );
+    call!(teller, "Links::of", links_hashes(alloc));
 }

@@ -10,10 +10,12 @@ use growth_answers::inputs::{address, is_address};
 use growth_answers::{Answer, Seen, Teller, Unready, call, case, judged, lent, twice};
 use relay_aliasfile::{AliasFile, MailboxFile, parse_aliases, parse_include, parse_mailboxes};
 use relay_tables::{
-    Graph, IncludeEntry, Local, Node, TableCounts, TableFault, Tables, TwoWayGraph, parsed_files,
+    Graph, IncludeEntry, Local, LookedUp, Node, TableCounts, TableFault, Tables, TwoWayGraph,
+    parsed_files,
 };
 use relay_text::{Address, Seq, Text};
 use std::alloc::{AllocError, Global};
+use std::thread::Threads;
 
 /// A list in a list, of which the inner one has an owner.
 pub const OWNED: &[u8] =
@@ -266,6 +268,33 @@ fn builds_a_graph(alloc: Global) -> Result<Seen, Unready> {
     )
 }
 
+fn is_built_of<R: Threads + Sync>(
+    rt: &R,
+    alloc: Global,
+    tables: &Tables,
+    message: &Message,
+) -> Answer {
+    let Ok(looked_up) = LookedUp::of(rt, alloc, 2, tables, &message.recipients) else {
+        return Answer::Refused;
+    };
+    match Graph::of(alloc, looked_up, Some(&message.sender), 6, 1) {
+        Ok(graph) => judged(graph, |graph| {
+            are_nodes(graph) && are_steps(graph) && are_senders(graph)
+        }),
+        Err(TableFault::Memory) => Answer::Refused,
+        Err(_) => Answer::Wrong,
+    }
+}
+
+fn builds_what_is_looked_up<R: Threads + Sync>(rt: &R, alloc: Global) -> Result<Seen, Unready> {
+    let message = message_to(alloc, b"outer")?;
+    let tables = tables(alloc, false, OWNED)?;
+    lent(
+        tables,
+        |tables| Ok(twice!(is_built_of(rt, alloc, tables, &message))),
+    )
+}
+
 /// Each node's parents beside its children.
 fn is_turned(alloc: Global, graph: &Graph) -> Answer {
     match TwoWayGraph::of(alloc, graph) {
@@ -337,8 +366,9 @@ fn counts_names(alloc: Global) -> Result<Seen, Unready> {
     lent(tables, |tables| Ok(twice!(are_counted(alloc, tables))))
 }
 
-pub(crate) fn tell<R: Print + AllocGlobal>(teller: &mut Teller<'_, R>) {
-    let alloc = teller.rt.alloc();
+pub(crate) fn tell<R: Print + AllocGlobal + Threads + Sync>(teller: &mut Teller<'_, R>) {
+    let rt = teller.rt;
+    let alloc = rt.alloc();
     call!(teller, "Tables::build", builds_tables(alloc));
     case!(
         teller,
@@ -352,6 +382,7 @@ pub(crate) fn tell<R: Print + AllocGlobal>(teller: &mut Teller<'_, R>) {
     );
     case!(teller, "Tables::alias_addresses", lists_aliases(alloc));
     case!(teller, "Graph::build", builds_a_graph(alloc));
+    case!(teller, "Graph::of", builds_what_is_looked_up(rt, alloc));
     case!(
         teller,
         "Graph::build, too many names",

@@ -3,10 +3,12 @@ use growth_answers::inputs::are_texts;
 use growth_answers::{Answer, Seen, Teller, Unready, call, case, judged, lent, lent_mut, twice};
 use relay_aliasfile::{
     AliasFile, Entry, FaultKind, IncludeFile, Item, Items, LineFault, MailboxFile, include_names,
-    include_names_of, parse_aliases, parse_include, parse_mailboxes,
+    include_names_of, parse_aliases, parse_aliases_by, parse_include, parse_mailboxes,
+    parse_mailboxes_by,
 };
 use relay_text::Text;
 use std::alloc::Global;
+use std::thread::Threads;
 
 const ALIASES: &[u8] = b"  x\na b: joe\nc:\nc: joe\nd: joe, \"q, kim\n";
 
@@ -47,6 +49,13 @@ fn is_alias_file(file: &AliasFile) -> bool {
 
 fn reads_aliases(alloc: Global) -> Result<Answer, Unready> {
     match parse_aliases(alloc, ALIASES) {
+        Ok(file) => Ok(judged(file, is_alias_file)),
+        Err(_) => Ok(Answer::Refused),
+    }
+}
+
+fn reads_aliases_by<R: Threads + Sync>(rt: &R, alloc: Global) -> Result<Answer, Unready> {
+    match parse_aliases_by(rt, alloc, 2, ALIASES) {
         Ok(file) => Ok(judged(file, is_alias_file)),
         Err(_) => Ok(Answer::Refused),
     }
@@ -103,6 +112,13 @@ fn reads_mailboxes(alloc: Global) -> Result<Answer, Unready> {
     }
 }
 
+fn reads_mailboxes_by<R: Threads + Sync>(rt: &R, alloc: Global) -> Result<Answer, Unready> {
+    match parse_mailboxes_by(rt, alloc, 2, b"Joe\na b\nkim\njoe\n") {
+        Ok(file) => Ok(judged(file, is_mailbox_file)),
+        Err(_) => Ok(Answer::Refused),
+    }
+}
+
 /// A bare item of this name.
 fn bare(alloc: Global, name: &[u8]) -> Result<Item, Unready> {
     Ok(Item::Bare(Text::copy_of(alloc, name)?))
@@ -154,9 +170,11 @@ fn adds_to_items(alloc: Global) -> Result<Seen, Unready> {
     lent_mut(items, |items| pushed_at_last(alloc, items))
 }
 
-pub(crate) fn tell<R: Print + AllocGlobal>(teller: &mut Teller<'_, R>) {
-    let alloc = teller.rt.alloc();
+pub(crate) fn tell<R: Print + AllocGlobal + Threads + Sync>(teller: &mut Teller<'_, R>) {
+    let rt = teller.rt;
+    let alloc = rt.alloc();
     call!(teller, "parse_aliases", reads_aliases(alloc));
+    call!(teller, "parse_aliases_by", reads_aliases_by(rt, alloc));
     case!(teller, "include_names", lists_includes_of_aliases(alloc));
     call!(teller, "parse_include", reads_an_include_file(alloc));
     case!(
@@ -165,5 +183,6 @@ pub(crate) fn tell<R: Print + AllocGlobal>(teller: &mut Teller<'_, R>) {
         lists_includes_of_an_include_file(alloc)
     );
     call!(teller, "parse_mailboxes", reads_mailboxes(alloc));
+    call!(teller, "parse_mailboxes_by", reads_mailboxes_by(rt, alloc));
     case!(teller, "Items::push", adds_to_items(alloc));
 }

@@ -19,44 +19,40 @@ ghost use Rattle.relay_routes.specs.Transports.{transport_table_of};
 ghost use Rattle.relay_routes.specs.Exchanges.{mx_table_of};
 ghost use Rattle.relay_planning.specs.Parsed.{AreParsed};
 
-use relay_aliasfile::{parse_aliases, parse_mailboxes};
+use relay_aliasfile::{parse_aliases, parse_aliases_by, parse_mailboxes, parse_mailboxes_by};
 use relay_job::Job;
+use relay_text::Text;
 use std::alloc::{AllocError, Global};
 use std::thread::{Threads, join};
 
 // From so many bytes on a text is long: starting a thread takes as long as parsing some kilobytes, a small part of this.
 const LONG_TEXT: usize = 65_536;
 
-/// Whether the texts are parsed side by side: a worker is there for each, and at least two are long. Where fewer are, no long work stands
-/// beside another.
-pub(crate) fn is_worth_threads(job: &Job, workers: usize) -> bool {
-    let texts = [&job.aliases, &job.mailboxes, &job.transport, &job.mx];
-    let long = texts
-        .iter()
-        .filter(|text| text.as_bytes().len() >= LONG_TEXT)
-        .count();
-    workers >= texts.len() && long >= 2
+fn is_long(text: &Text) -> bool {
+    text.as_bytes().len() >= LONG_TEXT
 }
 
-/// Both files of names; the mailbox file in a new thread.
+// Whether the tables are parsed beside the files: there are two workers for them and two for the files, and of the long texts one is a
+// table and another stands beside it. A table is parsed by one thread.
+fn is_worth_threads(job: &Job, workers: usize) -> bool {
+    let texts = [&job.aliases, &job.mailboxes, &job.transport, &job.mx];
+    let long = texts.iter().filter(|text| is_long(text)).count();
+    workers >= texts.len() && long >= 2 && (is_long(&job.transport) || is_long(&job.mx))
+}
+
+/// Both files of names, each by so many workers.
 fn name_files<R: Threads + Sync>(
     rt: &R,
     alloc: Global,
+    workers: usize,
     aliases: &[u8],
     mailboxes: &[u8],
 ) -> Result<(AliasFile, MailboxFile), AllocError>
     ensures { IfOk result (λ files. (files.0 ≡ alias_file_of aliases.now) × (files.1 ≡ mailbox_file_of mailboxes.now)) }
 {
-    let (there, here) = join(
-        rt,
-        || -> Result<MailboxFile, AllocError>
-            ensures { IfOk result (λ file. file ≡ mailbox_file_of mailboxes.entry.now) }
-        { parse_mailboxes(alloc, mailboxes) },
-        || -> Result<AliasFile, AllocError>
-            ensures { IfOk result (λ file. file ≡ alias_file_of aliases.entry.now) }
-        { parse_aliases(alloc, aliases) },
-    );
-    Ok((here?, there?))
+    let aliases = parse_aliases_by(rt, alloc, workers, aliases)?;
+    let mailboxes = parse_mailboxes_by(rt, alloc, workers, mailboxes)?;
+    Ok((aliases, mailboxes))
 }
 
 /// Both tables of routes; the table of exchangers in a new thread.
@@ -93,14 +89,40 @@ impl Parsed {
         })
     }
 
-    /// Parses each text in a thread of its own, the alias file in this one. `Err` where memory runs out.
-    pub(crate) fn side_by_side<R: Threads + Sync>(
+    /// Parses one text after another, the files of names by so many workers, and both tables beside them where they are worth it. `Err`
+    /// where memory runs out.
+    pub(crate) fn by_workers<R: Threads + Sync>(
         rt: &R,
         alloc: Global,
+        workers: usize,
         job: &Job,
     ) -> Result<Parsed, AllocError>
         ensures { IfOk result (AreParsed job.now) }
     {
+        if is_worth_threads(job, workers) {
+            return Parsed::side_by_side(rt, alloc, workers, job);
+        }
+        let aliases = job.aliases.as_bytes();
+        let mailboxes = job.mailboxes.as_bytes();
+        let (aliases, mailboxes) = name_files(rt, alloc, workers, aliases, mailboxes)?;
+        Ok(Parsed {
+            aliases,
+            mailboxes,
+            transports: TransportTable::parse(alloc, job.transport.as_bytes())?,
+            exchanges: MxTable::parse(alloc, job.mx.as_bytes())?,
+        })
+    }
+
+    /// Parses each table in a thread of its own, and meanwhile the files of names by the other workers.
+    fn side_by_side<R: Threads + Sync>(
+        rt: &R,
+        alloc: Global,
+        workers: usize,
+        job: &Job,
+    ) -> Result<Parsed, AllocError>
+        ensures { IfOk result (AreParsed job.now) }
+    {
+        let others = workers.saturating_sub(2);
         let transport = job.transport.as_bytes();
         let mx = job.mx.as_bytes();
         let aliases = job.aliases.as_bytes();
@@ -114,7 +136,7 @@ impl Parsed {
             || -> Result<(AliasFile, MailboxFile), AllocError>
                 requires { IsSync R.row }
                 ensures { IfOk result (λ files. (files.0 ≡ alias_file_of aliases.entry.now) × (files.1 ≡ mailbox_file_of mailboxes.entry.now)) }
-            { name_files(rt, alloc, aliases, mailboxes) },
+            { name_files(rt, alloc, others, aliases, mailboxes) },
         );
         let (aliases, mailboxes) = here?;
         let (transports, exchanges) = there?;

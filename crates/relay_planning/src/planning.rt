@@ -24,7 +24,7 @@ use relay_job::{Job, RunFault};
 use relay_loops::on_loops;
 use relay_pairs::{Reached, pairs_are_counted, pairs_by_numbers, reached_nodes, reached_pairs};
 use relay_rounds::{Gate, ReachFault};
-use relay_tables::{Graph, TableFault, Tables};
+use relay_tables::{Graph, LookedUp, TableFault, Tables};
 use relay_text::{Seq, Text};
 use relay_wire::{FindingLines, Plan, Planned};
 use std::alloc::{AllocError, Global};
@@ -32,30 +32,29 @@ use std::thread::Threads;
 
 /// The graph of a job's tables and envelope: its names with their targets, and the senders, by numbers.
 ///
-/// `TooManyNames` and `TooManyOwners` come in this order, exactly where the job has more than `limits` takes; `Memory` where a growth was
+/// `TooManyNames` and `TooManyOwners` come in this order, exactly where the job has more than the crew's limits take; `Memory` where a growth was
 /// refused.
-pub fn graph_of(
-    alloc: Global,
+pub fn graph_of<G: Gate, R: Threads + Sync>(
+    crew: &Crew<G, R>,
     job: &JobView<'_>,
     tables: &Tables,
-    limits: Limits,
 ) -> Result<Graph, RunFault>
     requires tables { tables.now ≡ directory_of job.now }
-    requires limits { AreLimits limits }
     ensures graph { IfOk result (IsJobGraph job.now) }
     ensures part { IfOk result (IsJobPart job.now) }
-    ensures names { OnOk result (name_count job.now ≤ limits.names) }
-    ensures owners { OnOk result (owned_count job.now ≤ limits.owners) }
-    ensures refused { IfErr result (IsRefused limits job.now) }
+    ensures names { OnOk result (name_count job.now ≤ crew.now.limits.names) }
+    ensures owners { OnOk result (owned_count job.now ≤ crew.now.limits.owners) }
+    ensures refused { IfErr result (IsRefused crew.now.limits job.now) }
 {
-    match Graph::build(
+    let Crew {
+        rt,
         alloc,
-        tables,
-        job.sender(),
-        job.recipients(),
-        limits.names,
-        limits.owners,
-    ) {
+        limits,
+        ..
+    } = *crew;
+    let workers = crew.options.workers;
+    let looked_up = LookedUp::of(rt, alloc, workers, tables, job.recipients())?;
+    match Graph::of(alloc, looked_up, job.sender(), limits.names, limits.owners) {
         Ok(graph) => Ok(graph),
         Err(TableFault::TooManyNames) => Err(RunFault::TooManyNames),
         Err(TableFault::TooManyOwners) => Err(RunFault::TooManyOwners),
@@ -312,7 +311,7 @@ pub fn plan_sources<G: Gate, R: Threads + Sync>(
     ensures within { OnOk result (IsWithin crew.now.limits job.now) }
     ensures refused { IfErr result (IsRefused crew.now.limits job.now) }
 {
-    match graph_of(crew.alloc, job, &sources.tables, crew.limits) {
+    match graph_of(crew, job, &sources.tables) {
         Ok(graph) => plan_graph(crew, job, sources, &graph, lines),
         Err(fault) => Err(fault),
     }

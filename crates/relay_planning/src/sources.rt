@@ -24,7 +24,7 @@ ghost use Rattle.relay_planning.specs.Readable.{IsReadable};
 ghost use Rattle.relay_planning.specs.Texts.{is_name_line, is_route_line, has_fault_line};
 
 use crate::crew::Crew;
-use crate::parsed::{Parsed, is_worth_threads};
+use crate::parsed::Parsed;
 use crate::routing::{push_copies, router_of};
 use crate::source::Source;
 use crate::table::Table;
@@ -146,7 +146,7 @@ impl Sources {
         Sources::of(alloc, job, parsed, lines)
     }
 
-    /// The same by a crew, which parses the files and tables side by side where they are worth threads.
+    /// The same by a crew, several of which parse files and tables that are long.
     pub fn read_by<G: Gate, R: Threads + Sync>(
         crew: &Crew<G, R>,
         job: &Job,
@@ -157,11 +157,7 @@ impl Sources {
         ensures router { IfOk result (λ sources. sources.router ≡ routing_of job.now) }
         ensures lines { OnOk result (ReportsWhere lines.old lines.new (has_fault_line job.now)) }
     {
-        let parsed = if is_worth_threads(job, crew.options.workers) {
-            Parsed::side_by_side(crew.rt, crew.alloc, job)?
-        } else {
-            Parsed::one_by_one(crew.alloc, job)?
-        };
+        let parsed = Parsed::by_workers(crew.rt, crew.alloc, crew.options.workers, job)?;
         Sources::of(crew.alloc, job, parsed, lines)
     }
 }
