@@ -13,6 +13,7 @@ pub mod Faults
 pub mod Limits
 pub mod PathFaults
 pub mod Paths
+pub mod FewBytes
 pub mod InlineBytes
 pub mod Writing
 pub mod JoinedAddresses

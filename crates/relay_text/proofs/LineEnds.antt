@@ -1,10 +1,10 @@
 -- The first LF of a text, found sixteen bytes at a time.
-use Rattle.std.proofs.Common.{◌≡◌, ◌<◌, ◌≤◌, ◌≢◌, ℕ, suc, ◌+◌, ◌%◌, ◌^◌, Bool, true, false, not, cond, List, [], ◌∷◌, ◌++◌, length, take, drop, get_or, map, replicate, Some, None, refl, sym, ap, ◌∙◌, arith, eqb, w8, w64}
+use Rattle.std.proofs.Common.{◌≡◌, ◌<◌, ◌≤◌, ◌≢◌, ℕ, suc, ◌+◌, ◌%◌, ◌^◌, Bool, true, false, not, cond, List, [], ◌∷◌, ◌++◌, length, take, drop, min, get_or, map, replicate, Some, None, refl, sym, ap, ◌∙◌, arith, eqb, w8, w64}
 use Rattle.std.specs.List.{position_or_len}
 use Rattle.std.specs.Simd.Lanes.{mask_l, zip2, top}
 use Rattle.std.specs.Int.{trailing_zeros}
 use Rattle.std.proofs.lemmas.Bool.{both_ways}
-use Rattle.std.proofs.lemmas.List.{take-append-drop}
+use Rattle.std.proofs.lemmas.List.{take-append-drop, length-take}
 use Rattle.std.proofs.lemmas.List.Sums.{fails_before_first, passes_at_first}
 use Rattle.std.proofs.lemmas.Simd.{bitmask_splat, leading_from_mask_l, trailing_mask_l}
 use Rattle.bstr.specs.Find.{IsFirstByte}
@@ -48,6 +48,18 @@ pub record Group (text group more : List ℕ) : Type 0 where
   pub is_group : group ≡ take 16 text
   pub is_more : more ≡ drop 16 text
   pub whole : length group ≡ 16
+
+-- as many as were taken, where so many are there
+all_taken : (k n m rest : ℕ) → n ≡ min k m → rest + k ≡ m → n ≡ k
+all_taken k n m rest e enough = omega arith
+
+-- what is known of such a cut
+pub group_of : (text group more : List ℕ) → (group ≡ take 16 text) × (more ≡ drop 16 text) × (length more + 16 ≡ length text) → Group text group more
+group_of text group more cut = record {
+  is_group = cut.0;
+  is_more = cut.1;
+  whole = all_taken 16 (length group) (length text) (length more) (ap length cut.0 ∙ length-take 16 text) cut.2;
+}
 
 grouped : (text group more : List ℕ) → Group text group more → text ≡ group ++ more
 grouped text group more g =

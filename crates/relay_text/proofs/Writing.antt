@@ -1,11 +1,12 @@
 -- What writing a local part reckons: whether it's a Dot-string, and how long it is between quotes.
-use Rattle.std.proofs.Common.{◌≡◌, ℕ, suc, ◌+◌, ◌<◌, ◌≤◌, Bool, true, false, not, ◌&&◌, cond, ltb, List, [], ◌∷◌, ◌++◌, length, flat_map, filter, Option, Some, None, refl, ap, ◌∙◌, inl, inr, arith}
+use Rattle.std.proofs.Common.{◌≡◌, ℕ, suc, ◌+◌, ◌<◌, ◌≤◌, Bool, true, false, not, ◌&&◌, cond, ltb, List, [], ◌∷◌, ◌++◌, length, flat_map, take, drop, get_or, filter, Option, Some, None, refl, ap, ◌∙◌, inl, inr, arith}
 use Rattle.std.specs.Bool.{IsTrue}
 use Rattle.std.specs.List.{list_all, slice_split, onto_first, count_by}
 use Rattle.std.specs.Option.{SomeIff, IfSome, IfNone, IsSome}
 use Rattle.std.proofs.lemmas.Bool.{cases_Bool, or_parts, ltb-false}
 use Rattle.std.proofs.lemmas.List.Sums.{length-filter, count_by-le-length}
-use Rattle.std.proofs.lemmas.List.{length-append}
+use Rattle.std.proofs.lemmas.List.{append-nil, length-append, drop_more, take_more}
+use Rattle.std.proofs.lemmas.Grind.{flat_map-append}
 use Rattle.relay_text.specs.Addresses.{quoted_byte, is_atext, is_dot, is_run_of, is_dot_string, is_address, local_text_of, path_text_of}
 use Rattle.relay_text.specs.AddressParts.{AddressParts}
 use Rattle.relay_text.proofs.Paths.{is_special, GoodParts, good_parts}
@@ -69,6 +70,17 @@ quoted_length (b ∷ bs) =
 
 pub quoted_count : (l : List ℕ) → length (flat_map quoted_byte l) ≡ length l + count_by is_special l
 quoted_count l = quoted_length l ∙ ap (λ n. length l + n) (length-filter is_special l)
+
+-- what is left to write is the byte at a place and what stands behind it
+pub quoted_from : (l : List ℕ) (i : ℕ) → i < length l → length (flat_map quoted_byte (drop i l)) ≡ length (quoted_byte (get_or l i 0)) + length (flat_map quoted_byte (drop (i + 1) l))
+quoted_from l i within = ap (λ (rest : List ℕ). length (flat_map quoted_byte rest)) (drop_more l i 0 within) ∙ length-append (quoted_byte (get_or l i 0)) (flat_map quoted_byte (drop (i + 1) l))
+
+-- what is written up to behind a place ends with the byte there
+pub quoted_up_to : (l : List ℕ) (i : ℕ) → i < length l → flat_map quoted_byte (take (i + 1) l) ≡ flat_map quoted_byte (take i l) ++ quoted_byte (get_or l i 0)
+quoted_up_to l i within =
+    ap (λ (front : List ℕ). flat_map quoted_byte front) (take_more l i 0 within)
+    ∙ flat_map-append quoted_byte (take i l) (get_or l i 0 ∷ [])
+    ∙ ap (λ (bytes : List ℕ). flat_map quoted_byte (take i l) ++ bytes) (append-nil (quoted_byte (get_or l i 0)))
 
 pub some_is : (r : Option ℕ) (P : Type 0) (v w : ℕ) → SomeIff r P v → v ≡ w → IfSome r (λ x. x ≡ w)
 some_is None P v w h e = tt

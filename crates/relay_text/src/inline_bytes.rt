@@ -1,15 +1,17 @@
 //! Bytes that lie in the value itself where they are few.
 ghost use Rattle.std.specs.Prelude.{◌≡◌, ◌+◌, ◌<◌, ◌≤◌, ◌++◌, ◌∷◌, [], min, take, drop, length, IfSome, IfNone, IfOk, OnOk, OnErr};
 ghost use Rattle.relay_text.specs.Bytes.{folded};
+ghost use Rattle.relay_text.specs.InlineBytes.{headed_bytes_in, IsWithin};
 
+use crate::few_bytes::FewBytes;
 use std::alloc::{AllocError, Global};
 use std::marker::Model;
 
 /// Where the bytes lie. The head stands beside them, where it takes no room of its own.
 #[derive(Drop)]
 enum Kept<H, const N: usize> {
-    /// The first bytes of an array, so many.
-    Short { head: H, len: u8, bytes: [u8; N] },
+    /// In the value.
+    Short { head: H, few: FewBytes<N> },
     /// Memory of their own.
     Long { head: H, bytes: Vec<u8> },
 }
@@ -34,19 +36,52 @@ impl<H, const N: usize> Model for InlineBytes<H, N> {
     ghost invariant = { λ a. IsWithin a.kept };
 }
 
+impl<H, const N: usize> Kept<H, N> {
+    /// Puts ASCII capitals into lower case, from a place on.
+    fn fold_from(&mut self, start: usize)
+        requires within { IsWithin self.old }
+        requires start { start ≤ length (headed_bytes_in self.old).bytes }
+        ensures within { IsWithin self.new }
+        ensures head { (headed_bytes_in self.new).head ≡ (headed_bytes_in self.old).head }
+        ensures bytes { (headed_bytes_in self.new).bytes ≡ take start (headed_bytes_in self.old).bytes ++ folded (drop start (headed_bytes_in self.old).bytes) }
+    {
+        match self {
+            Kept::Short { few, .. } => few.fold_from(start),
+            Kept::Long { bytes, .. } => fold_behind(bytes, start),
+        }
+    }
+}
+
 impl<H: Copy, const N: usize> InlineBytes<H, N> {
+    /// Bytes that lie in the value.
+    #[inline(always)]
+    fn short(head: H, few: FewBytes<N>) -> Self
+        ensures head { result.head ≡ head }
+        ensures bytes { result.bytes ≡ few.entry }
+    {
+        InlineBytes {
+            kept: Kept::Short { head, few },
+        }
+    }
+
+    /// Bytes for which there is no room in the value.
+    #[inline(always)]
+    fn long(head: H, bytes: Vec<u8>) -> Self
+        requires { min N 255 < length bytes.items }
+        ensures head { result.head ≡ head }
+        ensures bytes { result.bytes ≡ bytes.items }
+    {
+        InlineBytes {
+            kept: Kept::Long { head, bytes },
+        }
+    }
+
     /// No bytes, without taking memory.
     pub(crate) fn empty(head: H) -> Self
         ensures head { result.head ≡ head }
         ensures bytes { result.bytes ≡ [] }
     {
-        InlineBytes {
-            kept: Kept::Short {
-                head,
-                len: 0,
-                bytes: [0; N],
-            },
-        }
+        InlineBytes::short(head, FewBytes::empty())
     }
 
     /// A copy of these bytes. `Err` where memory runs out.
@@ -56,13 +91,8 @@ impl<H: Copy, const N: usize> InlineBytes<H, N> {
         ensures full { OnErr result (min N 255 < length bytes.now) }
     {
         match inline_len(bytes.len(), N) {
-            Some(len) => Ok(InlineBytes::short(head, len, bytes, b"")),
-            None => Ok(InlineBytes {
-                kept: Kept::Long {
-                    head,
-                    bytes: Vec::from_slice(alloc, bytes)?,
-                },
-            }),
+            Some(len) => Ok(InlineBytes::short(head, FewBytes::of(len, bytes))),
+            None => Ok(InlineBytes::long(head, Vec::from_slice(alloc, bytes)?)),
         }
     }
 
@@ -72,10 +102,8 @@ impl<H: Copy, const N: usize> InlineBytes<H, N> {
         ensures bytes { result.bytes ≡ bytes.items }
     {
         match inline_len(bytes.len(), N) {
-            Some(len) => InlineBytes::short(head, len, bytes.as_slice(), b""),
-            None => InlineBytes {
-                kept: Kept::Long { head, bytes },
-            },
+            Some(len) => InlineBytes::short(head, FewBytes::of(len, bytes.as_slice())),
+            None => InlineBytes::long(head, bytes),
         }
     }
 
@@ -90,33 +118,9 @@ impl<H: Copy, const N: usize> InlineBytes<H, N> {
         ensures head { IfOk result (λ a. a.head ≡ head) }
         ensures bytes { IfOk result (λ a. a.bytes ≡ front.now ++ between ∷ back.now) }
     {
-        let len = front.len() + back.len() + 1;
-        if let Some(len) = inline_len(len, N) {
-            return Ok(InlineBytes::short_joined(head, len, front, between, back));
-        }
-        let mut bytes = Vec::with_capacity(alloc, len)?;
-        bytes.extend_from_slice(front)?;
-        bytes.push(between)?;
-        bytes.extend_from_slice(back)?;
-        Ok(InlineBytes {
-            kept: Kept::Long { head, bytes },
-        })
-    }
-
-    /// The same of pieces that have few bytes together.
-    fn short_joined(head: H, len: u8, front: &[u8], between: u8, back: &[u8]) -> Self
-        requires len { length front.now + length back.now + 1 ≡ len }
-        requires few { len ≤ N }
-        ensures head { result.head ≡ head }
-        ensures bytes { result.bytes ≡ front.now ++ between ∷ back.now }
-    {
-        let mut bytes = [between; N];
-        let room = &mut bytes[..];
-        let place = front.len();
-        room[..place].copy_from_slice(front);
-        room[place + 1..place + 1 + back.len()].copy_from_slice(back);
-        InlineBytes {
-            kept: Kept::Short { head, len, bytes },
+        match inline_len(front.len() + back.len() + 1, N) {
+            Some(len) => Ok(InlineBytes::short(head, FewBytes::joined(len, front, between, back))),
+            None => Ok(InlineBytes::long(head, joined(alloc, front, between, back)?)),
         }
     }
 
@@ -131,49 +135,12 @@ impl<H: Copy, const N: usize> InlineBytes<H, N> {
         ensures head { IfOk result (λ a. a.head ≡ head) }
         ensures bytes { IfOk result (λ a. a.bytes ≡ front.now ++ between ∷ folded back.now) }
     {
-        let len = front.len() + back.len() + 1;
-        if let Some(len) = inline_len(len, N) {
-            return Ok(InlineBytes::short_joined_folded(head, len, front, between, back));
-        }
-        let mut joined = InlineBytes::joined_of(alloc, head, front, between, back)?;
-        joined.fold_from(front.len() + 1);
-        Ok(joined)
-    }
-
-    /// The same of pieces that have few bytes together. All of the room is folded before the front is written over it, since a loop
-    /// of fixed length compiles without a remainder.
-    fn short_joined_folded(head: H, len: u8, front: &[u8], between: u8, back: &[u8]) -> Self
-        requires len { length front.now + length back.now + 1 ≡ len }
-        requires few { len ≤ N }
-        ensures head { result.head ≡ head }
-        ensures bytes { result.bytes ≡ front.now ++ between ∷ folded back.now }
-    {
-        let mut bytes = [0; N];
-        let room = &mut bytes[..];
-        let place = front.len();
-        room[place + 1..place + 1 + back.len()].copy_from_slice(back);
-        room.make_ascii_lowercase();
-        room[..place].copy_from_slice(front);
-        room[place] = between;
-        InlineBytes {
-            kept: Kept::Short { head, len, bytes },
-        }
-    }
-
-    /// Copies of these pieces in a row, which have few bytes together.
-    fn short(head: H, len: u8, front: &[u8], more: &[u8]) -> Self
-        requires len { length front.now + length more.now ≡ len }
-        requires few { len ≤ N }
-        ensures head { result.head ≡ head }
-        ensures bytes { result.bytes ≡ front.now ++ more.now }
-    {
-        let mut bytes = [0; N];
-        let room = &mut bytes[..];
-        let place = front.len();
-        room[..place].copy_from_slice(front);
-        room[place..place + more.len()].copy_from_slice(more);
-        InlineBytes {
-            kept: Kept::Short { head, len, bytes },
+        match inline_len(front.len() + back.len() + 1, N) {
+            Some(len) => Ok(InlineBytes::short(
+                head,
+                FewBytes::joined_folded(len, front, between, back),
+            )),
+            None => Ok(InlineBytes::long(head, joined_folded(alloc, front, between, back)?)),
         }
     }
 
@@ -192,7 +159,7 @@ impl<H: Copy, const N: usize> InlineBytes<H, N> {
         ensures { result.now ≡ self.now.bytes }
     {
         match &self.kept {
-            Kept::Short { len, bytes, .. } => &bytes[..usize::from(*len)],
+            Kept::Short { few, .. } => few.as_slice(),
             Kept::Long { bytes, .. } => bytes.as_slice(),
         }
     }
@@ -202,7 +169,7 @@ impl<H: Copy, const N: usize> InlineBytes<H, N> {
         ensures { IfOk result (λ bytes. bytes.items ≡ self.bytes) }
     {
         match self.kept {
-            Kept::Short { len, bytes, .. } => Vec::from_slice(alloc, &bytes[..usize::from(len)]),
+            Kept::Short { few, .. } => Vec::from_slice(alloc, few.as_slice()),
             Kept::Long { bytes, .. } => Ok(bytes),
         }
     }
@@ -213,12 +180,8 @@ impl<H: Copy, const N: usize> InlineBytes<H, N> {
         ensures bytes { result.bytes ≡ self.bytes }
     {
         match self.kept {
-            Kept::Short { len, bytes, .. } => InlineBytes {
-                kept: Kept::Short { head, len, bytes },
-            },
-            Kept::Long { bytes, .. } => InlineBytes {
-                kept: Kept::Long { head, bytes },
-            },
+            Kept::Short { few, .. } => InlineBytes::short(head, few),
+            Kept::Long { bytes, .. } => InlineBytes::long(head, bytes),
         }
     }
 
@@ -244,17 +207,11 @@ impl<H: Copy, const N: usize> InlineBytes<H, N> {
         ensures full { OnErr result (min N 255 < length self.now.bytes + length more.now) }
     {
         let front = self.as_slice();
-        let len = front.len() + more.len();
         let head = self.head();
-        if let Some(len) = inline_len(len, N) {
-            return Ok(InlineBytes::short(head, len, front, more));
+        match inline_len(front.len() + more.len(), N) {
+            Some(len) => Ok(InlineBytes::short(head, FewBytes::of_pieces(len, front, more))),
+            None => Ok(InlineBytes::long(head, both(alloc, front, more)?)),
         }
-        let mut bytes = Vec::with_capacity(alloc, len)?;
-        bytes.extend_from_slice(front)?;
-        bytes.extend_from_slice(more)?;
-        Ok(InlineBytes {
-            kept: Kept::Long { head, bytes },
-        })
     }
 
     /// Puts ASCII capitals into lower case, from a place on.
@@ -263,14 +220,7 @@ impl<H: Copy, const N: usize> InlineBytes<H, N> {
         ensures head { self.new.head ≡ self.old.head }
         ensures bytes { self.new.bytes ≡ take start self.old.bytes ++ folded (drop start self.old.bytes) }
     {
-        let end = self.as_slice().len();
-        match &mut self.kept {
-            Kept::Short { bytes, .. } => {
-                let room = &mut bytes[..];
-                room[start..end].make_ascii_lowercase();
-            }
-            Kept::Long { bytes, .. } => bytes[start..].make_ascii_lowercase(),
-        }
+        self.kept.fold_from(start);
     }
 
     /// The same in memory of its own. `Err` where memory runs out.
@@ -279,19 +229,11 @@ impl<H: Copy, const N: usize> InlineBytes<H, N> {
         ensures full { OnErr result (min N 255 < length self.now.bytes) }
     {
         match &self.kept {
-            Kept::Short { head, len, bytes } => Ok(InlineBytes {
-                kept: Kept::Short {
-                    head: *head,
-                    len: *len,
-                    bytes: *bytes,
-                },
-            }),
-            Kept::Long { head, bytes } => Ok(InlineBytes {
-                kept: Kept::Long {
-                    head: *head,
-                    bytes: Vec::from_slice(alloc, bytes.as_slice())?,
-                },
-            }),
+            Kept::Short { head, few } => Ok(InlineBytes::short(*head, few.copy())),
+            Kept::Long { head, bytes } => Ok(InlineBytes::long(
+                *head,
+                Vec::from_slice(alloc, bytes.as_slice())?,
+            )),
         }
     }
 }
@@ -305,4 +247,47 @@ fn inline_len(len: usize, room: usize) -> Option<u8>
         return None;
     }
     u8::try_from(len).ok()
+}
+
+/// Copies of two pieces in a row, in memory of their own. `Err` where memory runs out.
+fn both(alloc: Global, front: &[u8], more: &[u8]) -> Result<Vec<u8>, AllocError>
+    ensures { IfOk result (λ bytes. bytes.items ≡ front.now ++ more.now) }
+{
+    let mut bytes = Vec::with_capacity(alloc, front.len() + more.len())?;
+    bytes.extend_from_slice(front)?;
+    bytes.extend_from_slice(more)?;
+    Ok(bytes)
+}
+
+/// The same with a byte between them.
+fn joined(alloc: Global, front: &[u8], between: u8, back: &[u8]) -> Result<Vec<u8>, AllocError>
+    ensures { IfOk result (λ bytes. bytes.items ≡ front.now ++ between ∷ back.now) }
+{
+    let mut bytes = Vec::with_capacity(alloc, front.len() + back.len() + 1)?;
+    bytes.extend_from_slice(front)?;
+    bytes.push(between)?;
+    bytes.extend_from_slice(back)?;
+    Ok(bytes)
+}
+
+/// The same, the second piece folded.
+fn joined_folded(
+    alloc: Global,
+    front: &[u8],
+    between: u8,
+    back: &[u8],
+) -> Result<Vec<u8>, AllocError>
+    ensures { IfOk result (λ bytes. bytes.items ≡ front.now ++ between ∷ folded back.now) }
+{
+    let mut bytes = joined(alloc, front, between, back)?;
+    fold_behind(&mut bytes, front.len() + 1);
+    Ok(bytes)
+}
+
+/// Puts ASCII capitals into lower case, from a place on.
+fn fold_behind(bytes: &mut Vec<u8>, start: usize)
+    requires { start ≤ length bytes.old.items }
+    ensures { bytes.new.items ≡ take start bytes.old.items ++ folded (drop start bytes.old.items) }
+{
+    bytes[start..].make_ascii_lowercase();
 }

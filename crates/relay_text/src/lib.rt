@@ -7,6 +7,7 @@ mod cut;
 pub mod domain;
 pub mod equality;
 pub mod fault;
+mod few_bytes;
 pub mod first_places;
 mod hashed_text;
 mod inline_bytes;

@@ -19,6 +19,20 @@ fn put_bytes(bytes: &[u8], out: &mut Vec<u8>)
     let _ = out.extend_from_slice(bytes);
 }
 
+/// Writes a byte of a local part as it stands between quotes into room that is there.
+#[inline]
+fn put_quoted_byte(byte: u8, out: &mut Vec<u8>)
+    requires { vec_len out.old + length (quoted_byte byte) ≤ vec_capacity out.old }
+    ensures items { out.new.items ≡ out.old.items ++ quoted_byte byte }
+    ensures len { vec_len out.new ≡ vec_len out.old + length (quoted_byte byte) }
+    ensures capacity { vec_capacity out.old ≤ vec_capacity out.new }
+{
+    if needs_escape(byte) {
+        out.push_reserved(b'\\');
+    }
+    out.push_reserved(byte);
+}
+
 /// Writes a local part between quotes into room that is there.
 fn put_quoted(local: &[u8], out: &mut Vec<u8>)
     requires { vec_len out.old + (length (flat_map quoted_byte local.now) + 2) ≤ vec_capacity out.old }
@@ -28,10 +42,7 @@ fn put_quoted(local: &[u8], out: &mut Vec<u8>)
 {
     out.push_reserved(b'"');
     for byte in local {
-        if needs_escape(*byte) {
-            out.push_reserved(b'\\');
-        }
-        out.push_reserved(*byte);
+        put_quoted_byte(*byte, out);
     }
     out.push_reserved(b'"');
 }
