@@ -6,13 +6,14 @@ use mathlib.Core.Logic.{dite}
 use native.Mathlib.Decide.{ℕ_discrete}
 use prog.Atomic.{either}
 use lib.ListN.{get_elem?}
+use Rattle.atomic_table.specs.Seated.{TableId}
 use Rattle.atomic_table.specs.Table.{State, Me, Act, keeps, Allows, Valid, carried_after, stepped, step}
 use Rattle.atomic_table.proofs.Lists.{exchanged}
 use Rattle.relay_claims.specs.declared.view.View.{View}
-use Rattle.relay_claims.specs.Counting.{times, once_below}
+use Rattle.relay_claims.specs.Counting.{times, span, once_below}
 use Rattle.relay_claims.specs.Round.{pieces_of, head_word, link_word, ticket_of, link_of}
 use Rattle.relay_claims.specs.View.{piece, took, missed, no_flight, both_views}
-use Rattle.relay_claims.specs.Seat.{IsIdle}
+use Rattle.relay_claims.specs.Seat.{Progress, IsIdle, shown}
 use Rattle.relay_claims.specs.Lawful.{Leads, Lawful}
 use Rattle.relay_claims.specs.Steps.{tried_ticket}
 use Rattle.relay_claims.specs.Round.{ArePlaces}
@@ -57,6 +58,25 @@ took_idle me now i e room small = subst (λ (m : Me Unit View). IsIdle m) (sym e
   no_slot = i.no_slot;
   places = places_append me.0.keys me.0.drawn (piece (length me.0.keys) me.0.cut me.0.seen) i.places (places_piece me.0.keys me.0.cut me.0.seen room small);
 })
+
+-- and has what it had, but for what a draw changes
+pub took_others : (name old : TableId) (me now : Me Unit View) (s : Progress) → name ≡ old → now ≡ (took me.0, me.1) → shown old me.0 ≡ record s { seen = me.0.seen; draw_tries = me.0.draw_tries }
+    → shown name now.0 ≡ record s { drawn = now.0.drawn; seen = now.0.seen; draw_tries = now.0.draw_tries }
+took_others name old me now s same e was =
+    let v : View = took me.0 in
+    subst (λ (m : Me Unit View). shown name m.0 ≡ record s { drawn = m.0.drawn; seen = m.0.seen; draw_tries = m.0.draw_tries }) (sym e)
+    (ap (λ (n : TableId). shown n v) same ∙ ap (λ (p : Progress). record p { drawn = v.drawn; seen = v.seen; draw_tries = v.draw_tries }) was)
+
+-- what it drew is the piece of the ticket t, of which it had nothing
+pub took_drawn : (me now : Me Unit View) (drawn keys : List ℕ) (cut t len : ℕ) → now ≡ (took me.0, me.1) → me.0.drawn ≡ drawn → me.0.keys ≡ keys → me.0.cut ≡ cut → me.0.seen ≡ t → len ≡ min cut (length keys - t * cut)
+    → now.0.drawn ≡ drawn ++ span (t * cut) (t * cut + len - t * cut)
+took_drawn me now drawn keys cut t len e d k c s l =
+    let z : ℕ = t * cut in let whole : z + len - z ≡ len = omega arith in
+    ap (λ m. m.0.drawn) e ∙ (λ i. d i ++ span (s i * c i) (min (c i) (length (k i) - s i * c i))) ∙ sym (ap (λ (n : ℕ). drawn ++ span z n) (whole ∙ l))
+
+pub took_fresh : (me : Me Unit View) (drawn : List ℕ) (cut t : ℕ) → ((x : ℕ) → me.0.seen * me.0.cut ≤ x → times x me.0.drawn ≡ 0) → me.0.drawn ≡ drawn → me.0.cut ≡ cut → me.0.seen ≡ t → (x : ℕ) → t * cut ≤ x → times x drawn ≡ 0
+took_fresh me drawn cut t fresh d c s x far =
+    subst (λ (xs : List ℕ). times x xs ≡ 0) d (fresh x (subst (λ (n : ℕ). n ≤ x) (sym (λ i. s i * c i)) far))
 
 -- and so is one that took in another
 pub both_idle : (v w now : Me Unit View) → IsIdle v → IsIdle w → w.0.keys ≡ v.0.keys → now ≡ (both_views v.0 w.0, v.1) → IsIdle now

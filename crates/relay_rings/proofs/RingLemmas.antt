@@ -1,7 +1,7 @@
 -- What an append leaves of rings.
-use Rattle.std.proofs.Common.{◌≡◌, ◌⊎◌, ℕ, Result, Ok, Err, false, ◌+◌, ◌-◌, ◌<◌, ◌≤◌, replicate, List, [], ◌∷◌, ◌++◌, length, get_or, set, map, refl, sym, ap, ◌∙◌, subst, arith, zero, suc, inl, inr}
+use Rattle.std.proofs.Common.{◌≡◌, ◌⊎◌, ℕ, Result, Ok, Err, true, false, ◌+◌, ◌-◌, ◌<◌, ◌≤◌, replicate, List, [], ◌∷◌, ◌++◌, length, get_or, set, map, refl, sym, ap, ◌∙◌, subst, arith, zero, suc, inl, inr}
 use Rattle.std.specs.List.{sum_by}
-use Rattle.std.specs.Result.{OnOk, is_err}
+use Rattle.std.specs.Result.{OnOk, OnErr, is_err}
 use Rattle.std.proofs.lemmas.Bool.{cases_eq, cases_lt, true≢false}
 use Rattle.std.proofs.lemmas.List.{get_or-set_same, get_or-set_other, get_or-map, length-map, length-set, ext_get_or, get_or_past, get_or_read}
 use Rattle.std.proofs.lemmas.List.Sums.{sum_by-cons, sum_by-set, get_or-le-sum_by}
@@ -318,6 +318,11 @@ pub OnOk-not_err : {T E P : Type 0} (r : Result T E) → is_err r ≡ false → 
 OnOk-not_err (Ok x) e p = p
 OnOk-not_err (Err y) e p = absurd (true≢false e)
 
+-- and what one that gave an error says of that
+pub OnErr-is_err : {X E P : Type 0} (r : Result X E) → is_err r ≡ true → OnErr r P → P
+OnErr-is_err (Ok x) e h = absurd (true≢false (sym e))
+OnErr-is_err (Err x) e h = h
+
 pub get_or-lists : (nodes : List Node) (rings : List Ring) (d : ℕ) (ring : Ring) → d < length rings → ring ≡ get_or rings d ring → get_or (map (ring_items nodes) rings) d [] ≡ ring_items nodes ring
 get_or-lists nodes rings d ring b reads =
     get_or-map (ring_items nodes) rings d (record { newest = 0; count = 0 }) [] b ∙ ap (ring_items nodes) (sym (get_or_read rings d ring b reads (record { newest = 0; count = 0 })))
@@ -325,3 +330,14 @@ get_or-lists nodes rings d ring b reads =
 -- the destinations of the view are the rings
 pub dest_within : (view : RingLists) (nodes : List Node) (rings : List Ring) (d : ℕ) → map (ring_items nodes) rings ≡ view.lists → d < length view.lists → d < length rings
 dest_within view nodes rings d is b = omega (arith, ap length is, length-map rings (ring_items nodes))
+
+-- ---- a ring that was read
+pub newest_within : (nodes : List Node) (rings : List Ring) (limit : ℕ) → AreRings nodes rings limit → (d : ℕ) (ring : Ring) → d < length rings → ring ≡ get_or rings d ring → 0 < ring.count → ring.newest < length nodes
+newest_within nodes rings limit old d ring b reads some =
+    let is = get_or_read rings d ring b reads (record { newest = 0; count = 0 }) in
+    subst (λ (r : Ring). 0 < r.count → r.newest < length nodes) (sym is) (old.newest d) some
+
+pub count_within : (nodes : List Node) (rings : List Ring) (limit : ℕ) → AreRings nodes rings limit → (d : ℕ) (ring : Ring) → d < length rings → ring ≡ get_or rings d ring → ring.count ≤ length nodes
+count_within nodes rings limit old d ring b reads =
+    let is = get_or_read rings d ring b reads (record { newest = 0; count = 0 }) in
+    subst (λ (r : Ring). r.count ≤ length nodes) (sym is) (count_small nodes rings limit old d)

@@ -1,6 +1,6 @@
 //! Transactions within the limits of their keys.
-ghost use Rattle.std.specs.Prelude.{◌≡◌, ◌<◌, ◌≤◌, ◌-◌, ◌^◌, ◌++◌, List, length, map, take, drop, All, IfOk, OnOk};
-ghost use Rattle.relay_rings.specs.Batches.{batches_of, items_at, keys_of, transactions_of, IsAscendingPlaced};
+ghost use Rattle.std.specs.Prelude.{◌≡◌, ◌<◌, ◌≤◌, ◌-◌, ◌^◌, ◌++◌, List, length, map, flat_map, take, drop, All, IfOk, OnOk};
+ghost use Rattle.relay_rings.specs.Batches.{batches_at, batches_of, items_at, keys_of, transactions_of, IsAscendingPlaced};
 ghost use Rattle.relay_rings.specs.RingLists.{list_at};
 ghost use Rattle.relay_rings.specs.Sound.{IsSoundFor};
 ghost use Rattle.relay_rings.specs.Walks.{walk_rest};
@@ -67,12 +67,7 @@ pub fn batches(
 {
     let keys = distinct_keys(alloc, placed)?;
     let rings = rings_by_key(alloc, placed, keys.as_slice())?;
-    let mut transactions = Vec::new(alloc);
-    for (dest, key) in keys.iter().enumerate() {
-        let limit = limits[*key as usize];
-        cut_ring(alloc, &rings, dest, *key, limit, &mut transactions)?;
-    }
-    Ok(transactions)
+    cut_rings(alloc, &rings, keys.as_slice(), limits)
 }
 
 /// The distinct keys, in order.
@@ -108,6 +103,26 @@ fn rings_by_key(alloc: Global, placed: &[Placed], keys: &[u32]) -> Result<Rings,
         }
     }
     Ok(rings)
+}
+
+/// The transactions of each key in turn, cut from the ring at the key's place.
+fn cut_rings(
+    alloc: Global,
+    rings: &Rings,
+    keys: &[u32],
+    limits: &[u32],
+) -> Result<Vec<Transaction>, AllocError>
+    requires keys { All (λ key. key < length limits.now) keys.now }
+    requires limits { All (λ limit. 0 < limit) limits.now }
+    requires rings { length rings.now.lists ≡ length keys.now }
+    ensures { IfOk result (λ ts. (placed : List Placed) → rings.now.lists ≡ map (items_at placed) keys.now → ts.items ≡ flat_map (batches_at limits.now placed) keys.now) }
+{
+    let mut transactions = Vec::new(alloc);
+    for (dest, key) in keys.iter().enumerate() {
+        let limit = limits[*key as usize];
+        cut_ring(alloc, rings, dest, *key, limit, &mut transactions)?;
+    }
+    Ok(transactions)
 }
 
 /// Cuts a key's ring into transactions of `limit` items, in one walk; the last may be shorter.

@@ -21,7 +21,7 @@ pub enum RingFault {
 }
 
 /// A destination's newest node, and how many nodes its ring has; the node's number says nothing where the ring is empty.
-#[derive(Clone, Copy, Debug)]
+#[derive(Clone, Copy)]
 struct Ring {
     newest: u32,
     count: u32,

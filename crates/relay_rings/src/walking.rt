@@ -3,7 +3,7 @@ ghost use Rattle.std.specs.Prelude.{◌<◌, ◌≤◌, length, All};
 ghost use Rattle.relay_rings.specs.declared.walking.Node.{Node};
 
 /// An item, and the number of the node that comes after it in its ring.
-#[derive(Clone, Copy, Debug)]
+#[derive(Clone, Copy)]
 pub(crate) struct Node {
     pub(crate) item: u32,
     pub(crate) link: u32,

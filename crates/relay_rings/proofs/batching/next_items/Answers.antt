@@ -1,4 +1,4 @@
-use Rattle.std.proofs.Common.{[], ◌∷◌, ◌++◌, sym, ap, ◌∙◌}
+use Rattle.std.proofs.Common.{◌≡◌, [], ◌∷◌, ◌++◌, take, drop, refl, sym, ap, ◌∙◌, arith}
 use Rattle.relay_rings.specs.Walks.{walk_rest}
 use Rattle.relay_rings.proofs.CutLemmas.{turn_some, turn_takes}
 use Rattle.relay_rings.proofs.batching.next_items.Goals as goal
@@ -14,3 +14,16 @@ loop-preserved c =
       taken = c.in_ok-push.ensures.items ∙ ap (λ xs. xs ++ x ∷ []) c.loop.invariant.taken ∙ sym t.0;
       rest = t.1;
     }
+
+pub loop-init : goal.loop-init
+loop-init c = record { taken = c.in_ok-items.ensures.items; rest = refl }
+
+pub returns-clause-taken : goal.returns-clause-taken
+returns-clause-taken c =
+    let all : c.loop.counter ≡ c.args.count = omega arith in
+    c.loop.invariant.taken ∙ ap (λ n. take n (walk_rest c.args.walk.now)) all
+
+pub returns-clause-rest : goal.returns-clause-rest
+returns-clause-rest c =
+    let all : c.loop.counter ≡ c.args.count = omega arith in
+    c.loop.invariant.rest ∙ ap (λ n. drop n (walk_rest c.args.walk.now)) all

@@ -1,7 +1,8 @@
-use Rattle.std.proofs.Common.{◌≡◌, ◌⊎◌, ◌+◌, ◌<◌, length, get_or, take, refl, sym, ap, ◌∙◌, arith, inl, inr}
-use Rattle.std.proofs.lemmas.List.{length-map}
+use Rattle.std.proofs.Common.{◌≡◌, ◌⊎◌, ◌+◌, ◌<◌, List, length, get_or, map, take, refl, sym, ap, ◌∙◌, arith, inl, inr}
+use Rattle.std.proofs.lemmas.List.{length-map, take_all}
 use Rattle.relay_rings.specs.Batches.{items_at}
 use Rattle.relay_rings.specs.RingLists.{RingLists, held_count}
+use Rattle.relay_rings.specs.declared.batching.Placed.{Placed}
 use Rattle.relay_rings.proofs.DestLemmas.{dest_before, dest_within, dest_now, lists_now, held_count-appended, lists_none, held_none, length-keys_of}
 use Rattle.relay_rings.proofs.batching.rings_by_key.Goals as goal
 use Rattle.relay_rings.proofs.batching.rings_by_key.Goals.{then-keys-dest, else-keys-dest}
@@ -60,3 +61,12 @@ loop-p-preserved c =
       held = ap held_count grows ∙ held_count-appended l.rings now item within ∙ ap (λ n. n + 1) l.invariant.held;
       place = place;
     }
+
+pub returns : goal.returns
+returns c = c.loop-p.invariant.lists ∙ ap (λ (ps : List Placed). map (items_at ps) c.args.keys.now) (take_all c.loop-p.p-index c.args.placed.now c.loop-p-test.false)
+
+pub unreachable-requires : goal.unreachable-requires
+unreachable-requires c =
+    let reached = c.append.ensures.full (cc) in
+    let invariant = c.loop-p.invariant in
+    omega arith
