@@ -1,10 +1,10 @@
 -- The line that decides gives the result that the table gives.
-use Rattle.std.proofs.Common.{◌≡◌, ℕ, ◌+◌, ◌<◌, ◌≤◌, Bool, true, false, cond, ◌||◌, List, [], ◌∷◌, ◌++◌, length, drop, get_or, map, refl, sym, ap, subst, ◌∙◌, drop-cons, add-one}
-use Rattle.std.specs.Prelude.{Option, Some, None, option_map, filter_map}
+use Rattle.std.proofs.Common.{◌≡◌, ℕ, ◌+◌, ◌<◌, ◌≤◌, Bool, true, false, cond, ◌||◌, List, [], ◌∷◌, ◌++◌, length, drop, get_or, map, refl, sym, ap, ◌∙◌, drop-cons, add-one}
+use Rattle.std.specs.Prelude.{Option, Some, None, option_map, option_to_list, filter_map}
 use Rattle.std.specs.List.{list_any, cons_option}
 use Rattle.std.specs.Str.{bytes_eq}
 use Rattle.std.proofs.lemmas.Bool.{false≢true, true≢false}
-use Rattle.std.proofs.lemmas.List.{drop_all}
+use Rattle.std.proofs.lemmas.List.{append-nil, append_assoc, drop_all}
 use Rattle.std.proofs.lemmas.List.Folds.{list_any-append}
 use Rattle.std.proofs.lemmas.List.Elements.{filter_map-append}
 use Rattle.std.proofs.lemmas.Slice.Eq.{bytes_eq-Decides}
@@ -87,32 +87,35 @@ pub choice_is : (table : List ℕ) (delimiter : Option ℕ) (a : AddressParts) �
 unfolding transport_table_of deciding_line_of
 choice_is table delimiter a = ap choice_of (along _ (filter_map good_line_in (logical_lines_of table).lines) (λ key. at_key key [] (logical_lines_of table).lines) (keys_of a delimiter))
 
+-- ---- line after line
+pub good_more : (good more : List DecidingLine) (l : Line) (rest : List Line) → more ≡ good ++ option_to_list (good_line_in l) → more ++ filter_map good_line_in rest ≡ good ++ filter_map good_line_in (l ∷ rest)
+good_more good more l rest put = at (good_line_in l) put where
+  at : (o : Option DecidingLine) → more ≡ good ++ option_to_list o → more ++ filter_map good_line_in rest ≡ good ++ cons_option o (filter_map good_line_in rest)
+  at None e = ap (λ ls. ls ++ filter_map good_line_in rest) (e ∙ append-nil good)
+  at (Some g) e = ap (λ ls. ls ++ filter_map good_line_in rest) e ∙ append_assoc good (g ∷ []) (filter_map good_line_in rest)
+
 -- ---- key after key
-decides : (table : List ℕ) (delimiter : Option ℕ) (a : AddressParts) (lines : List DecidingLine) (keys : List (List ℕ)) → lines ≡ filter_map good_line_in (logical_lines_of table).lines → keys ≡ keys_of a delimiter
+pub decides : (table : List ℕ) (delimiter : Option ℕ) (a : AddressParts) (lines : List DecidingLine) (keys : List (List ℕ)) → lines ≡ filter_map good_line_in (logical_lines_of table).lines → keys ≡ keys_of a delimiter
     → first_line_at lines keys ≡ deciding_line_of table a delimiter
 unfolding deciding_line_of
 decides table delimiter a lines keys good all = ap (λ ls. first_line_at ls keys) good ∙ ap (first_line_at (filter_map good_line_in (logical_lines_of table).lines)) all
 
-found_at : (lines : List DecidingLine) (keys : List (List ℕ)) (i : ℕ) (key : List ℕ) (l : DecidingLine) → i < length keys → key ≡ get_or keys i key → Some l ≡ line_at lines key
-    → first_line_at lines (drop i keys) ≡ first_line_at lines keys → Some l ≡ first_line_at lines keys
-found_at lines keys i key l inside here found left =
+-- what a key gives, and the keys behind it where it gives nothing, is what all keys that are left give
+at_turn : (lines : List DecidingLine) (keys : List (List ℕ)) (i : ℕ) (key : List ℕ) (o : Option DecidingLine) → i < length keys → key ≡ get_or keys i key → o ≡ line_at lines key
+    → first_line_at lines (drop i keys) ≡ first_line_at lines keys → first_of (o ∷ map (line_at lines) (drop (i + 1) keys)) ≡ first_line_at lines keys
+at_turn lines keys i key o inside here found left =
     let cut : drop i keys ≡ get_or keys i key ∷ drop (i + 1) keys = rw (add-one, drop-cons keys i key) refl in
     ap (λ o. first_of (o ∷ map (line_at lines) (drop (i + 1) keys))) found
     ∙ ap (λ k. first_line_at lines (k ∷ drop (i + 1) keys)) here
     ∙ ap (first_line_at lines) (sym cut) ∙ left
 
--- the first line of the first key that has one, and none where no key is left
-pub decided : (table : List ℕ) (delimiter : Option ℕ) (a : AddressParts) (lines : List DecidingLine) (keys : List (List ℕ)) (i : ℕ) (key : List ℕ) (l : DecidingLine)
-    → lines ≡ filter_map good_line_in (logical_lines_of table).lines → keys ≡ keys_of a delimiter → i < length keys → key ≡ get_or keys i key → Some l ≡ line_at lines key
-    → first_line_at lines (drop i (keys_of a delimiter)) ≡ first_line_at lines (keys_of a delimiter) → Some l ≡ deciding_line_of table a delimiter
-decided table delimiter a lines keys i key l good all inside here found left =
-    found_at lines keys i key l inside here found (subst (λ (ks : List (List ℕ)). first_line_at lines (drop i ks) ≡ first_line_at lines ks) (sym all) left)
-    ∙ decides table delimiter a lines keys good all
+pub found_at : (lines : List DecidingLine) (keys : List (List ℕ)) (i : ℕ) (key : List ℕ) (l : DecidingLine) → i < length keys → key ≡ get_or keys i key → Some l ≡ line_at lines key
+    → first_line_at lines (drop i keys) ≡ first_line_at lines keys → Some l ≡ first_line_at lines keys
+found_at lines keys i key l inside here found left = at_turn lines keys i key (Some l) inside here found left
 
-pub undecided : (table : List ℕ) (delimiter : Option ℕ) (a : AddressParts) (lines : List DecidingLine) (keys : List (List ℕ)) (i : ℕ)
-    → lines ≡ filter_map good_line_in (logical_lines_of table).lines → keys ≡ keys_of a delimiter → length keys ≤ i
-    → first_line_at lines (drop i (keys_of a delimiter)) ≡ first_line_at lines (keys_of a delimiter) → None ≡ deciding_line_of table a delimiter
-undecided table delimiter a lines keys i good all past left =
-    ap (first_line_at lines) (sym (drop_all i keys past))
-    ∙ ap (λ (ks : List (List ℕ)). first_line_at lines (drop i ks)) all ∙ left
-    ∙ decides table delimiter a lines (keys_of a delimiter) good refl
+pub none_at : (lines : List DecidingLine) (keys : List (List ℕ)) (i : ℕ) (key : List ℕ) → i < length keys → key ≡ get_or keys i key → None ≡ line_at lines key
+    → first_line_at lines (drop i keys) ≡ first_line_at lines keys → first_line_at lines (drop (i + 1) keys) ≡ first_line_at lines keys
+none_at lines keys i key inside here found left = at_turn lines keys i key None inside here found left
+
+pub none_left : (lines : List DecidingLine) (keys : List (List ℕ)) (i : ℕ) → length keys ≤ i → first_line_at lines (drop i keys) ≡ first_line_at lines keys → None ≡ first_line_at lines keys
+none_left lines keys i past left = ap (first_line_at lines) (sym (drop_all i keys past)) ∙ left

@@ -16,7 +16,7 @@ use Rattle.relay_routes.specs.declared.fate.Fate.{Fate}
 use Rattle.relay_routes.specs.declared.exchanger_fates.Numbered.{Numbered}
 use Rattle.relay_routes.specs.declared.exchanger_fates.ExchangerLine.{ExchangerLine}
 use Rattle.relay_routes.specs.Exchanges.{is_before_relay, is_null}
-use Rattle.relay_routes.specs.ExchangerLines.{exchange_key, fate_by, fate_of, good_exchanges, is_same, line_with, with_fates}
+use Rattle.relay_routes.specs.ExchangerLines.{exchange_key, fate_behind, fate_by, fate_of, good_exchanges, is_same, line_with, with_fates}
 use Rattle.relay_routes.specs.Preferences.{is_within, least_own}
 use Rattle.relay_routes.proofs.HostChoices.{within_least}
 use Rattle.relay_routes.proofs.OwnNames.{filter-same}
@@ -126,20 +126,13 @@ none_fated own_names all lines seen no_lines no_keys = record {
   keys_are = λ q. ap (λ (ks : List (List ℕ)). has_text ks q) no_keys;
 }
 
-pub one_fated : (own_names : List (List ℕ)) (all first : List Numbered) (n : Numbered) (lines more : List ExchangerLine) (seen later : List (List ℕ)) (fate : Fate) (line : ExchangerLine)
-    → (limit : Option ℕ) (null own before is_new : Bool) (key : List ℕ) → AreFated own_names all first lines seen → PreferenceFits n → limit ≡ least_own own_names (good_exchanges all)
-    → null ≡ is_null n.exchange → own ≡ has_text own_names n.exchange.host → before ≡ is_within limit n.exchange.preference → key ≡ exchange_key n.exchange → is_new ≡ not (has_text seen key)
-    → fate ≡ fate_by null own before is_new → line ≡ line_with fate n → more ≡ lines ++ line ∷ [] → ((q : List ℕ) → has_text later q ≡ (bytes_eq q key || has_text seen q))
-    → AreFated own_names all (first ++ n ∷ []) more later
-one_fated own_names all first n lines more seen later fate line limit null own before is_new key was fits limit_is null_is own_is before_is key_is new_is fate_is line_is more_is later_is =
+pub one_fated : (own_names : List (List ℕ)) (all first : List Numbered) (n : Numbered) (lines more : List ExchangerLine) (seen later : List (List ℕ)) (limit : Option ℕ) (fate : Fate) (line : ExchangerLine)
+    → AreFated own_names all first lines seen → PreferenceFits n → limit ≡ least_own own_names (good_exchanges all)
+    → fate ≡ fate_behind own_names limit seen n.exchange → line ≡ line_with fate n → more ≡ lines ++ line ∷ []
+    → ((q : List ℕ) → has_text later q ≡ (bytes_eq q (exchange_key n.exchange) || has_text seen q)) → AreFated own_names all (first ++ n ∷ []) more later
+one_fated own_names all first n lines more seen later limit fate line was fits limit_is fate_is line_is more_is later_is =
     let e = n.exchange in
-    let found : fate ≡ fate_of own_names all first e =
-    fate_is
-    ∙ ap (λ t. fate_by t own before is_new) null_is
-    ∙ ap (λ t. fate_by (is_null e) t before is_new) own_is
-    ∙ ap (λ t. fate_by (is_null e) (has_text own_names e.host) t is_new) before_is
-    ∙ ap (λ t. fate_by (is_null e) (has_text own_names e.host) (is_within limit e.preference) t) (new_is ∙ ap (λ k. not (has_text seen k)) key_is)
-    ∙ fate_found own_names all first e limit seen fits was.fits limit_is was.keys_are in
+    let found : fate ≡ fate_of own_names all first e = fate_is ∙ fate_found own_names all first e limit seen fits was.fits limit_is was.keys_are in
     record {
       fits = All-push PreferenceFits first n was.fits fits;
       made =
@@ -149,7 +142,16 @@ one_fated own_names all first n lines more seen later fate line limit null own b
           ∙ sym (one_more_fate own_names all first n);
       keys_are = λ q.
           later_is q
-          ∙ ap (λ k. bytes_eq q k || has_text seen q) key_is
           ∙ ap (λ t. bytes_eq q (exchange_key e) || t) (was.keys_are q)
           ∙ sym (key_more first n q);
     }
+
+-- what is found of one, by what was asked of it
+pub behind : (own_names seen : List (List ℕ)) (limit : Option ℕ) (e : Exchange) (null own before is_new : Bool) (key : List ℕ) (fate : Fate) → fate ≡ fate_by null own before is_new
+    → null ≡ is_null e → own ≡ has_text own_names e.host → before ≡ is_within limit e.preference → is_new ≡ not (has_text seen key) → key ≡ exchange_key e → fate ≡ fate_behind own_names limit seen e
+behind own_names seen limit e null own before is_new key fate fate_is null_is own_is before_is new_is key_is =
+    fate_is
+    ∙ ap (λ t. fate_by t own before is_new) null_is
+    ∙ ap (λ t. fate_by (is_null e) t before is_new) own_is
+    ∙ ap (λ t. fate_by (is_null e) (has_text own_names e.host) t is_new) before_is
+    ∙ ap (λ t. fate_by (is_null e) (has_text own_names e.host) (is_within limit e.preference) t) (new_is ∙ ap (λ k. not (has_text seen k)) key_is)

@@ -114,3 +114,14 @@ unseen-is seen (x ∷ xs) =
 
 pub unseen-none : (xs : List (List ℕ)) → unseen [] xs ≡ firsts bytes_eq xs
 unseen-none xs = unseen-is [] xs ∙ all_kept (firsts bytes_eq xs)
+
+-- one more text in a set that has the hosts
+pub has_more : (old new hosts : List (List ℕ)) (host : List ℕ) → ((q : List ℕ) → has_text new q ≡ (bytes_eq q host || has_text old q)) → ((q : List ℕ) → has_text old q ≡ has_text hosts q)
+    → (q : List ℕ) → has_text new q ≡ has_text (hosts ++ host ∷ []) q
+has_more old new hosts host more had q =
+    more q ∙ ap (λ t. bytes_eq q host || t) (had q) ∙ turned (bytes_eq q host) (has_text hosts q) ∙ sym (list_any-append (bytes_eq q) hosts (host ∷ [])) where
+      turned : (a b : Bool) → (a || b) ≡ (b || (a || false))
+      turned true true = refl
+      turned true false = refl
+      turned false true = refl
+      turned false false = refl

@@ -1,9 +1,11 @@
 -- What may stand in a result of a transport table.
-use Rattle.std.proofs.Common.{◌≡◌, ℕ, Bool, true, false, not, ◌==◌, ◌&&◌, ◌||◌, cond, List, [], ◌∷◌, length, codes, Option, Some, None, refl, sym, ◌∙◌}
+use Rattle.std.proofs.Common.{◌≡◌, ℕ, Bool, true, false, not, ◌==◌, ◌&&◌, ◌||◌, cond, List, [], ◌∷◌, length, codes, Option, Some, None, refl, sym, ap, ◌∙◌}
 use Rattle.std.specs.List.{list_all, list_any}
 use Rattle.std.specs.Option.{option_map, is_some}
 use Rattle.relay_text.specs.Bytes.{is_white, begins_with}
-use Rattle.relay_routes.specs.Transports.{is_result_byte, is_result}
+use Rattle.relay_routes.specs.declared.transport_line.TransportLine.{TransportLine}
+use Rattle.relay_routes.specs.Transports.{is_result_byte, is_result, pattern_of}
+use Rattle.relay_routes.specs.TableSteps.{line_with}
 
 -- bytes that print, of which none is white
 abbrev pub all_visible : List ℕ → Bool
@@ -40,3 +42,13 @@ pub no_word : {X Y : Type 0} (found : Bool) (said : Option X) (f : X → Y) (res
 no_word true None f rest h e = absurd (let no : ⊥ = cc in no)
 no_word true (Some x) f rest h e = absurd (let no : ⊥ = cc in no)
 no_word false said f rest h e = refl
+
+-- ---- The line of a pattern's field and the text of a result.
+abbrev line_by : List ℕ → List ℕ → TransportLine
+line_by text pattern = record { pattern = pattern; result = text }
+
+pub no_line : (field text : List ℕ) → is_result text ≡ false → None ≡ line_with field text
+no_line field text h = ap (λ (t : Bool). cond t (option_map (line_by text) (pattern_of field)) None) (sym h)
+
+pub some_line : (field text : List ℕ) (pattern : Option (List ℕ)) → is_result text ≡ true → pattern ≡ pattern_of field → option_map (line_by text) pattern ≡ line_with field text
+some_line field text pattern h found = ap (option_map (line_by text)) found ∙ ap (λ (t : Bool). cond t (option_map (line_by text) (pattern_of field)) None) (sym h)

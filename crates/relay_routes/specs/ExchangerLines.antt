@@ -14,6 +14,7 @@ use Rattle.relay_routes.specs.declared.exchanger_fates.Numbered.{Numbered}
 use Rattle.relay_routes.specs.declared.exchanger_fates.ExchangerLine.{ExchangerLine}
 use Rattle.relay_routes.specs.declared.unrouted.Unrouted.{Unrouted}
 use Rattle.relay_routes.specs.declared.unrouted.Unrouted.TheVariants.{Domain, NullMx}
+use Rattle.relay_routes.specs.Preferences.{is_within}
 use Rattle.relay_routes.specs.Exchanges.{record_in, exchange_in, address_in, is_null, is_before_relay, in_preference_order, some_hosts}
 
 abbrev pub numbered : ℕ → Exchange → Numbered
@@ -75,6 +76,10 @@ fate_by is_null is_own is_before is_new =
 
 abbrev pub fate_of : List (List ℕ) → List Numbered → List Numbered → Exchange → Fate
 fate_of own_names es earlier e = fate_by (is_null e) (has_text own_names e.host) (is_before_relay own_names (good_exchanges es) e) (not (list_any (is_same e) earlier))
+
+-- the same by the least preference of the relay's own exchangers, and the keys of the earlier ones
+abbrev pub fate_behind : List (List ℕ) → Option ℕ → List (List ℕ) → Exchange → Fate
+fate_behind own_names limit seen e = fate_by (is_null e) (has_text own_names e.host) (is_within limit e.preference) (not (has_text seen (exchange_key e)))
 
 abbrev pub line_with : Fate → Numbered → ExchangerLine
 line_with fate n = record { line = n.line; preference = n.exchange.preference; host = n.exchange.host; fate = fate }

@@ -1,5 +1,5 @@
 -- Mail exchangers by their preferences, as they are sorted and cut into runs.
-use Rattle.std.specs.Prelude.{◌≡◌, ℕ, ◌<◌, ◌≤◌, Bool, true, ◌&&◌, nat_lt, List, [], ◌∷◌, ◌++◌, map, length, Option, Some, None, ⊤, if◌then◌else◌}
+use Rattle.std.specs.Prelude.{◌≡◌, ℕ, ◌<◌, ◌≤◌, Bool, true, ◌&&◌, nat_lt, List, [], ◌∷◌, ◌++◌, map, length, Option, Some, None, IfSome, ⊤, if◌then◌else◌}
 use Rattle.std.specs.Borrow.{Bor}
 use Rattle.std.specs.Str.{bytes_eq}
 use Rattle.relay_text.specs.Bytes.{has_text, firsts}
@@ -34,6 +34,10 @@ with_host hosts host = if has_text hosts host then hosts else hosts ++ host ∷ 
 abbrev pub with_hosts : List (List ℕ) → List (List ℕ) → List (List ℕ)
 with_hosts hosts [] = hosts
 with_hosts hosts (host ∷ more) = with_hosts (with_host hosts host) more
+
+-- a set of texts, if there is one, has the hosts and no other
+abbrev pub HasSeen : Option (List (List ℕ)) → List (List ℕ) → Type 0
+HasSeen seen hosts = IfSome seen (λ texts. (q : List ℕ) → has_text texts q ≡ has_text hosts q)
 
 -- numbers none of which is below one before it
 abbrev pub AtLeast : ℕ → List ℕ → Type 0

@@ -1,5 +1,5 @@
 -- A transport table while it is read, line after line, and where its entries stand.
-use Rattle.std.specs.Prelude.{ℕ, Bool, true, false, ◌==◌, List, [], ◌∷◌, ◌++◌, map, codes, Option, Some, None, Result, Err, if◌then◌else◌}
+use Rattle.std.specs.Prelude.{ℕ, Bool, true, false, ◌==◌, List, [], ◌∷◌, ◌++◌, map, codes, Option, Some, None, option_map, Result, Err, if◌then◌else◌}
 use Rattle.std.specs.List.{list_any}
 use Rattle.relay_text.specs.Bytes.{has_text}
 use Rattle.relay_text.specs.AddressParts.{AddressParts}
@@ -9,7 +9,7 @@ use Rattle.relay_text.specs.declared.fault.TextFault.{TextFault}
 use Rattle.relay_text.specs.declared.fault.TextFault.TheVariants.{BadDomain}
 use Rattle.relay_routes.specs.declared.fault.FaultKind.TheVariants.{BadLine, Duplicate}
 use Rattle.relay_routes.specs.declared.transport_line.TransportLine.{TransportLine}
-use Rattle.relay_routes.specs.Transports.{line_of, fault, base_keys, parent_keys}
+use Rattle.relay_routes.specs.Transports.{line_of, fault, base_keys, parent_keys, is_result, pattern_of}
 use Rattle.relay_routes.specs.TransportLines.{TransportLines}
 
 -- whether a text is no name because a domain follows its local part
@@ -19,6 +19,10 @@ is_domain_fault other = false
 
 abbrev pub names_domain : List ℕ → Bool
 names_domain text = is_domain_fault (name_of text)
+
+-- the line of a pattern's field and the text of a result
+abbrev pub line_with : List ℕ → List ℕ → Option TransportLine
+line_with field text = if is_result text then option_map (λ pattern. record { pattern = pattern; result = text }) (pattern_of field) else None
 
 -- whether an entry has this pattern
 abbrev pub has_entry : List TransportLine → List ℕ → Bool

@@ -1,14 +1,16 @@
 //! The line of a transport table that decides where an address goes.
-ghost use Rattle.std.specs.Prelude.{◌≡◌, ◌++◌, map, filter_map, option_map, option_copied, ℕ, List, Option, IfOk, OnOk};
-ghost use Rattle.std.specs.List.{find};
+ghost use Rattle.std.specs.Prelude.{◌≡◌, ◌++◌, ◌∷◌, filter_map, option_map, option_copied, option_to_list, ℕ, List, Option, IfOk, OnOk};
 ghost use Rattle.relay_text.specs.AddressParts.{AddressParts};
+ghost use Rattle.relay_text.specs.Addresses.{base_of};
 ghost use Rattle.relay_text.specs.Lines.{logical_lines_of};
-ghost use Rattle.relay_routes.specs.Transports.{choice_for, choice_of, keys_of, parent_keys, transport_table_of};
-ghost use Rattle.relay_routes.specs.DecidingLines.{deciding_line_of, line_at, good_line_in, result_of};
+ghost use Rattle.relay_text.specs.LogicalLines.{logical_line};
+ghost use Rattle.relay_routes.specs.Transports.{address_key, base_keys, choice_for, choice_of, keys_of, parent_keys, transport_table_of};
+ghost use Rattle.relay_routes.specs.DecidingLines.{deciding_line_of, first_line_at, line_at, good_line_in, result_of};
+ghost use Rattle.relay_routes.specs.TableSteps.{domain_keys};
 
 use crate::pattern::{address_key, is_literal};
 use crate::transport_line::line_of;
-use relay_text::{Address, LogicalLines, Text, split_place};
+use relay_text::{Address, LogicalLine, LogicalLines, Text, split_place};
 use std::alloc::{AllocError, Global};
 
 /// A line of a transport table: a pattern, and a result (transport(5), "TABLE FORMAT").
@@ -43,15 +45,27 @@ fn good_lines(alloc: Global, table: &[u8]) -> Result<Vec<DecidingLine>, AllocErr
     let mut joined = Vec::new(alloc);
     let mut good = Vec::new(alloc);
     while let Some(line) = lines.next_line(&mut joined)? {
-        if let Some(entry) = line_of(alloc, line.text)? {
-            good.push(DecidingLine {
-                line: line.number,
-                pattern: entry.pattern,
-                result: entry.result,
-            })?;
-        }
+        add_good_line(alloc, line, &mut good)?;
     }
     Ok(good)
+}
+
+// Adds a line, where it is a pattern and a result.
+fn add_good_line(
+    alloc: Global,
+    line: LogicalLine<'_>,
+    good: &mut Vec<DecidingLine>,
+) -> Result<(), AllocError>
+    ensures { OnOk result (good.new.items ≡ good.old.items ++ option_to_list (good_line_in (logical_line line.entry))) }
+{
+    if let Some(entry) = line_of(alloc, line.text)? {
+        good.push(DecidingLine {
+            line: line.number,
+            pattern: entry.pattern,
+            result: entry.result,
+        })?;
+    }
+    Ok(())
 }
 
 // Adds `.parent` for each parent domain, the longest first.
@@ -69,6 +83,32 @@ fn add_parents(alloc: Global, domain: &[u8], keys: &mut Vec<Text>) -> Result<(),
     Ok(())
 }
 
+// Adds the address as a key, and without its extension where its local part is split.
+fn add_address_keys(
+    alloc: Global,
+    address: &Address,
+    delimiter: Option<u8>,
+    keys: &mut Vec<Text>,
+) -> Result<(), AllocError>
+    ensures { OnOk result (keys.new.items ≡ keys.old.items ++ address_key address.now.local address.now.domain ∷ base_keys address.now (base_of address.now.local delimiter)) }
+{
+    keys.push(address_key(alloc, address.local(), address.domain())?)?;
+    if let Some(place) = split_place(address.local(), delimiter) {
+        keys.push(address_key(alloc, &address.local()[..place], address.domain())?)?;
+    }
+    Ok(())
+}
+
+// Adds a domain, its parents and `*`.
+fn add_domain_keys(alloc: Global, domain: &[u8], keys: &mut Vec<Text>) -> Result<(), AllocError>
+    ensures { OnOk result (keys.new.items ≡ keys.old.items ++ domain_keys domain.now) }
+{
+    keys.push(Text::copy_of(alloc, domain)?)?;
+    add_parents(alloc, domain, keys)?;
+    keys.push(Text::copy_of(alloc, b"*")?)?;
+    Ok(())
+}
+
 // The keys of an address in the order in which they are tried.
 fn address_keys(
     alloc: Global,
@@ -78,13 +118,8 @@ fn address_keys(
     ensures { IfOk result (λ keys. keys.items ≡ keys_of address.now delimiter) }
 {
     let mut keys = Vec::new(alloc);
-    keys.push(address_key(alloc, address.local(), address.domain())?)?;
-    if let Some(place) = split_place(address.local(), delimiter) {
-        keys.push(address_key(alloc, &address.local()[..place], address.domain())?)?;
-    }
-    keys.push(Text::copy_of(alloc, address.domain())?)?;
-    add_parents(alloc, address.domain(), &mut keys)?;
-    keys.push(Text::copy_of(alloc, b"*")?)?;
+    add_address_keys(alloc, address, delimiter, &mut keys)?;
+    add_domain_keys(alloc, address.domain(), &mut keys)?;
     Ok(keys)
 }
 
@@ -94,6 +129,18 @@ fn line_at<'a>(lines: &'a [DecidingLine], pattern: &[u8]) -> Option<&'a Deciding
 {
     for line in lines {
         if line.pattern.as_bytes() == pattern {
+            return Some(line);
+        }
+    }
+    None
+}
+
+// The first line of the first key that some line has as its pattern.
+fn first_line_at<'a>(lines: &'a [DecidingLine], keys: &[Text]) -> Option<&'a DecidingLine>
+    ensures { option_copied result ≡ first_line_at lines.now keys.now }
+{
+    for key in keys {
+        if let Some(line) = line_at(lines, key.as_bytes()) {
             return Some(line);
         }
     }
@@ -114,12 +161,11 @@ pub fn deciding_line(
     ensures { IfOk result (λ line. line ≡ deciding_line_of table.now address.now delimiter) }
 {
     let lines = good_lines(alloc, table)?;
-    for key in address_keys(alloc, address, delimiter)? {
-        if let Some(line) = line_at(&lines, key.as_bytes()) {
-            return Ok(Some(line.copy(alloc)?));
-        }
+    let keys = address_keys(alloc, address, delimiter)?;
+    match first_line_at(&lines, &keys) {
+        Some(line) => Ok(Some(line.copy(alloc)?)),
+        None => Ok(None),
     }
-    Ok(None)
 }
 
 /// A law, with nothing to run: what the table says of an address is the result of the line that decides.

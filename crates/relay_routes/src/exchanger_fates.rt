@@ -1,10 +1,11 @@
 //! The lines of a domain's mail exchangers, and what becomes of each.
-ghost use Rattle.std.specs.Prelude.{◌≡◌, ◌<◌, ◌^◌, ◌++◌, ◌∷◌, [], filter, ℕ, List, option_to_list, IfOk, OnOk};
-ghost use Rattle.relay_text.specs.Bytes.{first_of};
+ghost use Rattle.std.specs.Prelude.{◌≡◌, ◌<◌, ◌^◌, ◌++◌, ◌∷◌, ◌||◌, [], filter, ℕ, List, option_to_list, IfOk, OnOk};
+ghost use Rattle.std.specs.Str.{bytes_eq};
+ghost use Rattle.relay_text.specs.Bytes.{first_of, has_text};
 ghost use Rattle.relay_text.specs.Lines.{kept_lines};
 ghost use Rattle.relay_routes.specs.Exchanges.{mx_table_of, hosts_of};
 ghost use Rattle.relay_routes.specs.Preferences.{least_own};
-ghost use Rattle.relay_routes.specs.ExchangerLines.{address_line_in, exchanger_in, exchangers_on, exchangers_or, exchanger_lines_of, fate_by, first_address, exchange_key, good_exchanges, hosts_by, is_of, with_fates};
+ghost use Rattle.relay_routes.specs.ExchangerLines.{address_line_in, exchanger_in, exchangers_on, exchangers_or, exchanger_lines_of, fate_by, first_address, exchange_key, fate_behind, good_exchanges, hosts_by, is_of, line_with, with_fates};
 
 use crate::exchange::Exchange;
 use crate::fate::Fate;
@@ -159,25 +160,47 @@ fn with_fates(
     let mut seen = TextSet::new(alloc);
     let mut lines = Vec::with_capacity(alloc, exchangers.len())?;
     for numbered in exchangers {
-        let Numbered { line, exchange } = numbered;
-        let preference = preference_of(&exchange);
-        let is_new = seen.insert(key_of(alloc, &exchange)?)?;
-        let is_own = own_names.contains(exchange.host.as_bytes());
-        let is_before = is_within(limit, preference);
-        let fate = fate_of(exchange.is_null(), is_own, is_before, is_new);
-        let Exchange {
-            domain: _,
-            preference: _,
-            host,
-        } = exchange;
-        lines.push(ExchangerLine {
-            line,
-            preference,
-            host,
-            fate,
-        })?;
+        let fate = fate_behind(alloc, &numbered.exchange, limit, own_names, &mut seen)?;
+        lines.push(line_with(numbered, fate))?;
     }
     Ok(lines)
+}
+
+// What becomes of an exchanger behind those whose keys were seen, where this is the least preference of the relay's own. Its key is
+// seen from then on.
+fn fate_behind(
+    alloc: Global,
+    exchange: &Exchange,
+    limit: Option<u16>,
+    own_names: &TextSet,
+    seen: &mut TextSet,
+) -> Result<Fate, AllocError>
+    ensures fits { exchange.now.preference < 2 ^ 16 }
+    ensures fate { IfOk result (λ fate. fate ≡ fate_behind own_names.now limit seen.old exchange.now) }
+    ensures seen { OnOk result ((q : List ℕ) → has_text seen.new q ≡ (bytes_eq q (exchange_key exchange.now) || has_text seen.old q)) }
+{
+    let is_before = is_within(limit, preference_of(exchange));
+    let is_own = own_names.contains(exchange.host.as_bytes());
+    let is_new = seen.insert(key_of(alloc, exchange)?)?;
+    Ok(fate_of(exchange.is_null(), is_own, is_before, is_new))
+}
+
+// The line of an exchanger, and what becomes of it.
+fn line_with(numbered: Numbered, fate: Fate) -> ExchangerLine
+    ensures { result ≡ line_with fate numbered }
+{
+    let Numbered { line, exchange } = numbered;
+    let Exchange {
+        domain: _,
+        preference,
+        host,
+    } = exchange;
+    ExchangerLine {
+        line,
+        preference,
+        host,
+        fate,
+    }
 }
 
 /// The mail exchangers of a domain, which is given in lower case, in the order of the table, and what becomes of each for a relay of

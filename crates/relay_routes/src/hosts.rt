@@ -67,14 +67,28 @@ impl Hosts {
             return Ok(self);
         }
         let port = Text::folded_copy_of(alloc, port)?;
+        self.each_followed_by(alloc, port.as_bytes())
+    }
+
+    /// The hosts, each with a text behind it.
+    fn each_followed_by(self, alloc: Global, text: &[u8]) -> Result<Hosts, AllocError>
+        ensures { IfOk result (λ hosts. hosts ≡ map (λ host. host ++ text.now) self) }
+    {
         let Hosts { hosts: bare } = self;
         let mut hosts = Hosts::new(alloc);
         for host in bare {
-            let mut longer = host;
-            longer.append(alloc, port.as_bytes())?;
-            hosts.push(longer)?;
+            hosts.push_followed_by(alloc, host, text)?;
         }
         Ok(hosts)
+    }
+
+    /// Puts a host with a text behind it at the end.
+    fn push_followed_by(&mut self, alloc: Global, host: Text, text: &[u8]) -> Result<(), AllocError>
+        ensures { OnOk result (self.new ≡ self.old ++ (host ++ text.now) ∷ []) }
+    {
+        let mut longer = host;
+        longer.append(alloc, text)?;
+        self.push(longer)
     }
 
     /// Whether there is none.

@@ -26,9 +26,9 @@ impl Model for DistinctHosts {
     ghost invariant = { λ a. IfSome a.seen (λ seen. (q : List ℕ) → has_text seen q ≡ has_text a.hosts.items q) };
 }
 
-ghost use Rattle.std.specs.Prelude.{◌≡◌, [], IfOk, OnOk};
+ghost use Rattle.std.specs.Prelude.{◌≡◌, ℕ, List, [], ◌∷◌, ◌++◌, IfOk, OnOk, OnErr};
 ghost use Rattle.relay_text.specs.Bytes.{has_text};
-ghost use Rattle.relay_routes.specs.Preferences.{with_host};
+ghost use Rattle.relay_routes.specs.Preferences.{with_host, HasSeen};
 
 impl DistinctHosts {
     /// No hosts, with room for so many. `Err` where memory runs out.
@@ -53,11 +53,9 @@ impl DistinctHosts {
         if self.has(host) {
             return Ok(());
         }
-        let text = Text::copy_of(alloc, host)?;
         self.hosts.reserve(1)?;
-        if let Some(seen) = &mut self.seen {
-            seen.insert(Vec::from_slice(alloc, host)?)?;
-        }
+        let text = Text::copy_of(alloc, host)?;
+        see(alloc, &mut self.seen, host)?;
         self.hosts.push_reserved(text);
         Ok(())
     }
@@ -77,5 +75,19 @@ impl DistinctHosts {
     {
         let DistinctHosts { hosts, seen: _ } = self;
         hosts
+    }
+}
+
+/// Puts a host into a set, if there is one.
+fn see(alloc: Global, seen: &mut Option<TextSet>, host: &[u8]) -> Result<(), AllocError>
+    ensures ok { OnOk result ((hosts : List (List ℕ)) → HasSeen seen.old hosts → HasSeen seen.new (hosts ++ host.now ∷ [])) }
+    ensures err { OnErr result (seen.new ≡ seen.old) }
+{
+    match seen {
+        None => Ok(()),
+        Some(seen) => {
+            seen.insert(Vec::from_slice(alloc, host)?)?;
+            Ok(())
+        }
     }
 }

@@ -3,7 +3,7 @@ ghost use Rattle.std.specs.Prelude.{◌≡◌, ◌<◌, ◌≤◌, ◌++◌, not
 ghost use Rattle.std.specs.Str.{bytes_eq};
 ghost use Rattle.relay_text.specs.Bytes.{firsts};
 ghost use Rattle.relay_routes.specs.Exchanges.{is_null, in_preference_order, rotated};
-ghost use Rattle.relay_routes.specs.Preferences.{exchanges_of, is_within, with_own, least_own, IsRising, IsFirstRun};
+ghost use Rattle.relay_routes.specs.Preferences.{exchanges_of, is_within, with_hosts, with_own, least_own, IsRising, IsFirstRun};
 
 use crate::exchange::Exchange;
 use crate::hosts::Hosts;
@@ -133,8 +133,20 @@ fn distinct_hosts(alloc: Global, exchangers: &[&Exchange]) -> Result<Vec<Text>, 
     ensures { IfOk result (λ hosts. hosts.items ≡ firsts bytes_eq (map (λ e. e.host) (exchanges_of exchangers.now))) }
 {
     let mut hosts = DistinctHosts::with_room(alloc, exchangers.len())?;
+    add_hosts(alloc, exchangers, &mut hosts)?;
+    Ok(hosts.into_vec())
+}
+
+/// Adds the hosts of exchangers.
+fn add_hosts(
+    alloc: Global,
+    exchangers: &[&Exchange],
+    hosts: &mut DistinctHosts,
+) -> Result<(), AllocError>
+    ensures { OnOk result (hosts.new ≡ with_hosts hosts.old (map (λ e. e.host) (exchanges_of exchangers.now))) }
+{
     for exchange in exchangers {
         hosts.add(alloc, exchange.host.as_bytes())?;
     }
-    Ok(hosts.into_vec())
+    Ok(())
 }

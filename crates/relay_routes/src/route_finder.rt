@@ -112,16 +112,45 @@ impl<'r> RouteFinder<'r> {
         ensures kept { self.new ≡ self.old }
     {
         let domain = Text::folded_copy_of(alloc, host)?;
-        if let Some(number) = self.domains.find(domain.as_bytes()) {
+        self.exchangers_of_domain(alloc, domain.as_bytes())
+    }
+
+    /// The mail exchangers of a domain, which is given in lower case.
+    fn exchangers_of_domain(&mut self, alloc: Global, domain: &[u8]) -> Result<Hosts, Unrouted>
+        ensures exchangers { Answers result (exchangers_of self.old domain.now) }
+        ensures kept { self.new ≡ self.old }
+    {
+        if let Some(number) = self.domains.find(domain) {
             return copy_of(alloc, &self.found[number as usize])?;
         }
-        let found = self.router.exchangers(alloc, domain.as_bytes());
+        self.looked_up(alloc, domain)
+    }
+
+    /// The same, where they were not looked up yet.
+    fn looked_up(&mut self, alloc: Global, domain: &[u8]) -> Result<Hosts, Unrouted>
+        ensures exchangers { Answers result (exchangers_of self.old domain.now) }
+        ensures kept { self.new ≡ self.old }
+    {
+        let found = self.router.exchangers(alloc, domain);
         if let Err(Unrouted::Memory) = found {
             return found;
         }
-        let copy = copy_of(alloc, &found)?;
-        self.keep(domain.as_bytes(), copy)?;
+        self.keep_copy(alloc, domain, &found)?;
         found
+    }
+
+    /// Keeps a copy of what was found of a domain.
+    fn keep_copy(
+        &mut self,
+        alloc: Global,
+        domain: &[u8],
+        found: &Result<Hosts, Unrouted>,
+    ) -> Result<(), AllocError>
+        requires { found.now ≡ exchangers_of self.old domain.now }
+        ensures { self.new ≡ self.old }
+    {
+        let copy = copy_of(alloc, found)?;
+        self.keep(domain, copy)
     }
 
     /// Keeps what was found of a domain. `Err` where memory runs out, or the numbers of domains do.

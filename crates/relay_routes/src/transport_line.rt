@@ -12,6 +12,7 @@ ghost use Rattle.std.specs.Prelude.{◌≡◌, ◌&&◌, not, drop, Some, None, 
 ghost use Rattle.std.specs.List.{list_all};
 ghost use Rattle.relay_text.specs.Bytes.{is_white, begins_with};
 ghost use Rattle.relay_routes.specs.Transports.{line_of, is_result, is_result_byte};
+ghost use Rattle.relay_routes.specs.TableSteps.{line_with};
 
 use crate::field::Field;
 use crate::pattern::pattern_of;
@@ -22,16 +23,29 @@ use std::alloc::{AllocError, Global};
 pub(crate) fn line_of(alloc: Global, line: &[u8]) -> Result<Option<TransportLine>, AllocError>
     ensures { IfOk result (λ read. read ≡ line_of line.now) }
 {
-    let pattern = Field::at_front(line);
-    let result = trimmed(&line[pattern.text().len()..]);
-    if !is_result(result) {
+    let field = Field::at_front(line);
+    let text = trimmed(&line[field.text().len()..]);
+    line_with(alloc, &field, text)
+}
+
+/// The line of a pattern's field and the text of a result. `None` where they are none.
+fn line_with(
+    alloc: Global,
+    field: &Field<'_>,
+    text: &[u8],
+) -> Result<Option<TransportLine>, AllocError>
+    ensures { IfOk result (λ read. read ≡ line_with field.now text.now) }
+{
+    if !is_result(text) {
         return Ok(None);
     }
-    let Some(pattern) = pattern_of(alloc, &pattern)? else {
-        return Ok(None);
-    };
-    let result = Text::copy_of(alloc, result)?;
-    Ok(Some(TransportLine { pattern, result }))
+    match pattern_of(alloc, field)? {
+        Some(pattern) => {
+            let result = Text::copy_of(alloc, text)?;
+            Ok(Some(TransportLine { pattern, result }))
+        }
+        None => Ok(None),
+    }
 }
 
 /// What follows `error:` in a result.

@@ -177,13 +177,7 @@ impl TransportTable {
         ensures { IfOk result (λ table. table ≡ record { entries = []; faults = map (λ number. fault number BadLine) orphans.now }) }
     {
         let heads = bytes.len() / BYTES_FOR_HEAD + 1;
-        let mut faults = Vec::with_capacity(alloc, orphans.len())?;
-        for number in orphans {
-            faults.push(LineFault {
-                line: *number,
-                kind: FaultKind::BadLine,
-            })?;
-        }
+        let faults = faults_of(alloc, orphans)?;
         Ok(TransportTable {
             entries: Vec::with_capacity(alloc, bytes.len() / BYTES_FOR_LINE)?,
             patterns: Interner::with_key(alloc, key_of(bytes), heads, MOST_TEXTS)?,
@@ -225,4 +219,18 @@ impl TransportTable {
         self.faults.push(LineFault { line: number, kind })?;
         Ok(())
     }
+}
+
+/// The faults of lines that continue none.
+fn faults_of(alloc: Global, orphans: &[usize]) -> Result<Vec<LineFault>, AllocError>
+    ensures { IfOk result (λ faults. faults.items ≡ map (λ number. fault number BadLine) orphans.now) }
+{
+    let mut faults = Vec::with_capacity(alloc, orphans.len())?;
+    for number in orphans {
+        faults.push(LineFault {
+            line: *number,
+            kind: FaultKind::BadLine,
+        })?;
+    }
+    Ok(faults)
 }
