@@ -1,5 +1,6 @@
 -- The logical lines of a text that is cut between two of them, and what they make.
-use Rattle.std.proofs.Common.{◌≡◌, ◌≢◌, ℕ, ◌+◌, ◌≤◌, Bool, true, false, not, cond, eqb, suc, List, [], ◌∷◌, ◌++◌, length, map, All, refl, sym, ap, ◌∙◌, append_assoc, arith, Option, Some, None, inl, inr}
+use Rattle.std.proofs.Common.{Result, Ok, Err, IfOk, ◌≡◌, ◌≢◌, ℕ, ◌+◌, ◌≤◌, Bool, true, false, not, cond, eqb, suc, List, [], ◌∷◌, ◌++◌, length, map, All, refl, sym, ap, ◌∙◌, append_assoc, arith, Option, Some, None, inl, inr}
+use Rattle.std.specs.Result.{result_ok}
 use Rattle.std.specs.List.{filter, flat_map, enumerate_from, position_or_len, before_first}
 use Rattle.std.proofs.lemmas.Bool.Decides.{eqb_tells}
 use Rattle.std.proofs.lemmas.List.{map-append}
@@ -8,13 +9,13 @@ use Rattle.std.proofs.lemmas.List.Folds.{flat_map-map}
 use Rattle.relay_text.specs.Lines.{Cut, raw_lines, physical_lines, line_text, without_cr, is_ignored, kept_lines, cut_before, begins_logical_line, joined, logical_lines_of}
 use Rattle.relay_text.specs.LogicalLines.{lines_in}
 use Rattle.relay_text.specs.declared.lines.Line.{Line}
-use Rattle.relay_aliasfile.specs.Halves.{EndsWithLine, BeginsLine, BeginsLogicalLine, moved, kept_behind, lines_behind}
+use Rattle.relay_aliasfile.specs.Halves.{AreUpTo, EndsWithLine, BeginsLine, BeginsLogicalLine, moved, kept_behind, lines_behind}
 use Rattle.relay_aliasfile.specs.AliasFiles.{Heading, heading_of, orphan_fault}
-use Rattle.relay_aliasfile.specs.AliasTables.{new_entries, new_faults, next_repeat, repeats_behind, added_by, file_behind}
+use Rattle.relay_aliasfile.specs.AliasTables.{new_entries, new_faults, next_repeat, repeats_behind, added_by, file_behind, IsBoth}
 use Rattle.relay_aliasfile.specs.declared.aliases.AliasFile.{AliasFile}
 use Rattle.relay_aliasfile.specs.declared.entry.Entry.{Entry}
 use Rattle.relay_aliasfile.specs.declared.fault.LineFault.{LineFault}
-use Rattle.relay_aliasfile.proofs.HalvedLines.{AreUpTo, kept_lines-append, moved_twice, up_to-kept_lines}
+use Rattle.relay_aliasfile.proofs.HalvedLines.{kept_lines-append, moved_twice, up_to-kept_lines}
 
 -- ---- kept lines before the first logical line, and in the logical lines
 abbrev before_lines : List Line → List Line
@@ -221,6 +222,13 @@ file_halves passed behind text front back first second cut ended begun e one two
     ∙ ap (λ (numbers : List ℕ). orphans_of numbers ++ added_by new_faults [] (lines_behind passed (front ++ back)).lines) (sym (orphans-halved front back ended begun))
     ∙ ap (λ (t : List ℕ). (file_behind passed [] t).faults) (sym cut) in
     ap (λ entries. made entries (first.faults ++ second.faults)) entries ∙ ap (made (file_behind passed [] text).entries) faults
+
+-- the same where the files were read by two threads
+pub file_both : {E : Type 0} (passed behind : ℕ) (text front back : List ℕ) (here there : Result AliasFile E) (file : AliasFile) → text ≡ front ++ back → EndsWithLine front → BeginsLogicalLine back → behind ≡ passed + length (raw_lines front)
+    → IfOk here (λ file. file ≡ file_behind passed [] front) → IfOk there (λ file. file ≡ file_behind behind [] back) → IsBoth (result_ok here) (result_ok there) file → file ≡ file_behind passed [] text
+file_both passed behind text front back (Err e) there file cut ended begun long one two h = absurd h
+file_both passed behind text front back (Ok first) (Err e) file cut ended begun long one two h = absurd h
+file_both passed behind text front back (Ok first) (Ok second) file cut ended begun long one two h = h ∙ file_halves passed behind text front back first second cut ended begun long one two
 
 -- ---- No number is larger than the text is long.
 up_to-cut : (most : ℕ) (ls : List Line) → AreUpTo most ls → AreUpTo most (before_lines ls) × AreUpTo most (lines_in ls)

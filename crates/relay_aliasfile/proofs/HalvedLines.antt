@@ -7,7 +7,7 @@ use Rattle.std.proofs.lemmas.List.Sums.{sum_by-cons}
 use Rattle.std.specs.Prelude.{slice_get}
 use Rattle.relay_text.specs.Lines.{raw_lines, physical_lines, line_text, numbered_lines, is_ignored, kept_lines}
 use Rattle.relay_text.specs.declared.lines.Line.{Line}
-use Rattle.relay_aliasfile.specs.Halves.{EndsWithLine, moved, kept_behind}
+use Rattle.relay_aliasfile.specs.Halves.{EndsWithLine, AreUpTo, moved, kept_behind}
 
 -- A text that ends with a line does so behind its first byte too.
 ends_behind : (x y : ℕ) (more : List ℕ) → EndsWithLine (x ∷ y ∷ more) → EndsWithLine (y ∷ more)
@@ -109,9 +109,9 @@ kept_behind-append passed behind xs ys h e =
     ∙ ap (λ (lines : List Line). kept_behind passed xs ++ lines) (moved_twice passed (length (raw_lines xs)) behind (kept_lines ys) e)
 
 -- ---- No number of a line is larger than its text is long.
-abbrev pub AreUpTo : ℕ → List Line → Type 0
-AreUpTo most [] = Unit {0}
-AreUpTo most (l ∷ ls) = (l.number ≤ most) × AreUpTo most ls
+pub up_to-more : (least most : ℕ) (lines : List Line) → least ≤ most → AreUpTo least lines → AreUpTo most lines
+up_to-more least most [] h up_to = tt
+up_to-more least most (l ∷ ls) h up_to = (omega (arith, h, up_to.0), up_to-more least most ls h up_to.1)
 
 up_to-numbered : (first most : ℕ) (texts : List (List ℕ)) → first + length texts ≤ most + 1 → AreUpTo most (numbered first texts)
 up_to-numbered first most [] h = tt

@@ -1,6 +1,7 @@
 -- What the lines of a mailbox file make together.
-use Rattle.std.proofs.Common.{◌≡◌, ℕ, ◌+◌, List, ◌++◌, length, refl, sym, ap, ◌∙◌}
+use Rattle.std.proofs.Common.{Result, Ok, Err, IfOk, ◌≡◌, ℕ, ◌+◌, List, ◌++◌, length, refl, sym, ap, ◌∙◌}
 use Rattle.std.specs.Prelude.{filter_map, flat_map}
+use Rattle.std.specs.Result.{result_ok}
 use Rattle.std.specs.Str.{bytes_eq}
 use Rattle.std.proofs.lemmas.List.Elements.{filter_map-append}
 use Rattle.std.proofs.lemmas.Grind.{flat_map-append}
@@ -8,7 +9,7 @@ use Rattle.relay_text.specs.Bytes.{firsts}
 use Rattle.relay_text.specs.Lines.{raw_lines, kept_lines}
 use Rattle.relay_aliasfile.specs.Halves.{EndsWithLine, kept_behind}
 use Rattle.relay_aliasfile.specs.MailboxFiles.{name_in, faults_in, mailbox_file_of}
-use Rattle.relay_aliasfile.specs.MailboxLines.{AreRead}
+use Rattle.relay_aliasfile.specs.MailboxLines.{AreBoth, AreRead}
 use Rattle.relay_aliasfile.specs.declared.mailbox_lines.MailboxLines.{MailboxLines}
 use Rattle.relay_aliasfile.proofs.HalvedLines.{moved_nowhere, kept_behind-append}
 
@@ -32,3 +33,10 @@ halves_read passed behind text front back first second both cut ended count one 
       names = names ∙ n ∙ sym (filter_map-append name_in (kept_behind passed front) (kept_behind behind back)) ∙ ap (filter_map name_in) (sym lines);
       faults = faults ∙ f ∙ sym (flat_map-append faults_in (kept_behind passed front) (kept_behind behind back)) ∙ ap (flat_map faults_in) (sym lines);
     }
+
+-- the same where the lines were read by two threads
+pub halves_both : {E : Type 0} (passed behind : ℕ) (text front back : List ℕ) (here there : Result MailboxLines E) (both : MailboxLines) → text ≡ front ++ back → EndsWithLine front → behind ≡ passed + length (raw_lines front)
+    → IfOk here (AreRead passed front) → IfOk there (AreRead behind back) → AreBoth (result_ok here) (result_ok there) both → AreRead passed text both
+halves_both passed behind text front back (Err e) there both cut ended count one two h = absurd h
+halves_both passed behind text front back (Ok first) (Err e) both cut ended count one two h = absurd h
+halves_both passed behind text front back (Ok first) (Ok second) both cut ended count one two h = halves_read passed behind text front back first second both cut ended count one two h.0 h.1

@@ -1,5 +1,5 @@
 -- What logical lines add to the entries and the faults that were gathered, where it's known which of their names are repeats.
-use Rattle.std.specs.Prelude.{ℕ, Bool, false, List, [], ◌∷◌, ◌++◌, map, drop, Option, Some, None, if◌then◌else◌, slice_index_or}
+use Rattle.std.specs.Prelude.{◌≡◌, ℕ, Bool, false, List, [], ◌∷◌, ◌++◌, map, drop, Option, Some, None, if◌then◌else◌, slice_index_or}
 use Rattle.relay_text.specs.declared.lines.Line.{Line}
 use Rattle.relay_text.specs.declared.lines.Lines.{Lines}
 use Rattle.relay_aliasfile.specs.Halves.{lines_behind}
@@ -42,3 +42,9 @@ file_in repeats cut = record { entries = added_by new_entries repeats cut.lines;
 -- the same of a text that so many lines of the file stand before
 abbrev pub file_behind : ℕ → List Bool → List ℕ → AliasFile
 file_behind passed repeats text = file_in repeats (lines_behind passed text)
+
+-- This is the file of two parts, which are both there.
+abbrev pub IsBoth : Option AliasFile → Option AliasFile → AliasFile → Type 0
+IsBoth None there file = ⊥
+IsBoth (Some first) None file = ⊥
+IsBoth (Some first) (Some second) file = file ≡ record { entries = first.entries ++ second.entries; faults = first.faults ++ second.faults }

@@ -1,5 +1,5 @@
 -- Where a text may be cut in two, and the lines behind the cut.
-use Rattle.std.specs.Prelude.{◌≡◌, ◌≢◌, ℕ, ◌+◌, ◌-◌, false, List, [], ◌∷◌, map, length, Some, slice_get}
+use Rattle.std.specs.Prelude.{◌≡◌, ◌≢◌, ⊤, ℕ, ◌+◌, ◌-◌, ◌≤◌, false, List, [], ◌∷◌, map, length, Some, slice_get}
 use Rattle.relay_text.specs.Bytes.{is_white}
 use Rattle.relay_text.specs.Lines.{kept_lines, logical_lines_of}
 use Rattle.relay_text.specs.declared.lines.Line.{Line}
@@ -29,3 +29,8 @@ kept_behind passed text = map (moved passed) (kept_lines text)
 
 abbrev pub lines_behind : ℕ → List ℕ → Lines
 lines_behind passed text = let cut = logical_lines_of text in record { lines = map (moved passed) cut.lines; orphans = map (λ n. passed + n) cut.orphans }
+
+-- No number of a line is larger.
+abbrev pub AreUpTo : ℕ → List Line → Type 0
+AreUpTo most [] = ⊤
+AreUpTo most (l ∷ ls) = (l.number ≤ most) × AreUpTo most ls

@@ -1,16 +1,16 @@
 //! The entries of an alias file while they are gathered.
 ghost use Rattle.std.specs.Prelude.{◌≡◌, ◌<◌, ◌+◌, ◌^◌, ◌++◌, ◌∷◌, [], All, drop, map, option_map, OnOk};
-ghost use Rattle.relay_aliasfile.specs.AliasFiles.{list_faults, orphan_fault};
+ghost use Rattle.relay_aliasfile.specs.AliasFiles.{heading_of, list_faults, orphan_fault};
 ghost use Rattle.relay_aliasfile.specs.AliasTables.{new_entry, new_entries, new_faults, next_repeat, repeats_behind};
 ghost use Rattle.relay_aliasfile.specs.Headings.{heading_value};
 ghost use Rattle.relay_aliasfile.specs.MailboxFiles.{fault};
 
 use crate::aliases::AliasFile;
 use crate::entry::Entry;
-use crate::fault::{FaultKind, LineFault};
-use crate::heading::Heading;
+use crate::fault::{FaultKind, LineFault, add_fault};
+use crate::heading::{Heading, heading_in};
 use crate::items::Items;
-use crate::lists::read_entry_items;
+use crate::lists::read_list;
 use relay_text::Seq;
 use std::alloc::{AllocError, Global};
 
@@ -55,6 +55,21 @@ impl<'a> AliasTable<'a> {
         &mut self,
         alloc: Global,
         number: usize,
+        text: &[u8],
+    ) -> Result<(), AllocError>
+        ensures entries { OnOk result (self.new.entries.items ≡ self.old.entries.items ++ new_entries (next_repeat self.old.repeats.now) number (heading_of text.now)) }
+        ensures repeats { OnOk result (self.new.repeats.now ≡ repeats_behind (heading_of text.now) self.old.repeats.now) }
+        ensures faults { OnOk result (self.new.faults.items ≡ self.old.faults.items ++ new_faults (next_repeat self.old.repeats.now) number (heading_of text.now)) }
+    {
+        let heading = heading_in(alloc, text)?;
+        self.add_heading(alloc, number, heading)
+    }
+
+    /// The same where its heading was read.
+    fn add_heading(
+        &mut self,
+        alloc: Global,
+        number: usize,
         heading: Option<Heading<'_>>,
     ) -> Result<(), AllocError>
         ensures entries { OnOk result (self.new.entries.items ≡ self.old.entries.items ++ new_entries (next_repeat self.old.repeats.now) number (option_map heading_value heading.entry)) }
@@ -96,9 +111,7 @@ impl<'a> AliasTable<'a> {
         ensures faults { OnOk result (self.new.faults.items ≡ self.old.faults.items ++ list_faults line heading.entry.list.now) }
     {
         let mut items = Items::new(alloc);
-        if !read_entry_items(alloc, line, heading.list, &mut items, &mut self.faults)? {
-            self.add_fault(line, FaultKind::Empty)?;
-        }
+        read_list(alloc, line, heading.list, &mut items, &mut self.faults)?;
         self.entries.push(Entry {
             name: heading.name,
             line,
@@ -113,8 +126,7 @@ impl<'a> AliasTable<'a> {
         ensures repeats { self.new.repeats ≡ self.old.repeats }
         ensures faults { OnOk result (self.new.faults.items ≡ self.old.faults.items ++ fault line kind ∷ []) }
     {
-        self.faults.push(LineFault { line, kind })?;
-        Ok(())
+        add_fault(line, kind, &mut self.faults)
     }
 
     /// The file, without taking memory.

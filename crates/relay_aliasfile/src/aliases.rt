@@ -6,10 +6,12 @@
 //! their names would take some 140 bytes a line. An administrator's file seldom repeats a name, so it's mostly read once.
 //!
 //! Several threads each read a part of a long file, from one logical line to another. The second reading is one thread's.
-ghost use Rattle.std.specs.Prelude.{◌≡◌, ◌<◌, ◌+◌, ◌^◌, ◌++◌, [], length, IfOk};
+ghost use Rattle.std.specs.Prelude.{◌≡◌, ◌<◌, ◌+◌, ◌-◌, ◌^◌, ◌++◌, [], length, map, IfOk, OnOk};
+ghost use Rattle.std.specs.Result.{result_ok};
 ghost use Rattle.std.specs.Thread.{IsSync};
 ghost use Rattle.relay_aliasfile.specs.AliasFiles.{alias_file_of, entry_items};
-ghost use Rattle.relay_aliasfile.specs.AliasTables.{file_behind};
+ghost use Rattle.relay_aliasfile.specs.AliasTables.{added_by, file_behind, new_entries, new_faults, IsBoth};
+ghost use Rattle.relay_aliasfile.specs.Halves.{moved, AreUpTo};
 ghost use Rattle.relay_aliasfile.specs.IncludeNames.{include_names_in};
 
 use crate::alias_table::AliasTable;
@@ -17,7 +19,6 @@ use crate::distinct::distinct_texts;
 use crate::entry::Entry;
 use crate::fault::LineFault;
 use crate::halves::{halves, line_count};
-use crate::heading::heading_in;
 use crate::paths::add_paths;
 use crate::repeats::repeats_of;
 use relay_text::{LogicalLines, Seq, Text};
@@ -85,15 +86,43 @@ fn read_file(
     requires { passed + length bytes.now < 2 ^ 64 }
     ensures { IfOk result (λ file. file ≡ file_behind passed repeats.now bytes.now) }
 {
-    let mut lines = LogicalLines::new(alloc, bytes)?;
     let mut table = AliasTable::new(alloc, repeats);
+    add_text(alloc, passed, bytes, &mut table)?;
+    Ok(table.into_file())
+}
+
+/// Adds the lines of a text, where so many lines of the file stand before it.
+fn add_text(
+    alloc: Global,
+    passed: usize,
+    bytes: &[u8],
+    table: &mut AliasTable<'_>,
+) -> Result<(), AllocError>
+    requires { passed + length bytes.now < 2 ^ 64 }
+    ensures entries { OnOk result (table.new.entries.items ≡ table.old.entries.items ++ (file_behind passed table.old.repeats.now bytes.now).entries) }
+    ensures faults { OnOk result (table.new.faults.items ≡ table.old.faults.items ++ (file_behind passed table.old.repeats.now bytes.now).faults) }
+{
+    let mut lines = LogicalLines::new(alloc, bytes)?;
     table.add_orphans(passed, lines.orphans())?;
+    add_lines(alloc, passed, &mut lines, table)
+}
+
+/// Adds the logical lines that are left, where so many lines of the file stand before their text.
+fn add_lines(
+    alloc: Global,
+    passed: usize,
+    lines: &mut LogicalLines<'_>,
+    table: &mut AliasTable<'_>,
+) -> Result<(), AllocError>
+    requires { AreUpTo (2 ^ 64 - 1 - passed) lines.old.lines }
+    ensures entries { OnOk result (table.new.entries.items ≡ table.old.entries.items ++ added_by new_entries table.old.repeats.now (map (moved passed) lines.old.lines)) }
+    ensures faults { OnOk result (table.new.faults.items ≡ table.old.faults.items ++ added_by new_faults table.old.repeats.now (map (moved passed) lines.old.lines)) }
+{
     let mut joined = Vec::new(alloc);
     while let Some(line) = lines.next_line(&mut joined)? {
-        let heading = heading_in(alloc, line.text)?;
-        table.add_line(alloc, passed + line.number, heading)?;
+        table.add_line(alloc, passed + line.number, line.text)?;
     }
-    Ok(table.into_file())
+    Ok(())
 }
 
 /// The same with no repeats by so many threads, this one among them, where the text is long enough for two.
@@ -124,9 +153,18 @@ fn read_file_by<R: Threads + Sync>(
             ensures { IfOk result (λ file. file ≡ file_behind behind [] back.entry.now) }
         { read_file_by(rt, alloc, rest, behind, back) },
     );
+    both_read(here, there)
+}
+
+/// The files of two parts of a text as one, where both were read.
+fn both_read(
+    here: Result<AliasFile, AllocError>,
+    there: Result<AliasFile, AllocError>,
+) -> Result<AliasFile, AllocError>
+    ensures { IfOk result (IsBoth (result_ok here) (result_ok there)) }
+{
     let first = here?;
-    let second = there?;
-    both_files(first, second)
+    both_files(first, there?)
 }
 
 /// The files of two parts of a text as one.

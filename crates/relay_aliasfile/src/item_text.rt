@@ -16,7 +16,7 @@ pub(crate) enum ItemText<'a> {
 
 impl<'a> ItemText<'a> {
     ghost use Rattle.std.specs.Prelude.{◌≡◌, IfOk};
-    ghost use Rattle.relay_aliasfile.specs.Items.{item_of};
+    ghost use Rattle.relay_aliasfile.specs.Items.{item_of, is_bad};
     ghost use Rattle.relay_aliasfile.specs.ItemTexts.{bytes_in};
 
     /// Its bytes.
@@ -36,6 +36,19 @@ impl<'a> ItemText<'a> {
         match self {
             ItemText::Plain(text) => unquoted_item(alloc, text),
             ItemText::Other(text) => item_in(alloc, *text),
+        }
+    }
+
+    /// Whether it is no item.
+    pub(crate) fn is_bad(&self, alloc: Global) -> Result<bool, AllocError>
+        ensures { IfOk result (λ bad. bad ≡ is_bad (bytes_in self.now)) }
+    {
+        match self.item(alloc)? {
+            Some(item) => {
+                drop(item);
+                Ok(false)
+            }
+            None => Ok(true),
         }
     }
 }

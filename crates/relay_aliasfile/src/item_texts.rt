@@ -10,7 +10,7 @@ use relay_text::{PlainText, trimmed, trimmed_start};
 
 /// A reader over the texts of a list's items: what stands between the commas outside quotes, trimmed, unless it is empty (aliases(5)).
 /// It lends them in place, takes no memory and reads each byte once.
-#[derive(Clone, Copy, Debug)]
+#[derive(Clone, Copy)]
 pub(crate) struct ItemTexts<'a> {
     rest: &'a [u8],
 }

@@ -1,5 +1,5 @@
 //! What the lines of a mailbox file say, before repeats are dropped.
-use crate::fault::{FaultKind, LineFault};
+use crate::fault::{FaultKind, LineFault, add_fault};
 use crate::halves::{halves, line_count};
 use crate::names::folded_name;
 use relay_text::{KeptLines, Text, trimmed};
@@ -13,9 +13,11 @@ pub(crate) struct MailboxLines {
     pub(crate) faults: Vec<LineFault>,
 }
 
-ghost use Rattle.std.specs.Prelude.{◌≡◌, ◌+◌, ◌^◌, ◌<◌, ◌++◌, length, IfOk, OnOk};
+ghost use Rattle.std.specs.Prelude.{◌≡◌, ◌+◌, ◌^◌, ◌<◌, ◌++◌, length, option_to_list, IfOk, OnOk};
+ghost use Rattle.std.specs.Result.{result_ok};
 ghost use Rattle.std.specs.Thread.{IsSync};
-ghost use Rattle.relay_aliasfile.specs.MailboxLines.{AreRead};
+ghost use Rattle.relay_aliasfile.specs.MailboxFiles.{name_in, faults_in};
+ghost use Rattle.relay_aliasfile.specs.MailboxLines.{AreBoth, AreRead};
 
 impl MailboxLines {
     /// Reads one line after another. So many lines of the file stand before the text.
@@ -27,19 +29,26 @@ impl MailboxLines {
         requires { passed + length bytes.now < 2 ^ 64 }
         ensures { IfOk result (AreRead passed bytes.now) }
     {
-        let mut names: Vec<Text> = Vec::new(alloc);
-        let mut faults: Vec<LineFault> = Vec::new(alloc);
+        let names: Vec<Text> = Vec::new(alloc);
+        let faults: Vec<LineFault> = Vec::new(alloc);
+        let mut said = MailboxLines { names, faults };
         let mut lines = KeptLines::new(bytes);
         while let Some(line) = lines.next_line() {
-            match folded_name(alloc, trimmed(line.text))? {
-                Some(name) => names.push(name)?,
-                None => faults.push(LineFault {
-                    line: passed + line.number,
-                    kind: FaultKind::BadLine,
-                })?,
-            }
+            said.add_line(alloc, passed + line.number, line.text)?;
         }
-        Ok(MailboxLines { names, faults })
+        Ok(said)
+    }
+
+    /// Adds what a line says.
+    fn add_line(&mut self, alloc: Global, number: usize, text: &[u8]) -> Result<(), AllocError>
+        ensures names { OnOk result (self.new.names.items ≡ self.old.names.items ++ option_to_list (name_in (record { number = number; text = text.now }))) }
+        ensures faults { OnOk result (self.new.faults.items ≡ self.old.faults.items ++ faults_in (record { number = number; text = text.now })) }
+    {
+        match folded_name(alloc, trimmed(text))? {
+            Some(name) => self.names.push(name)?,
+            None => add_fault(number, FaultKind::BadLine, &mut self.faults)?,
+        }
+        Ok(())
     }
 
     /// The same by so many threads, this one among them, where the text is long enough for two.
@@ -70,6 +79,16 @@ impl MailboxLines {
                 ensures { IfOk result (AreRead behind back.entry.now) }
             { MailboxLines::read_by(rt, alloc, rest, behind, back) },
         );
+        MailboxLines::both(here, there)
+    }
+
+    /// What the lines of two parts say, where both were read.
+    fn both(
+        here: Result<MailboxLines, AllocError>,
+        there: Result<MailboxLines, AllocError>,
+    ) -> Result<MailboxLines, AllocError>
+        ensures { IfOk result (AreBoth (result_ok here) (result_ok there)) }
+    {
         let mut lines = here?;
         lines.append(there?)?;
         Ok(lines)

@@ -32,7 +32,7 @@ fn add_places<'a>(
     let mut item = 0;
     while let Some(text) = texts.next_text() {
         item += 1;
-        if text.item(alloc)?.is_some() {
+        if !text.is_bad(alloc)? {
             places.push(ItemPlace {
                 line,
                 item,

@@ -5,7 +5,7 @@ ghost use Rattle.relay_text.specs.Quotes.{places_outside, quote_count};
 ghost use Rattle.relay_aliasfile.specs.QuoteStates.{at_start, past};
 
 /// Where a reader of a text stands, as far as quoted strings go (RFC 5321 section 4.1.2, Quoted-string).
-#[derive(Clone, Copy, Debug)]
+#[derive(Clone, Copy)]
 struct QuoteState {
     /// The byte before is a `\` that isn't escaped itself.
     escaped: bool,

@@ -1,5 +1,6 @@
 //! Names that come again.
 ghost use Rattle.std.specs.Prelude.{◌≡◌, map, IfOk};
+ghost use Rattle.relay_text.specs.FirstPlaces.{first_place};
 ghost use Rattle.relay_aliasfile.specs.Repeats.{entry_name, repeats_in};
 ghost use Rattle.relay_aliasfile.specs.Twins.{texts_of};
 
@@ -18,12 +19,19 @@ fn names_of<'e>(alloc: Global, entries: &'e [Entry]) -> Result<Vec<&'e [u8]>, Al
     Ok(names)
 }
 
+/// For each entry the place of the first that has its name.
+fn places_of(alloc: Global, entries: &[Entry]) -> Result<Vec<usize>, AllocError>
+    ensures { IfOk result (λ places. places.items ≡ map (first_place (map entry_name entries.now)) (map entry_name entries.now)) }
+{
+    let names = names_of(alloc, entries)?;
+    first_places(alloc, &names)
+}
+
 /// For each entry whether one before it has its name.
 pub(crate) fn repeats_of(alloc: Global, entries: &[Entry]) -> Result<Vec<bool>, AllocError>
     ensures { IfOk result (λ repeats. repeats.items ≡ repeats_in (map entry_name entries.now)) }
 {
-    let names = names_of(alloc, entries)?;
-    let places = first_places(alloc, &names)?;
+    let places = places_of(alloc, entries)?;
     let mut repeats = Vec::with_capacity(alloc, places.len())?;
     for (place, first) in places.iter().enumerate() {
         repeats.push(*first != place)?;

@@ -10,7 +10,7 @@ use relay_text::{Text, begins_with_word, trimmed_end};
 use std::alloc::{AllocError, Global};
 
 /// The kinds of items that are no addresses (aliases(5)).
-#[derive(Clone, Copy, Debug)]
+#[derive(Clone, Copy)]
 pub(crate) enum Special {
     /// `/path`
     Path,

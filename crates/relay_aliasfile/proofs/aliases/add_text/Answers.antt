@@ -1,9 +1,10 @@
-use Rattle.std.proofs.Common.{rules, arith, ◌≡◌, ◌≤◌, ℕ, List, All, length, sym, ap, ◌∙◌, subst}
+use Rattle.std.proofs.Common.{arith, ◌≡◌, ◌≤◌, ◌-◌, ◌^◌, ℕ, List, All, length, sym, ap, ◌∙◌, subst}
 use Rattle.relay_text.specs.Lines.{logical_lines_of}
 use Rattle.relay_text.specs.declared.lines.Lines.{Lines}
-use Rattle.relay_aliasfile.proofs.HalvedLines.{AreUpTo}
+use Rattle.relay_aliasfile.specs.Halves.{AreUpTo}
+use Rattle.relay_aliasfile.proofs.HalvedLines.{up_to-more}
 use Rattle.relay_aliasfile.proofs.HalvedEntries.{up_to-orphans, up_to-logical_lines}
-use Rattle.relay_aliasfile.proofs.aliases.read_file.Goals as goal
+use Rattle.relay_aliasfile.proofs.aliases.add_text.Goals as goal
 
 pub add_orphans-requires : goal.add_orphans-requires
 add_orphans-requires c =
@@ -12,9 +13,7 @@ add_orphans-requires c =
     let low = subst (λ (numbers : List ℕ). All (λ n. n ≤ most) numbers) (sym these) (up_to-orphans c.args.bytes.now) in
     λ k d within. omega (arith, low k d within, c.requires)
 
-pub loop-joined-init : goal.loop-joined-init
-loop-joined-init c = record {
-  entries = search rules;
-  faults = search rules;
-  numbers = subst (λ (lines : Lines). AreUpTo (length c.args.bytes.now) lines.lines) (sym c.in_ok-lines.ensures) (up_to-logical_lines c.args.bytes.now);
-}
+pub add_lines-requires : goal.add_lines-requires
+add_lines-requires c =
+    let most = length c.args.bytes.now in
+    up_to-more most (2 ^ 64 - 1 - c.args.passed) c.in_ok-lines.lines.lines (omega (arith, c.requires)) (subst (λ (lines : Lines). AreUpTo (length c.args.bytes.now) lines.lines) (sym c.in_ok-lines.ensures) (up_to-logical_lines c.args.bytes.now))
