@@ -1,6 +1,6 @@
 -- The parts of a graph put together.
-use Rattle.std.proofs.Common.{◌≡◌, ◌≢◌, ℕ, zero, suc, ◌+◌, ◌-◌, ◌<◌, ◌≤◌, Bool, false, cond, eqb, ltb, Option, Some, None, Err, List, [], ◌∷◌, ◌++◌, length, map, get_or, slice_get, refl, sym, ap, ◌∙◌, subst, arith, inl, inr}
-use Rattle.std.specs.Prelude.{AllPairs, Contains, filter, unwrap_or, option_and_then}
+use Rattle.std.proofs.Common.{◌≡◌, ◌≢◌, ℕ, zero, suc, ◌+◌, ◌-◌, ◌<◌, ◌≤◌, Bool, false, cond, eqb, ltb, Option, Some, None, Result, Ok, Err, List, [], ◌∷◌, ◌++◌, length, map, get_or, slice_get, refl, sym, ap, ◌∙◌, subst, arith, inl, inr}
+use Rattle.std.specs.Prelude.{AllPairs, Contains, filter, unwrap_or, option_and_then, OnOk}
 use Rattle.std.specs.List.{All, concat, flat_map, list_any, range_with_len}
 use Rattle.std.proofs.lemmas.Bool.{cases_lt, cond-true, cond-false, lt-ltb, le-ltb}
 use Rattle.std.proofs.lemmas.List.{append-nil, append_assoc, map-append, length-map, length-append, get_or-map, get_or_append_left}
@@ -21,7 +21,7 @@ use Rattle.relay_tables.specs.declared.include_entry.IncludeEntry.{IncludeEntry}
 use Rattle.relay_tables.specs.Targets.{alias_number, item_target, items_of_entry, items_of_include, targets_of, recipient_target}
 use Rattle.relay_tables.specs.Senders.{Sender, owner_name, owner_entry, sender_or, sender_past}
 use Rattle.relay_tables.specs.Graphs.{entry_nodes, nodes_of, owner_count, refusal_of, IsGraphOf, Refuses}
-use Rattle.relay_tables.specs.Numbering.{Numbered, Numbers, entries_of, with_nodes, with_all}
+use Rattle.relay_tables.specs.Numbering.{Numbered, Numbers, with_nodes, with_all}
 use Rattle.relay_tables.specs.Rowing.{nodes_in, some_of, LeadTo, Adds}
 use Rattle.relay_tables.specs.Sending.{IsOwnedBy, AreOwned}
 use Rattle.relay_tables.specs.Building.{AreParents, AreRows}
@@ -30,7 +30,7 @@ use Rattle.relay_tables.proofs.Runs.{range_more}
 use Rattle.relay_tables.proofs.Turning.{map_after}
 use Rattle.relay_tables.proofs.Firsts.{firsts-from, firsts-distinct, grows, no_fewer, with_nodes-append}
 use Rattle.relay_tables.proofs.Numbers.{length-entries, entry_alias, entry_include}
-use Rattle.relay_tables.proofs.RowSteps.{rows_stay, too_many, with_all-more}
+use Rattle.relay_tables.proofs.RowSteps.{rows_stay, too_many, refused, with_all-none, with_all-more}
 
 -- numbers past the rows are in none
 filter_past : (q : ℕ → Bool) (a m : ℕ) → ((k : ℕ) → a ≤ k → q k ≡ false) → filter q (range_with_len 0 (a + m)) ≡ filter q (range_with_len 0 a)
@@ -231,27 +231,27 @@ module _ (d : Directory) where
       cond-false (ltb names (length (nodes_of d recipients))) (Some TooManyNames) (cond (ltb owners (owner_count d)) (Some TooManyOwners) None) (le-ltb names (length (nodes_of d recipients)) few)
       ∙ cond-false (ltb owners (owner_count d)) (Some TooManyOwners) None (le-ltb owners (owner_count d) fewer)
 
-module _ (d : Directory) (recipients : List AddressParts) where
-  abbrev pub alias_rows : List (List Node)
+module _ (d : Directory) where
+  abbrev alias_rows : List (List Node)
   alias_rows = map (λ n. targets_of d (Alias n)) (range_with_len 0 (length d.aliases))
 
-  abbrev pub include_rows : List (List Node)
+  abbrev include_rows : List (List Node)
   include_rows = map (λ n. targets_of d (Include n)) (range_with_len 0 (length d.includes))
 
-  abbrev pub alias_all : List Node
+  abbrev alias_all : List Node
   alias_all = flat_map (λ n. targets_of d (Alias n)) (range_with_len 0 (length d.aliases))
 
-  abbrev pub include_all : List Node
+  abbrev include_all : List Node
   include_all = flat_map (λ n. targets_of d (Include n)) (range_with_len 0 (length d.includes))
 
-  abbrev pub roots_all : List Node
-  roots_all = map (recipient_target d) recipients
+  abbrev pub entries_all : List Node
+  entries_all = flat_map (targets_of d) (entry_nodes d)
 
   flat_made : (f : ℕ → Node) (ks : List ℕ) → flat_map (targets_of d) (map f ks) ≡ flat_map (λ n. targets_of d (f n)) ks
   flat_made f [] = refl
   flat_made f (k ∷ ks) = ap (λ (xs : List Node). targets_of d (f k) ++ xs) (flat_made f ks)
 
-  flat_entries : flat_map (targets_of d) (entry_nodes d) ≡ alias_all ++ include_all
+  flat_entries : entries_all ≡ alias_all ++ include_all
   flat_entries =
       flat_map-append (targets_of d) (map Alias (range_with_len 0 (length d.aliases))) (map Include (range_with_len 0 (length d.includes)))
       ∙ ap (λ (xs : List Node). xs ++ flat_map (targets_of d) (map Include (range_with_len 0 (length d.includes)))) (flat_made Alias (range_with_len 0 (length d.aliases)))
@@ -263,68 +263,67 @@ module _ (d : Directory) (recipients : List AddressParts) where
       ∙ ap (λ (xs : List (List Node)). xs ++ map (targets_of d) (map Include (range_with_len 0 (length d.includes)))) (map_after (targets_of d) Alias (λ n. targets_of d (Alias n)) (λ n. refl) (range_with_len 0 (length d.aliases)))
       ∙ ap (λ (xs : List (List Node)). alias_rows ++ xs) (map_after (targets_of d) Include (λ n. targets_of d (Include n)) (λ n. refl) (range_with_len 0 (length d.includes)))
 
+  -- where the aliases' targets aren't numbered, those of the entries aren't
+  pub aliases_refused : (e : TableFault) (s end new : Numbered) → Numbers {A = Unit {0}} s alias_all (Err e) end → Numbers {A = Unit {0}} s entries_all (Err e) new
+  aliases_refused e s end new h = refused (Unit {0}) (Unit {0}) e s s end new [] alias_all include_all entries_all (sym (with_all-none s)) flat_entries h
+
+  -- the include files' targets after those of the aliases
+  pub entries_numbered : (r : Result (Unit {0}) TableFault) (s s1 s2 : Numbered) → s1 ≡ with_all s alias_all → Numbers s1 include_all r s2 → Numbers s entries_all r s2
+  entries_numbered (Ok x) s s1 s2 one two = with_all-more s s1 s2 alias_all include_all entries_all one two flat_entries
+  entries_numbered (Err e) s s1 s2 one h =
+      refused (Unit {0}) (Unit {0}) e s s1 s2 s2 alias_all include_all [] entries_all one (flat_entries ∙ sym (append-nil (alias_all ++ include_all))) h
+
+  -- the rows of the include files after those of the aliases
+  pub entries_lead : (r : Result (Unit {0}) TableFault) (nodes nodes1 nodes2 : List Node) (r0 r1 r2 : List (List ℕ)) → r0 ≡ [] → Adds nodes r0 alias_rows nodes1 r1 → OnOk r (Adds nodes1 r1 include_rows nodes2 r2)
+      → OnOk r (LeadTo nodes2 r2 (map (targets_of d) (entry_nodes d)))
+  entries_lead (Ok x) nodes nodes1 nodes2 r0 r1 r2 none first second = second alias_rows (first [] (ap (map (nodes_in nodes)) none)) ∙ ap (map some_of) (sym rows_entries)
+  entries_lead (Err e) nodes nodes1 nodes2 r0 r1 r2 none first second = tt
+
+module _ (d : Directory) (recipients : List AddressParts) where
+  abbrev pub roots_all : List Node
+  roots_all = map (recipient_target d) recipients
+
   -- the nodes, as they come
-  nodes_made : with_nodes (entry_nodes d) (alias_all ++ include_all ++ roots_all) ≡ nodes_of d recipients
-  nodes_made =
-      with_nodes-append (entry_nodes d) (alias_all ++ include_all) roots_all
-      ∙ ap (λ (xs : List Node). with_nodes (with_nodes (entry_nodes d) xs) roots_all) (sym flat_entries)
-      ∙ sym (firsts-from (length d.aliases) (length d.includes) (flat_map (targets_of d) (entry_nodes d)) roots_all)
+  nodes_made : with_nodes (entry_nodes d) (entries_all d ++ roots_all) ≡ nodes_of d recipients
+  nodes_made = with_nodes-append (entry_nodes d) (entries_all d) roots_all ∙ sym (firsts-from (length d.aliases) (length d.includes) (entries_all d) roots_all)
 
   -- there are at least the entries
   pub entries_too_many : (names : ℕ) → names < length d.aliases + length d.includes → names < length (nodes_of d recipients)
   entries_too_many names more =
-      let made : length (with_nodes (entry_nodes d) (alias_all ++ include_all ++ roots_all)) ≡ length (nodes_of d recipients) = ap length nodes_made in
-      omega (arith, no_fewer (entry_nodes d) (alias_all ++ include_all ++ roots_all), length-entries (length d.aliases) (length d.includes))
+      let made : length (with_nodes (entry_nodes d) (entries_all d ++ roots_all)) ≡ length (nodes_of d recipients) = ap length nodes_made in
+      omega (arith, no_fewer (entry_nodes d) (entries_all d ++ roots_all), length-entries (length d.aliases) (length d.includes))
 
   -- a numbering that has only the entries
   pub record IsStart (names : ℕ) (s : Numbered) : Type 0 where
     pub nodes_are : s.nodes ≡ entry_nodes d
     pub limit_is : s.limit ≡ names
 
-  -- all of the directory's entries stand in front
-  abbrev pub IsFor : Numbered → Type 0
-  IsFor s = (s.aliases ≡ length d.aliases) × (s.includes ≡ length d.includes)
-
-  pub start_is : (names aliases includes : ℕ) (s : Numbered) → s ≡ record { nodes = entries_of aliases includes; aliases = aliases; includes = includes; limit = names } → IsFor s → IsStart names s
-  start_is names aliases includes s is h =
-      let a : aliases ≡ length d.aliases = sym (ap (λ (m : Numbered). m.aliases) is) ∙ h.0 in
-      let i : includes ≡ length d.includes = sym (ap (λ (m : Numbered). m.includes) is) ∙ h.1 in
-      record {
-        nodes_are = ap (λ (m : Numbered). m.nodes) is ∙ ap (λ (k : ℕ). entries_of k includes) a ∙ ap (entries_of (length d.aliases)) i;
-        limit_is = ap (λ (m : Numbered). m.limit) is;
-      }
-
   -- where a step finds too many nodes, there are
-  pub step_too_many : (A : Type 0) (e : TableFault) (names : ℕ) (s mid end : Numbered) (xs ys rest : List Node) → IsStart names s → mid ≡ with_all s xs → alias_all ++ include_all ++ roots_all ≡ xs ++ ys ++ rest
+  pub step_too_many : (A : Type 0) (e : TableFault) (names : ℕ) (s mid end : Numbered) (xs ys rest : List Node) → IsStart names s → mid ≡ with_all s xs → entries_all d ++ roots_all ≡ xs ++ ys ++ rest
       → Numbers {A = A} mid ys (Err e) end → e ≡ TooManyNames → names < length (nodes_of d recipients)
   step_too_many A e names s mid end xs ys rest start before is h same =
       let full : mid.limit < length (with_nodes mid.nodes ys) = subst (λ (x : TableFault). Numbers {A = A} mid ys (Err x) end) same h in
-      let all = too_many s mid xs ys rest (alias_all ++ include_all ++ roots_all) before is full in
-      let made : length (with_nodes s.nodes (alias_all ++ include_all ++ roots_all)) ≡ length (nodes_of d recipients) =
-      ap length (ap (λ (ns : List Node). with_nodes ns (alias_all ++ include_all ++ roots_all)) start.nodes_are ∙ nodes_made) in
+      let all = too_many s mid xs ys rest (entries_all d ++ roots_all) before is full in
+      let made : length (with_nodes s.nodes (entries_all d ++ roots_all)) ≡ length (nodes_of d recipients) =
+      ap length (ap (λ (ns : List Node). with_nodes ns (entries_all d ++ roots_all)) start.nodes_are ∙ nodes_made) in
       omega (arith, start.limit_is)
 
-  pub last_nodes : (names : ℕ) (s s1 s2 s3 : Numbered) → IsStart names s → s1 ≡ with_all s alias_all → s2 ≡ with_all s1 include_all → s3 ≡ with_all s2 roots_all
-      → (s3.nodes ≡ nodes_of d recipients) × (s3.limit ≡ names)
-  last_nodes names s s1 s2 s3 start one two three =
-      let second = with_all-more s s1 s2 alias_all include_all (alias_all ++ include_all) one two refl in
-      let third = with_all-more s s2 s3 (alias_all ++ include_all) roots_all (alias_all ++ include_all ++ roots_all) second three refl in (
-        ap (λ (m : Numbered). m.nodes) third ∙ ap (λ (ns : List Node). with_nodes ns (alias_all ++ include_all ++ roots_all)) start.nodes_are ∙ nodes_made,
-        ap (λ (m : Numbered). m.limit) third ∙ start.limit_is,
+  pub last_nodes : (names : ℕ) (s s1 s2 : Numbered) → IsStart names s → s1 ≡ with_all s (entries_all d) → s2 ≡ with_all s1 roots_all
+      → (s2.nodes ≡ nodes_of d recipients) × (s2.limit ≡ names)
+  last_nodes names s s1 s2 start one two =
+      let both = with_all-more s s1 s2 (entries_all d) roots_all (entries_all d ++ roots_all) one two refl in (
+        ap (λ (m : Numbered). m.nodes) both ∙ ap (λ (ns : List Node). with_nodes ns (entries_all d ++ roots_all)) start.nodes_are ∙ nodes_made,
+        ap (λ (m : Numbered). m.limit) both ∙ start.limit_is,
       )
 
   -- the rows that the steps make
-  pub rows_made : (names : ℕ) (s s1 s2 s3 : Numbered) (r0 r1 r2 : List (List ℕ)) (roots : List ℕ) (nodes : List Node) → IsStart names s
-      → s1 ≡ with_all s alias_all → s2 ≡ with_all s1 include_all → s3 ≡ with_all s2 roots_all → r0 ≡ []
-      → Adds s.nodes r0 alias_rows s1.nodes r1 → Adds s1.nodes r1 include_rows s2.nodes r2 → nodes_in s3.nodes roots ≡ some_of roots_all → nodes ≡ s3.nodes
-      → AreRows d recipients nodes r2 roots
-  rows_made names s s1 s2 s3 r0 r1 r2 roots nodes start one two three none first second last is =
-      let empty : LeadTo s.nodes r0 [] = ap (map (nodes_in s.nodes)) none in
-      let third : LeadTo (with_nodes s2.nodes roots_all) r2 (alias_rows ++ include_rows) = rows_stay s2.nodes roots_all r2 (alias_rows ++ include_rows) (second alias_rows (first [] empty)) in
-      let now : nodes ≡ with_nodes s2.nodes roots_all = is ∙ ap (λ (m : Numbered). m.nodes) three in
+  pub rows_made : (names : ℕ) (s s1 s2 : Numbered) (rows : List (List ℕ)) (roots : List ℕ) (nodes : List Node) → IsStart names s → s1 ≡ with_all s (entries_all d) → s2 ≡ with_all s1 roots_all
+      → LeadTo s1.nodes rows (map (targets_of d) (entry_nodes d)) → nodes_in s2.nodes roots ≡ some_of roots_all → nodes ≡ s2.nodes → AreRows d recipients nodes rows roots
+  rows_made names s s1 s2 rows roots nodes start one two lead last is =
+      let now : nodes ≡ with_nodes s1.nodes roots_all = is ∙ ap (λ (m : Numbered). m.nodes) two in
       record {
-        nodes_are = is ∙ (last_nodes names s s1 s2 s3 start one two three).0;
-        rows_are = subst (λ (ns : List Node). LeadTo ns r2 (map (targets_of d) (entry_nodes d))) (sym now) (third ∙ ap (map some_of) (sym rows_entries));
+        nodes_are = is ∙ (last_nodes names s s1 s2 start one two).0;
+        rows_are = subst (λ (ns : List Node). LeadTo ns rows (map (targets_of d) (entry_nodes d))) (sym now) (rows_stay s1.nodes roots_all rows (map (targets_of d) (entry_nodes d)) lead);
         roots_are = ap (λ (ns : List Node). nodes_in ns roots) is ∙ last;
       }
 

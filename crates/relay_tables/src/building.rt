@@ -1,7 +1,10 @@
 //! The nodes of a graph, and a row of numbers for each entry.
-ghost use Rattle.std.specs.Prelude.{◌≡◌, ◌<◌, ◌≤◌, ◌^◌, length, map, IfOk, OnOk, Err};
-ghost use Rattle.relay_tables.specs.Graphs.{nodes_of};
+ghost use Rattle.std.specs.Prelude.{◌≡◌, ◌<◌, ◌≤◌, ◌+◌, ◌^◌, [], length, map, flat_map, IfOk, OnOk, Err};
+ghost use Rattle.relay_tables.specs.Targets.{targets_of};
+ghost use Rattle.relay_tables.specs.Graphs.{entry_nodes, nodes_of};
 ghost use Rattle.relay_tables.specs.Looking.{recipient_found, found_from, AreFirst};
+ghost use Rattle.relay_tables.specs.Numbering.{Numbers};
+ghost use Rattle.relay_tables.specs.Rowing.{LeadTo};
 ghost use Rattle.relay_tables.specs.Building.{AreRows};
 
 use crate::adjacency::Adjacency;
@@ -61,6 +64,67 @@ fn known_count(tables: &Tables, found: &[Option<Target>]) -> usize {
     }
 }
 
+// The nodes that are numbered, the rows of the first entries, and what is written over for each row.
+#[derive(Drop)]
+struct Begun {
+    names: Numbering,
+    children: Adjacency,
+    scratch: Scratch,
+}
+
+// The nodes of all entries, and no rows yet. Take about as many heads as targets are expected.
+fn begin(alloc: Global, tables: &Tables, heads: usize, names: usize) -> Result<Begun, TableFault>
+    requires heads { 1 ≤ heads }
+    requires names { names ≤ 2 ^ 24 }
+    ensures nodes { IfOk result (λ begun. begun.names.nodes ≡ entry_nodes tables.now) }
+    ensures limit { IfOk result (λ begun. begun.names.limit ≡ names) }
+    ensures none { IfOk result (λ begun. begun.children ≡ []) }
+    ensures few { OnOk result (length tables.now.aliases + length tables.now.includes ≤ names) }
+    ensures full { result ≡ Err TableFault.TooManyNames → names < length tables.now.aliases + length tables.now.includes }
+    ensures owners { result ≡ Err TableFault.TooManyOwners → ⊥ }
+{
+    let aliases = tables.aliases().len();
+    let includes = tables.includes().len();
+    let numbering = Numbering::new(alloc, tables.key(), aliases, includes, heads, names)?;
+    let children = Adjacency::with_capacity(alloc, aliases.saturating_add(includes))?;
+    Ok(Begun {
+        names: numbering,
+        children,
+        scratch: Scratch::new(alloc, heads),
+    })
+}
+
+// A row for each entry, in order: the targets of its items. What is found for the first items may be given.
+fn number_entries(
+    alloc: Global,
+    tables: &Tables,
+    items: &[Option<Target>],
+    begun: &mut Begun,
+) -> Result<(), TableFault>
+    requires none { begun.old.children ≡ [] }
+    requires few { length tables.now.aliases + length tables.now.includes ≤ 2 ^ 24 }
+    requires items { AreFirst items.now (found_from tables.now 0) }
+    ensures rows { OnOk result (LeadTo begun.new.names.nodes begun.new.children (map (targets_of tables.now) (entry_nodes tables.now))) }
+    ensures numbers { Numbers begun.old.names (flat_map (targets_of tables.now) (entry_nodes tables.now)) result begun.new.names }
+{
+    let rest = number_aliases(
+        alloc,
+        tables,
+        items,
+        &mut begun.names,
+        &mut begun.scratch,
+        &mut begun.children,
+    )?;
+    number_includes(
+        alloc,
+        tables,
+        rest,
+        &mut begun.names,
+        &mut begun.scratch,
+        &mut begun.children,
+    )
+}
+
 /// The rows of the tables and recipients, where there are at most `names` nodes. What is found for the first items and for the first
 /// recipients may be given; the others are looked up.
 pub(crate) fn number_all(
@@ -82,36 +146,21 @@ pub(crate) fn number_all(
 {
     let count = known_count(tables, items);
     let heads = expected(count, recipients.len(), names);
-    let aliases = tables.aliases().len();
-    let includes = tables.includes().len();
-    let mut numbering = Numbering::new(alloc, tables.key(), aliases, includes, heads, names)?;
-    let mut scratch = Scratch::new(alloc, heads);
-    let entries = aliases.saturating_add(includes);
-    let mut children = Adjacency::with_capacity(alloc, entries)?;
-    let rest = number_aliases(
-        alloc,
-        tables,
-        items,
-        &mut numbering,
-        &mut scratch,
-        &mut children,
-    )?;
-    number_includes(
-        alloc,
-        tables,
-        rest,
-        &mut numbering,
-        &mut scratch,
-        &mut children,
-    )?;
+    let mut begun = begin(alloc, tables, heads, names)?;
+    number_entries(alloc, tables, items, &mut begun)?;
     let roots = number_recipients(
         alloc,
         tables,
         recipients,
         addresses,
-        &mut numbering,
-        &mut scratch,
+        &mut begun.names,
+        &mut begun.scratch,
     )?;
+    let Begun {
+        names: numbering,
+        children,
+        scratch: _,
+    } = begun;
     Ok(Rows {
         nodes: numbering.into_nodes(),
         children,

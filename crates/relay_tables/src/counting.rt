@@ -1,5 +1,5 @@
 //! How much of tables counts against a graph's limits, whatever the envelope.
-ghost use Rattle.std.specs.Prelude.{◌≡◌, ◌≤◌, ◌+◌, ◌^◌, List, [], length, IfOk};
+ghost use Rattle.std.specs.Prelude.{◌≡◌, ◌<◌, ◌≤◌, ◌+◌, ◌^◌, List, [], length, IfOk, OnOk, Err};
 ghost use Rattle.relay_text.specs.AddressParts.{AddressParts};
 ghost use Rattle.relay_tables.specs.Directory.{Directory};
 ghost use Rattle.relay_tables.specs.Graphs.{nodes_of, owner_count, refusal_of, Refuses};
@@ -37,17 +37,29 @@ impl TableCounts {
         ensures owners { IfOk result (λ counts. counts.owners ≡ owner_count tables.now) }
         ensures refusal { Refuses result (refusal_of tables.now [] names owners) }
     {
-        let no_recipients: &[Address] = &[];
-        let rows = number_all(alloc, tables, no_recipients, &[], &[], names)?;
+        let count = name_count(alloc, tables, names)?;
         let owned = count_owners(tables);
         if owned > owners {
             return Err(TableFault::TooManyOwners);
         }
         Ok(TableCounts {
-            names: rows.nodes.len(),
+            names: count,
             owners: owned,
         })
     }
+}
+
+// How many names tables have, where there are at most `names`.
+fn name_count(alloc: Global, tables: &Tables, names: usize) -> Result<usize, TableFault>
+    requires { names ≤ 2 ^ 24 }
+    ensures count { IfOk result (λ count. count ≡ length (nodes_of tables.now [])) }
+    ensures within { OnOk result (length (nodes_of tables.now []) ≤ names) }
+    ensures full { result ≡ Err TableFault.TooManyNames → names < length (nodes_of tables.now []) }
+    ensures owners { result ≡ Err TableFault.TooManyOwners → ⊥ }
+{
+    let no_recipients: &[Address] = &[];
+    let rows = number_all(alloc, tables, no_recipients, &[], &[], names)?;
+    Ok(rows.nodes.len())
 }
 
 /// With recipients a graph has no fewer nodes than without any, and at most one more for each.

@@ -8,7 +8,7 @@ use crate::fault::TableFault;
 use crate::looked_up::LookedUp;
 use crate::node::Node;
 use crate::reaching::{Reach, reach_all};
-use crate::sending::{SenderList, count_owners, number_owners};
+use crate::sending::{OwnedSenders, count_owners, number_senders};
 use crate::tables::Tables;
 use relay_text::Address;
 use std::alloc::Global;
@@ -87,13 +87,16 @@ impl Graph {
         if owned > owners {
             return Err(TableFault::TooManyOwners);
         }
+        let numbered = number_senders(alloc, tables, sender, owned)?;
         let Rows {
             nodes,
             children,
             roots,
         } = rows;
-        let mut senders = SenderList::new(alloc, owned + 1, sender)?;
-        let numbers = number_owners(alloc, tables, owned, &mut senders)?;
+        let OwnedSenders {
+            senders,
+            owners: numbers,
+        } = numbered;
         Ok(Graph {
             nodes,
             children,

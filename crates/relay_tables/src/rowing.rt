@@ -1,5 +1,5 @@
 //! Rows of node numbers: the children of each entry, and the recipients' targets.
-ghost use Rattle.std.specs.Prelude.{◌≡◌, ◌<◌, ◌+◌, ◌^◌, ◌++◌, length, map, flat_map, slice_get, IfOk, OnOk, IfSome, IsTrue};
+ghost use Rattle.std.specs.Prelude.{◌≡◌, ◌<◌, ◌+◌, ◌^◌, ◌++◌, [], length, map, flat_map, slice_get, IfOk, OnOk, IfSome, IsTrue};
 ghost use Rattle.std.specs.List.{list_all, range_with_len};
 ghost use Rattle.relay_tables.specs.declared.node.Node.TheVariants.{Alias, Include};
 ghost use Rattle.relay_tables.specs.Parts.{is_good_item};
@@ -180,6 +180,40 @@ pub(crate) fn number_includes(
     Ok(())
 }
 
+// Recipients, and what is found for the first of them.
+#[derive(Clone, Copy)]
+struct Recipients<'a> {
+    addresses: &'a [Address],
+    found: &'a [Option<Target>],
+}
+
+// Puts the recipients' targets, in order, where there are none yet.
+fn push_targets(
+    alloc: Global,
+    tables: &Tables,
+    recipients: Recipients<'_>,
+    names: &mut Numbering,
+    scratch: &mut Scratch,
+    roots: &mut Vec<u32>,
+) -> Result<(), TableFault>
+    requires none { roots.old.items ≡ [] }
+    requires found { AreFirst recipients.found.now (map (recipient_found tables.now) recipients.addresses.now) }
+    ensures roots { OnOk result (nodes_in names.new.nodes roots.new.items ≡ some_of (map (recipient_target tables.now) recipients.entry.addresses.now)) }
+    ensures numbers { Numbers names.old (map (recipient_target tables.now) recipients.entry.addresses.now) result names.new }
+{
+    let Recipients { addresses, found } = recipients;
+    for address in addresses {
+        let start = roots.len();
+        scratch
+            .ahead
+            .read_recipients(tables, Some(names), addresses, found, start);
+        let target = recipient_found_at(tables, found, start, address, &mut scratch.name)?;
+        let number = number_address(alloc, tables, address, target, names, &mut scratch.name)?;
+        roots.push(number)?;
+    }
+    Ok(())
+}
+
 /// The recipients' targets, in order, with repeats. What is found for the first of them may be given.
 pub(crate) fn number_recipients(
     alloc: Global,
@@ -194,14 +228,10 @@ pub(crate) fn number_recipients(
     ensures numbers { Numbers names.old (map (recipient_target tables.now) recipients.now) result names.new }
 {
     let mut roots = Vec::with_capacity(alloc, recipients.len())?;
-    for address in recipients {
-        let start = roots.len();
-        scratch
-            .ahead
-            .read_recipients(tables, Some(names), recipients, found, start);
-        let target = recipient_found_at(tables, found, start, address, &mut scratch.name)?;
-        let number = number_address(alloc, tables, address, target, names, &mut scratch.name)?;
-        roots.push(number)?;
-    }
+    let recipients = Recipients {
+        addresses: recipients,
+        found,
+    };
+    push_targets(alloc, tables, recipients, names, scratch, &mut roots)?;
     Ok(roots)
 }

@@ -134,8 +134,8 @@ pub(crate) fn number_owner(
     Ok(Some(number))
 }
 
-/// The same of each alias, in order; of none where no alias has an owner.
-pub(crate) fn number_owners(
+// The same of each alias, in order; of none where no alias has an owner.
+fn number_owners(
     alloc: Global,
     tables: &Tables,
     owned: usize,
@@ -155,4 +155,28 @@ pub(crate) fn number_owners(
         owners.push(owner)?;
     }
     Ok(owners)
+}
+
+/// Senders, and for each alias the number of the one that it sets.
+#[derive(Drop)]
+pub(crate) struct OwnedSenders {
+    pub(crate) senders: SenderList,
+    pub(crate) owners: Vec<Option<u32>>,
+}
+
+/// The envelope's sender, and those that all aliases set.
+pub(crate) fn number_senders(
+    alloc: Global,
+    tables: &Tables,
+    sender: Option<&Address>,
+    owned: usize,
+) -> Result<OwnedSenders, AllocError>
+    requires few { owned ≤ 2 ^ 24 }
+    requires owned { owned ≡ owner_count tables.now }
+    ensures few { IfOk result (λ numbered. length numbered.senders ≤ owner_count tables.now + 1) }
+    ensures owned { IfOk result (λ numbered. AreOwned tables.now (option_map (λ a. a.now) sender.entry) (length tables.now.aliases) numbered.senders numbered.owners.items) }
+{
+    let mut senders = SenderList::new(alloc, owned + 1, sender)?;
+    let owners = number_owners(alloc, tables, owned, &mut senders)?;
+    Ok(OwnedSenders { senders, owners })
 }

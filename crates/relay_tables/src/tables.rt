@@ -153,13 +153,8 @@ impl Tables {
         let Some(owner) = self.owner_of(alias) else {
             unreachable!()
         };
-        let entry = &self.aliases.as_slice()[owner as usize];
-        if self.local.expand
-            && let Some(address) = self.one_address(alloc, entry.items.as_slice())?
-        {
-            return Ok(address);
-        }
-        self.at_origin(alloc, entry.name.as_bytes())
+        let entries = self.aliases();
+        self.sender_of(alloc, &entries[owner as usize])
     }
 
     /// The entries of the alias table, by their numbers.
@@ -274,6 +269,19 @@ impl Tables {
         ensures { IfOk result (λ a. a ≡ at_origin self.now local.now) }
     {
         Address::new(alloc, local, self.local.origin.as_bytes())
+    }
+
+    // The sender that an owner's entry gives.
+    fn sender_of(&self, alloc: Global, owner: &Entry) -> Result<Address, AllocError>
+        requires { IsTrue (is_good_entry owner.now) }
+        ensures { IfOk result (λ a. a ≡ sender_by self.now owner.now) }
+    {
+        if self.local.expand
+            && let Some(address) = self.one_address(alloc, owner.items.as_slice())?
+        {
+            return Ok(address);
+        }
+        self.at_origin(alloc, owner.name.as_bytes())
     }
 
     // The one address that a list of items is.

@@ -30,12 +30,12 @@ invariant_of-result c =
     let rs = c.args.looked_up.recipients in
     let count = rows_count d rs r.nodes.items r.children r.roots.items c.in_ok-rows.ensures.rows in
     let within = entries_within d rs r.nodes.items r.children r.roots.items c.in_ok-rows.ensures.rows in
-    let senders : List Sender = c.number_owners.new.senders in
+    let senders : List Sender = c.in_ok-numbered.numbered.senders in
     let sender : Sender = option_map (λ a. a.now) c.args.sender in
-    let owned = subst (λ (x : Directory). AreOwned x (option_map (λ a. a.now) c.args.sender) (length x.aliases) c.number_owners.new.senders c.in_ok-numbers.numbers.items) c.tables-tables.ensures (c.in_ok-numbers.ensures.owned _ c.in_ok-senders.ensures) in
-    let graph = graph_is d rs r.nodes.items r.children r.roots.items c.in_ok-rows.ensures.rows sender senders c.in_ok-numbers.numbers.items owned c.into_vec.ensures.distinct in
+    let owned = subst (λ (x : Directory). AreOwned x (option_map (λ a. a.now) c.args.sender) (length x.aliases) c.in_ok-numbered.numbered.senders c.in_ok-numbered.numbered.owners.items) c.tables-tables.ensures c.in_ok-numbered.ensures.owned in
+    let graph = graph_is d rs r.nodes.items r.children r.roots.items c.in_ok-rows.ensures.rows sender senders c.in_ok-numbered.numbered.owners.items owned c.into_vec.ensures.distinct in
     let few_nodes : length r.nodes.items ≤ 2 ^ 24 = omega (arith, c.in_ok-rows.ensures.few, c.requires.names) in
-    let few_senders : length senders ≤ 2 ^ 32 = omega (arith, c.in_ok-numbers.ensures.few, c.count_owners-owned.ensures, c.if-owned-owners.false, c.requires.owners) in
+    let few_senders : length senders ≤ 2 ^ 32 = omega (arith, c.in_ok-numbered.ensures.few, c.count_owners-owned.ensures, c.if-owned-owners.false, c.requires.owners) in
     record {
       closed = rw c.into_vec.ensures.senders (closed_graph d sender rs _ (from_whole d sender rs _ graph) few_nodes few_senders);
       few_rows = omega (arith, count, within);
@@ -47,13 +47,13 @@ returns-clause-graph c =
     let d = c.args.looked_up.tables in
     let rs = c.args.looked_up.recipients in
     let sender : Sender = option_map (λ a. a.now) c.args.sender in
-    let owned = subst (λ (x : Directory). AreOwned x (option_map (λ a. a.now) c.args.sender) (length x.aliases) c.number_owners.new.senders c.in_ok-numbers.numbers.items) c.tables-tables.ensures (c.in_ok-numbers.ensures.owned _ c.in_ok-senders.ensures) in
+    let owned = subst (λ (x : Directory). AreOwned x (option_map (λ a. a.now) c.args.sender) (length x.aliases) c.in_ok-numbered.numbered.senders c.in_ok-numbered.numbered.owners.items) c.tables-tables.ensures c.in_ok-numbered.ensures.owned in
     rw c.into_vec.ensures.senders
-    (graph_is d rs r.nodes.items r.children r.roots.items c.in_ok-rows.ensures.rows sender c.number_owners.new.senders c.in_ok-numbers.numbers.items owned c.into_vec.ensures.distinct)
+    (graph_is d rs r.nodes.items r.children r.roots.items c.in_ok-rows.ensures.rows sender c.in_ok-numbered.numbered.senders c.in_ok-numbered.numbered.owners.items owned c.into_vec.ensures.distinct)
 
 pub returns-clause-refusal : goal.returns-clause-refusal
 returns-clause-refusal c =
     not_refused c.args.looked_up.tables c.args.looked_up.recipients c.args.names c.args.owners c.in_ok-rows.ensures.within (omega (arith, c.count_owners-owned.ensures, c.if-owned-owners.false, ap owner_count c.tables-tables.ensures))
 
 pub returns-clause-senders : goal.returns-clause-senders
-returns-clause-senders c = omega (arith, c.in_ok-numbers.ensures.few, ap length c.into_vec.ensures.senders, ap owner_count c.tables-tables.ensures)
+returns-clause-senders c = omega (arith, c.in_ok-numbered.ensures.few, ap length c.into_vec.ensures.senders, ap owner_count c.tables-tables.ensures)
