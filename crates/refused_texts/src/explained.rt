@@ -2,7 +2,9 @@
 use crate::texts::LONG;
 use growth_answers::inputs::{address, is_address};
 use growth_answers::{Answer, Seen, Teller, Unready, call, case, judged, lent, twice};
-use relay_explain::{Asked, Entry, Listed, Mention, Step, Target, Telling, telling_text};
+use relay_explain::{
+    Asked, Entry, Listed, Mention, Step, Target, Telling, put_alias_step, telling_text,
+};
 use relay_text::{Seq, Text, TextFault};
 use std::alloc::{AllocError, Global};
 
@@ -12,6 +14,8 @@ const EXPLANATION: &[u8] = b"explain kim answers 0\n\
     end\n";
 
 const STEP: &[u8] = b"step alias club line 3 item 2 kim is missing kim\n";
+
+const ALIAS_STEP: &[u8] = b"step alias club line 3 item 2 staff is alias team\n";
 
 const ASKED: &[u8] = b"<local-part-that-does-not-lie-in-the-value-itself@Example.NET>";
 
@@ -93,10 +97,25 @@ fn writes_a_step(alloc: Global) -> Result<Answer, Unready> {
     })
 }
 
+fn writes_a_step_between_aliases(alloc: Global) -> Result<Answer, Unready> {
+    let mut line = Vec::new(alloc);
+    Ok(
+        match put_alias_step(b"club", 3, 2, b"staff", b"team", &mut line) {
+            Ok(()) => Answer::given(line.as_slice() == ALIAS_STEP),
+            Err(_) => Answer::Refused,
+        },
+    )
+}
+
 pub(crate) fn tell<R: Print + AllocGlobal>(teller: &mut Teller<'_, R>) {
     let alloc = teller.rt.alloc();
     call!(teller, "Asked::parse", reads_what_is_asked(alloc));
     case!(teller, "Asked::copy", copies_what_is_asked(alloc));
     call!(teller, "Step::put_line", writes_a_step(alloc));
+    call!(
+        teller,
+        "put_alias_step",
+        writes_a_step_between_aliases(alloc)
+    );
     call!(teller, "telling_text", writes_what_is_told(alloc));
 }
