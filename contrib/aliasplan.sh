@@ -2,8 +2,8 @@
 # What `install` puts into bin/ as aliasplan: it runs the program beside it, in lib/aliasplan/.
 #
 # The C library is told to ask for large pages (glibc.malloc.hugetlb in the GNU C Library's manual, "Memory Allocation Tunables"), for which the program
-# itself has no call: of a million recipients, a tenth to a quarter of the time goes into pages of the usual size. What GLIBC_TUNABLES says already
-# stands, so GLIBC_TUNABLES= turns it off.
+# has no call of its own: a plan of a million recipients takes up to a quarter less time. What GLIBC_TUNABLES says already stands, so GLIBC_TUNABLES=
+# turns it off.
 here=$0
 if [ -h "$here" ]; then here=$(readlink -f "$here"); fi
 case $here in
