@@ -8,8 +8,10 @@ use std::marker::Model;
 pub struct KnownWays {
     texts: Interner,
     ways: Vec<Way>,
-    /// The number of the text that was recalled last: addresses of one domain mostly come one after another.
+    /// The number of the text that was recalled last.
     latest: u32,
+    /// Whether that one was recalled twice in a row: addresses of one domain mostly come one after another, or are mixed throughout.
+    comes_again: bool,
 }
 
 impl Model for KnownWays {
@@ -38,6 +40,7 @@ impl KnownWays {
             texts: Interner::with_key(alloc, key, 1, u32::MAX as usize - 1)?,
             ways: Vec::new(alloc),
             latest: 0,
+            comes_again: false,
         })
     }
 
@@ -49,10 +52,13 @@ impl KnownWays {
         Some(self.ways[number as usize])
     }
 
-    /// The way of a text where that was the last one recalled.
+    /// The way of a text where that was the last one recalled, and was recalled twice.
     fn latest_way(&self, text: &[u8]) -> Option<Way>
         ensures { IfSome result (λ way. way_in self.now text.now ≡ Some way) }
     {
+        if !self.comes_again {
+            return None;
+        }
         // For what the call says alone: the texts are distinct.
         let _ = self.texts.len();
         if !same_bytes(self.texts.text(self.latest)?, text) {
@@ -61,7 +67,7 @@ impl KnownWays {
         Some(self.ways[self.latest as usize])
     }
 
-    /// The way of a text, as `find` gives it, without its hash where it was the last one recalled.
+    /// The way of a text, as `find` gives it, without its hash where it was recalled twice just before.
     pub fn recall(&mut self, text: &[u8]) -> Option<Way>
         ensures found { result ≡ way_in self.old text.now }
         ensures kept { self.new ≡ self.old }
@@ -70,6 +76,7 @@ impl KnownWays {
             return Some(way);
         }
         let number = self.texts.find(text)?;
+        self.comes_again = number == self.latest;
         self.latest = number;
         Some(self.ways[number as usize])
     }
