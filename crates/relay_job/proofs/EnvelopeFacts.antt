@@ -1,5 +1,5 @@
 -- How the envelope follows from a pass over its commands.
-use Rattle.std.proofs.Common.{◌≡◌, ℕ, ◌+◌, ◌<◌, ◌≤◌, true, false, cond, ltb, List, [], ◌∷◌, ◌++◌, length, take, drop, Option, Some, None, Result, Ok, Err, refl, sym, ap, ◌∙◌, arith}
+use Rattle.std.proofs.Common.{◌≡◌, ℕ, ◌+◌, ◌<◌, ◌≤◌, Bool, true, false, cond, ltb, List, [], ◌∷◌, ◌++◌, length, take, drop, Option, Some, None, Result, Ok, Err, refl, sym, ap, ◌∙◌, arith}
 use Rattle.std.specs.Prelude.{IfOk, IfErr}
 use Rattle.std.specs.List.{list_all, slice_get}
 use Rattle.std.specs.Option.{option_map, is_none}
@@ -18,7 +18,7 @@ use Rattle.relay_job.specs.declared.envelope.Envelope.{Envelope}
 use Rattle.relay_job.specs.declared.fault.RunFault.{RunFault}
 use Rattle.relay_job.specs.declared.fault.RunFault.TheVariants.{Read, TooLong, BadJob, BadSetting, BadEnvelope, TooManyNames, TooManyOwners, TooManyPairs, Write, Memory}
 use Rattle.relay_job.specs.JobText.{command_path, sender_in, recipient_in, breaks_envelope}
-use Rattle.relay_job.specs.JobParts.{commands_of, commands_at, recipients_of, bad_recipients, first_bad_recipient, first_bad_command, bad_envelope_at, sender_of, AreRecipientsOf, HasSender, IsEnvelopeAt, Stops}
+use Rattle.relay_job.specs.JobParts.{commands_of, commands_at, recipients_of, bad_recipients, first_bad_recipient, first_bad_command, bad_envelope_at, sender_of, AreRecipientsOf, HasNamed, HasSender, IsEnvelopeAt, Stops}
 
 -- A line that begins with a word is at least as long.
 pub begins_with_word-length : (word line : List ℕ) → begins_with_word word line ≡ true → length word ≤ length line
@@ -99,6 +99,18 @@ Stops-from o p TooManyOwners h s = h _ s
 Stops-from o p TooManyPairs h s = h _ s
 Stops-from o p Write h s = h _ s
 Stops-from o p Memory h s = tt
+
+-- A command that names a recipient is read, and one that names none is the first that is bad.
+pub RecipientsRead-named : (origin : List ℕ) (commands rest : List Line) (x : Line) (xs : List Line) (recipients more : List AddressParts) → RecipientsRead origin commands rest recipients → rest ≡ x ∷ xs → HasNamed origin x recipients more → RecipientsRead origin commands xs more
+RecipientsRead-named origin commands rest x xs recipients more h cut n = rw n.added (RecipientsRead-more origin commands x xs recipients n.recipient (rw cut at h) n.named)
+
+pub RecipientsRead-refused : (origin : List ℕ) (commands rest : List Line) (x : Line) (xs : List Line) (recipients : List AddressParts) (fault : RunFault) → RecipientsRead origin commands rest recipients → rest ≡ x ∷ xs → Stops (first_bad_recipient origin (x ∷ [])) fault → Stops (first_bad_recipient origin commands) fault
+RecipientsRead-refused origin commands rest x xs recipients fault h cut =
+    let read : RecipientsRead origin commands (x ∷ xs) recipients = rw cut at h in
+    Stops-from _ _ fault (λ f g. ap (λ (ns : List ℕ). option_map BadEnvelope (slice_get ns 0)) (sym read.unbroken) ∙ at (is_none (recipient_in origin x.text)) f g) where
+      at : (t : Bool) (f : RunFault) → option_map BadEnvelope (slice_get (cond t (x.number ∷ []) [] ++ []) 0) ≡ Some f → option_map BadEnvelope (slice_get (cond t (x.number ∷ []) [] ++ bad_recipients origin xs) 0) ≡ Some f
+      at true f g = g
+      at false f g = cc
 
 pub first_bad-recipients : (origin : List ℕ) (heading : ℕ) (commands : List Line) (x : Line) (xs : List Line) (sender : Option AddressParts) (fault : RunFault) → commands ≡ x ∷ xs → sender_in origin x.text ≡ Some sender → Stops (option_map BadEnvelope (slice_get (bad_recipients origin xs) 0)) fault → Stops (option_map BadEnvelope (first_bad_command origin heading commands)) fault
 first_bad-recipients origin heading commands x xs sender fault c e h = Stops-from _ _ fault (λ f g. rw c (ap (option_map BadEnvelope) (first_bad-behind origin heading x xs sender e) ∙ at (slice_get (bad_recipients origin xs) 0) f g)) h where

@@ -1,5 +1,5 @@
 -- How a pass over a job's lines finds its parts, and the first line that breaks it.
-use Rattle.std.proofs.Common.{◌≡◌, ℕ, Bool, true, false, not, cond, ◌&&◌, ◌||◌, List, [], ◌∷◌, ◌++◌, map, Option, Some, None, Bor, refl, sym, ap, ◌∙◌, arith}
+use Rattle.std.proofs.Common.{◌≡◌, ℕ, Bool, true, false, not, cond, ◌&&◌, ◌||◌, ◌⊎◌, inl, inr, List, [], ◌∷◌, ◌++◌, map, Option, Some, None, Bor, refl, sym, ap, ◌∙◌, arith}
 use Rattle.std.specs.List.{list_any, list_all, filter_map, flat_map, cons_option, slice_get}
 use Rattle.std.specs.Option.{option_map, is_some}
 use Rattle.std.specs.Str.{bytes_eq}
@@ -15,10 +15,13 @@ use Rattle.relay_job.specs.declared.sections.Sections.{Sections}
 use Rattle.relay_job.specs.declared.include_place.IncludePlace.{IncludePlace}
 use Rattle.relay_job.specs.declared.parts.Parts.{Parts}
 use Rattle.relay_job.specs.declared.job.JobInclude.{JobInclude}
+use Rattle.relay_job.specs.declared.fault.RunFault.{RunFault}
+use Rattle.relay_job.specs.declared.fault.RunFault.TheVariants.{BadJob, Memory}
+use Rattle.relay_job.specs.JobParts.{Stops}
 use Rattle.relay_job.specs.JobText.{JobLine, named, include, same_section, job_lines, text_of, is_heading, content_of, section_of, has_section, breaks_job, bad_job, Part, part_of, part_at, parts_of, included}
 use Rattle.relay_job.specs.JobText as texts
 use Rattle.relay_job.specs.Places.{lines_at}
-use Rattle.relay_job.specs.SectionPlaces.{word_of, heading_section, place_of, with_place, part_behind, include_at, has_part, HasInclude, HasTaken, ArePartsOf}
+use Rattle.relay_job.specs.SectionPlaces.{word_of, heading_section, place_of, with_place, part_behind, include_at, has_part, HasInclude, HasTaken, IsBadHeading, ArePartsOf}
 
 -- the lines before the next heading
 abbrev pub content_before : List JobLine → List JobLine
@@ -241,6 +244,14 @@ Scanned-nameless text x xs parts started h e f = first-broken text h.done x xs h
 pub Scanned-repeated : (text : List ℕ) (x : JobLine) (xs : List JobLine) (parts : Parts) (started : Bool) (heading : Heading) → Scanned text (x ∷ xs) parts started → is_heading x ≡ true → section_of (text_of x) ≡ Some (heading_section heading) → has_part parts heading ≡ true → bad_job text ≡ Some x.number
 Scanned-repeated text x xs parts started (Named t) h e f some = first-broken text h.done x xs h.unbroken (breaks-heading h.done x (named (word_of t)) e f ∙ h.seen t ∙ some)
 Scanned-repeated text x xs parts started (Include path) h e f some = first-broken text h.done x xs h.unbroken (breaks-heading h.done x (include path.now) e f ∙ h.paths path.now ∙ some)
+
+pub Scanned-bad : (text : List ℕ) (x : JobLine) (xs : List JobLine) (parts : Parts) (started : Bool) (fault : RunFault) → Scanned text (x ∷ xs) parts started → is_heading x ≡ true → (fault ≡ Memory) ⊎ ((fault ≡ BadJob x.number) × IsBadHeading parts x)
+    → Stops (option_map BadJob (bad_job text)) fault
+Scanned-bad text x xs parts started fault h e (inl out) = rw out tt
+Scanned-bad text x xs parts started fault h e (inr bad) = rw bad.0 (ap (option_map BadJob) (at bad.1)) where
+  at : IsBadHeading parts x → bad_job text ≡ Some x.number
+  at (inl nameless) = Scanned-nameless text x xs parts started h e nameless
+  at (inr repeated) = Scanned-repeated text x xs parts started repeated.0 h e repeated.1 repeated.2
 
 pub Scanned-stray : (text : List ℕ) (x : JobLine) (xs : List JobLine) (parts : Parts) → Scanned text (x ∷ xs) parts false → is_heading x ≡ false → list_all is_white (text_of x) ≡ false → bad_job text ≡ Some x.number
 Scanned-stray text x xs parts h e f = first-broken text h.done x xs h.unbroken (breaks-other h.done x false false e h.headings f)

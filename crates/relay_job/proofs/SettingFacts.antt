@@ -1,10 +1,10 @@
 -- How the settings follow from a pass over their lines.
-use Rattle.std.proofs.Common.{◌≡◌, ℕ, suc, ◌+◌, Bool, true, false, not, cond, ◌&&◌, ◌||◌, ltb, List, [], ◌∷◌, ◌++◌, length, take, drop, Option, Some, None, refl, sym, ap, ◌∙◌, subst, arith}
+use Rattle.std.proofs.Common.{◌≡◌, ℕ, suc, ◌+◌, Bool, true, false, not, cond, ◌&&◌, ◌||◌, ◌⊎◌, inl, inr, ltb, List, [], ◌∷◌, ◌++◌, codes, length, take, drop, Option, Some, None, refl, sym, ap, ◌∙◌, subst, arith}
 use Rattle.std.specs.List.{list_any, slice_get, position, position_or_len}
-use Rattle.std.specs.Option.{option_and_then, option_or, is_some}
+use Rattle.std.specs.Option.{option_and_then, option_map, option_or, is_some}
 use Rattle.std.specs.Str.{bytes_eq}
 use Rattle.std.proofs.Math.Path.{fun_ext}
-use Rattle.std.proofs.lemmas.Bool.{and_parts, not-true, false_from_ne_true, lt-ltb}
+use Rattle.std.proofs.lemmas.Bool.{and_parts, or_parts, not-true, false_from_ne_true, lt-ltb}
 use Rattle.std.proofs.lemmas.Bool.Decides.{nat_tests}
 use Rattle.std.proofs.lemmas.Option.{cond_some, same_Some}
 use Rattle.std.proofs.lemmas.Slice.Eq.{bytes_eq-Decides}
@@ -12,10 +12,13 @@ use Rattle.std.proofs.lemmas.List.Folds.{list_any-append}
 use Rattle.relay_text.specs.Bytes.{trimmed, each_after, first_of}
 use Rattle.relay_text.specs.Lines.{is_ignored}
 use Rattle.relay_text.specs.declared.lines.Line.{Line}
+use Rattle.relay_job.specs.declared.fault.RunFault.{RunFault}
+use Rattle.relay_job.specs.declared.fault.RunFault.TheVariants.{BadSetting, Memory}
 use Rattle.relay_job.specs.declared.setting_values.SettingValues.{SettingValues}
 use Rattle.relay_job.specs.Settings.{Setting, is_equals, setting_of, is_good_setting, has_key, breaks_settings, setting_lines, value_at}
-use Rattle.relay_job.specs.SettingValues.{values_by, with_setting, AreRead, HasSet, AreValuesOf}
-use Rattle.relay_job.specs.JobParts.{first_bad_setting}
+use Rattle.relay_job.specs.SettingValues.{values_by, with_setting, takes_memory, AreRead, HasSet, HasSetBy, AreValuesOf}
+use Rattle.relay_job.specs.Reasons.{is_limit_key}
+use Rattle.relay_job.specs.JobParts.{first_bad_setting, Stops}
 
 or_false : (b : Bool) → (b || false) ≡ b
 or_false true = refl
@@ -88,6 +91,35 @@ HasSet-known f at {name} {shown} {same} {good} {v} {new} {s} {held} read n e t h
     let fresh : good ≡ (is_good_setting (record { key = name; value = s.value }) && not (is_some (at name))) = cc (is_good s.value) in
     let At : List ℕ → Type 0 = λ k. HasSet at (record { key = k; value = s.value }) good new in
     subst At (sym key) (record { fresh = fresh; set = p })
+
+-- a key that is none of the known ones
+other_turned : (key name : List ℕ) → bytes_eq key name ≡ false → bytes_eq name key ≡ false
+other_turned key name f = is_other key {name = name} refl refl f
+
+pub unknown_key : (s : Setting) → takes_memory s.key ≡ false → is_limit_key s.key ≡ false → bytes_eq (codes "recipient_delimiter") s.key ≡ false → bytes_eq (codes "default_transport") s.key ≡ false → bytes_eq (codes "seed") s.key ≡ false → bytes_eq (codes "expand_owner_alias") s.key ≡ false
+    → (known : Bool) → (is_good_setting s && not known) ≡ false
+unknown_key s text limit delimiter transport seed expand known =
+    let is = bytes_eq s.key in
+    let t0 = or_parts (is (codes "myhostname") || is (codes "myorigin") || is (codes "mydestination")) (is (codes "mailbox_transport")) text in
+    let t1 = or_parts (is (codes "myhostname") || is (codes "myorigin")) (is (codes "mydestination")) t0.0 in
+    let t2 = or_parts (is (codes "myhostname")) (is (codes "myorigin")) t1.0 in
+    let l0 = or_parts (is (codes "default_destination_recipient_limit") || is (codes "smtp_destination_recipient_limit") || is (codes "relay_destination_recipient_limit")) (is (codes "lmtp_destination_recipient_limit")) limit in
+    let l1 = or_parts (is (codes "default_destination_recipient_limit") || is (codes "smtp_destination_recipient_limit")) (is (codes "relay_destination_recipient_limit")) l0.0 in
+    let l2 = or_parts (is (codes "default_destination_recipient_limit")) (is (codes "smtp_destination_recipient_limit")) l1.0 in
+    rw (
+      other_turned s.key (codes "myhostname") t2.0,
+      other_turned s.key (codes "myorigin") t2.1,
+      other_turned s.key (codes "mydestination") t1.1,
+      delimiter,
+      other_turned s.key (codes "default_destination_recipient_limit") l2.0,
+      other_turned s.key (codes "smtp_destination_recipient_limit") l2.1,
+      other_turned s.key (codes "relay_destination_recipient_limit") l1.1,
+      other_turned s.key (codes "lmtp_destination_recipient_limit") l0.1,
+      transport,
+      other_turned s.key (codes "mailbox_transport") t0.1,
+      seed,
+      expand,
+    )
 
 -- What a pass over the lines knows before the lines of `rest`.
 pub record ValuesScanned (lines rest : List Line) (v : SettingValues) : Type 0 where
@@ -163,6 +195,13 @@ module _ (lines : List Line) (x : Line) (xs : List Line) (v : SettingValues) (h 
 
   pub ValuesScanned-refused : (s : Setting) (new : SettingValues) → setting_of x.text ≡ Some s → HasSet h.at s false new → first_bad_setting lines ≡ Some x.number
   ValuesScanned-refused s new f g = first-bad lines h.done x xs h.unbroken e (breaks-fresh s false f g.fresh)
+
+  pub ValuesScanned-bad : (new : SettingValues) (fault : RunFault) → (fault ≡ Memory) ⊎ ((fault ≡ BadSetting x.number) × ((setting_of x.text ≡ None) ⊎ HasSetBy v x.text false new)) → Stops (option_map BadSetting (first_bad_setting lines)) fault
+  ValuesScanned-bad new fault (inl out) = rw out tt
+  ValuesScanned-bad new fault (inr bad) = rw bad.0 (ap (option_map BadSetting) (by bad.1)) where
+    by : (setting_of x.text ≡ None) ⊎ HasSetBy v x.text false new → first_bad_setting lines ≡ Some x.number
+    by (inl nameless) = ValuesScanned-nameless nameless
+    by (inr refused) = ValuesScanned-refused refused.setting new refused.names (refused.set h.at h.read)
 
   pub ValuesScanned-taken : (s : Setting) (new : SettingValues) → setting_of x.text ≡ Some s → HasSet h.at s true new → ValuesScanned lines xs new
   ValuesScanned-taken s new f g =

@@ -1,5 +1,5 @@
 -- The parts of a job, each by its lines.
-use Rattle.std.specs.Prelude.{◌≡◌, ℕ, not, nat_lt, List, [], ◌∷◌, length, map, take, drop, filter, filter_map, flat_map, slice_get, Option, Some, None, is_none, option_map, unwrap_or, if◌then◌else◌, ⊤}
+use Rattle.std.specs.Prelude.{◌≡◌, ℕ, not, nat_lt, List, [], ◌∷◌, ◌++◌, length, map, take, drop, filter, filter_map, flat_map, slice_get, Option, Some, None, is_none, option_map, unwrap_or, if◌then◌else◌, ⊤}
 use Rattle.std.specs.List.{list_all}
 use Rattle.relay_text.specs.Bytes.{is_white, first_of}
 use Rattle.relay_text.specs.Lines.{line_text}
@@ -54,6 +54,12 @@ pub record AreRecipientsOf (origin : List ℕ) (commands : List Line) (recipient
   pub named : recipients ≡ recipients_of origin commands
   pub number : length recipients ≡ length commands
   pub unbroken : bad_recipients origin commands ≡ []
+
+-- A command names a recipient, which is added to those before it.
+pub record HasNamed (origin : List ℕ) (command : Line) (old new : List AddressParts) : Type 0 where
+  pub recipient : AddressParts
+  pub named : recipient_in origin command.text ≡ Some recipient
+  pub added : new ≡ old ++ recipient ∷ []
 
 -- the first command that breaks the envelope, or the heading's number where the commands end too early
 abbrev pub first_bad_command : List ℕ → ℕ → List Line → Option ℕ

@@ -1,5 +1,5 @@
 -- Where the parts of a job stand.
-use Rattle.std.specs.Prelude.{◌≡◌, ℕ, Bool, ◌||◌, List, [], ◌∷◌, ◌++◌, is_some, map, filter_map, flat_map, codes, Option, Some, None, option_map, if◌then◌else◌}
+use Rattle.std.specs.Prelude.{◌≡◌, ℕ, Bool, true, false, ◌||◌, ◌⊎◌, List, [], ◌∷◌, ◌++◌, is_some, map, filter_map, flat_map, codes, Option, Some, None, option_map, if◌then◌else◌}
 use Rattle.std.specs.Str.{bytes_eq}
 use Rattle.relay_text.specs.Bytes.{trimmed_end, has_text}
 use Rattle.relay_job.specs.declared.place.Place.{Place}
@@ -12,7 +12,7 @@ use Rattle.relay_job.specs.declared.include_place.IncludePlace.{IncludePlace}
 use Rattle.relay_job.specs.declared.parts.Parts.{Parts}
 use Rattle.relay_job.specs.declared.job.JobInclude.{JobInclude}
 use Rattle.relay_job.specs.declared.settings.Settings as values
-use Rattle.relay_job.specs.JobText.{JobLine, content_of, named, include, section_words, include_path, is_include_heading, Part, part_at, parts_of, included, bad_job}
+use Rattle.relay_job.specs.JobText.{JobLine, content_of, text_of, section_of, named, include, section_words, include_path, is_include_heading, Part, part_at, parts_of, included, bad_job}
 use Rattle.relay_job.specs.JobText as texts
 use Rattle.relay_text.specs.declared.lines.Line.{Line}
 use Rattle.relay_job.specs.JobParts.{lines_of, first_bad_setting}
@@ -90,6 +90,17 @@ pub record HasInclude (old new : Parts) (file : IncludePlace) : Type 0 where
 abbrev pub HasTaken : Parts → Heading → Place → Parts → Type 0
 HasTaken old (Named section) place new = new ≡ record old { sections = with_place old.sections section place }
 HasTaken old (Include path) place new = HasInclude old new (record { path = path; place = place })
+
+-- The part that a line is the heading of is at this place, and was not there.
+pub record HasHeading (old : Parts) (line : JobLine) (place : Place) (new : Parts) : Type 0 where
+  pub heading : Heading
+  pub names : section_of (text_of line) ≡ Some (heading_section heading)
+  pub fresh : has_part old heading ≡ false
+  pub taken : HasTaken old heading place new
+
+-- A line is the heading of no part, or of one that is there.
+abbrev pub IsBadHeading : Parts → JobLine → Type 0
+IsBadHeading p line = (section_of (text_of line) ≡ None) ⊎ ((heading : Heading) × (section_of (text_of line) ≡ Some (heading_section heading)) × (has_part p heading ≡ true))
 
 -- No line breaks the job, each section of the job is behind its place, and the include files are behind theirs in order.
 pub record ArePartsOf (text : List ℕ) (p : Parts) : Type 0 where

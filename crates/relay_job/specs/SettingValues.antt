@@ -1,5 +1,5 @@
 -- The values of the keys, and the settings that they make.
-use Rattle.std.specs.Prelude.{◌≡◌, ℕ, Bool, true, false, not, ◌&&◌, List, [], ◌∷◌, codes, Option, Some, None, is_some, option_and_then, unwrap_or, if◌then◌else◌}
+use Rattle.std.specs.Prelude.{◌≡◌, ℕ, Bool, true, false, not, ◌&&◌, ◌||◌, List, [], ◌∷◌, codes, Option, Some, None, is_some, option_and_then, unwrap_or, if◌then◌else◌}
 use Rattle.std.specs.Str.{bytes_eq}
 use Rattle.relay_text.specs.declared.lines.Line.{Line}
 use Rattle.relay_routes.specs.declared.transport.Transport.TheVariants.{Smtp, Lmtp}
@@ -9,7 +9,7 @@ use Rattle.relay_routes.specs.Transports.{transport_named}
 use Rattle.relay_job.specs.declared.setting.Setting as lines
 use Rattle.relay_job.specs.declared.setting_values.SettingValues.{SettingValues}
 use Rattle.relay_job.specs.declared.settings.Settings.{Settings}
-use Rattle.relay_job.specs.Settings.{Setting, is_good_setting, value_at, host_value, domains_value, delimiter_value, limit_value, seed_value, choice_value}
+use Rattle.relay_job.specs.Settings.{Setting, setting_of, is_good_setting, value_at, host_value, domains_value, delimiter_value, limit_value, seed_value, choice_value}
 use Rattle.relay_job.specs.JobParts.{first_bad_setting}
 
 abbrev pub setting_in : lines.Setting → Setting
@@ -68,6 +68,20 @@ pub record AreRead (at : List ℕ → Option (List ℕ)) (v : SettingValues) : T
 pub record HasSet (at : List ℕ → Option (List ℕ)) (s : Setting) (good : Bool) (v : SettingValues) : Type 0 where
   pub fresh : good ≡ (is_good_setting s && not (is_some (at s.key)))
   pub set : good ≡ true → v ≡ values_by (with_setting at s)
+
+-- A line sets a key so.
+pub record HasSetBy (old : SettingValues) (text : List ℕ) (good : Bool) (new : SettingValues) : Type 0 where
+  pub setting : Setting
+  pub names : setting_of text ≡ Some setting
+  pub set : (at : List ℕ → Option (List ℕ)) → AreRead at old → HasSet at setting good new
+
+-- the keys whose values take memory
+abbrev pub takes_memory : List ℕ → Bool
+takes_memory key =
+    bytes_eq key (codes "myhostname")
+    || bytes_eq key (codes "myorigin")
+    || bytes_eq key (codes "mydestination")
+    || bytes_eq key (codes "mailbox_transport")
 
 -- No line breaks the settings, and each key has its value.
 pub record AreValuesOf (lines : List Line) (v : SettingValues) : Type 0 where

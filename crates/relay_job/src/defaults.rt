@@ -6,8 +6,24 @@ use relay_routes::{Transport, Via};
 use relay_text::{Seq, Text};
 use std::alloc::{AllocError, Global};
 
+/// The host's name, the origin and the domains, where they are set: else `localhost`, the host's name, and the host's name and
+/// `localhost`.
+pub fn names_or_own(
+    alloc: Global,
+    hostname: Option<Text>,
+    origin: Option<Text>,
+    domains: Option<Seq<Text>>,
+) -> Result<(Text, Text, Seq<Text>), AllocError>
+    ensures { IfOk result (λ names. (names.0 ≡ unwrap_or hostname (codes "localhost")) × (names.1 ≡ unwrap_or origin names.0) × (names.2 ≡ unwrap_or domains (names.0 ∷ codes "localhost" ∷ []))) }
+{
+    let hostname = text_or(alloc, hostname, b"localhost")?;
+    let origin = text_or(alloc, origin, hostname.as_bytes())?;
+    let domains = domains_or_own(alloc, domains, hostname.as_bytes())?;
+    Ok((hostname, origin, domains))
+}
+
 /// A text, or else a copy of the default.
-pub fn text_or(alloc: Global, text: Option<Text>, default: &[u8]) -> Result<Text, AllocError>
+fn text_or(alloc: Global, text: Option<Text>, default: &[u8]) -> Result<Text, AllocError>
     ensures { IfOk result (λ t. t ≡ unwrap_or text default.now) }
 {
     match text {
@@ -17,7 +33,7 @@ pub fn text_or(alloc: Global, text: Option<Text>, default: &[u8]) -> Result<Text
 }
 
 /// Domains, or else a host's name and `localhost`.
-pub fn domains_or_own(
+fn domains_or_own(
     alloc: Global,
     domains: Option<Seq<Text>>,
     hostname: &[u8],

@@ -1,11 +1,11 @@
 //! What a job's text says, and what an envelope's says by itself.
-ghost use Rattle.std.specs.Prelude.{◌≡◌, option_map, IsTrue, IfOk, IfErr};
+ghost use Rattle.std.specs.Prelude.{◌≡◌, ℕ, List, option_map, IsTrue, IfOk, IfErr};
 ghost use Rattle.std.specs.Thread.{IsSync};
 ghost use Rattle.relay_text.specs.Addresses.{is_origin};
 ghost use Rattle.relay_job.specs.JobParts.{first_bad_setting, bad_envelope_at, IsEnvelopeAt, Stops};
 ghost use Rattle.relay_job.specs.JobText.{job_of};
 ghost use Rattle.relay_job.specs.Jobs.{AreFilesOf};
-ghost use Rattle.relay_job.specs.SectionPlaces.{setting_lines_of, HasSettings};
+ghost use Rattle.relay_job.specs.SectionPlaces.{setting_lines_of, ArePartsOf, HasSettings};
 ghost use Rattle.relay_job.specs.Tables.{tables_of};
 ghost use Rattle.relay_job.specs.Envelopes.{envelope_of};
 ghost use Rattle.relay_job.specs.JobAnswers.{Answers};
@@ -34,10 +34,17 @@ pub fn parse_job(alloc: Global, bytes: &[u8]) -> Result<Job, RunFault>
     ensures { Answers result (job_of bytes.now) }
 {
     let parts = Parts::find(alloc, bytes)?;
-    let settings = read_settings(alloc, &parts)?;
+    job_of_parts(alloc, &parts)
+}
+
+/// The job of a text's parts. BadSetting and BadEnvelope as from `parse_job`.
+fn job_of_parts(alloc: Global, parts: &Parts<'_>) -> Result<Job, RunFault>
+    ensures { (text : List ℕ) → ArePartsOf text parts.now → Answers result (job_of text) }
+{
+    let settings = read_settings(alloc, parts)?;
     let section = parts.sections.section(Section::Envelope);
     let envelope = Envelope::read(alloc, section, settings.origin.as_bytes())?;
-    let files = JobFiles::read(alloc, &parts)?;
+    let files = JobFiles::read(alloc, parts)?;
     Ok(Job::of(settings, files, envelope))
 }
 
@@ -52,11 +59,22 @@ pub fn parse_job_by<R: Threads + Sync>(
     ensures { Answers result (job_of bytes.now) }
 {
     let parts = Parts::find(alloc, bytes)?;
-    let settings = read_settings(alloc, &parts)?;
+    job_of_parts_by(rt, alloc, workers_for(workers, bytes.len()), &parts)
+}
+
+/// The job of a text's parts, by so many threads, this one among them.
+fn job_of_parts_by<R: Threads + Sync>(
+    rt: &R,
+    alloc: Global,
+    workers: usize,
+    parts: &Parts<'_>,
+) -> Result<Job, RunFault>
+    ensures { (text : List ℕ) → ArePartsOf text parts.now → Answers result (job_of text) }
+{
+    let settings = read_settings(alloc, parts)?;
     let section = parts.sections.section(Section::Envelope);
-    let readers = workers_for(workers, bytes.len());
     let origin = settings.origin.as_bytes();
-    let (envelope, files) = read_both(rt, alloc, readers, &parts, section, origin)?;
+    let (envelope, files) = read_both(rt, alloc, workers, parts, section, origin)?;
     Ok(Job::of(settings, files, envelope))
 }
 
@@ -92,7 +110,7 @@ fn read_both<R: Threads + Sync>(
 }
 
 /// The settings of a job's parts. BadSetting as from `parse_job`.
-fn read_settings(alloc: Global, parts: &Parts<'_>) -> Result<Settings, RunFault>
+pub(crate) fn read_settings(alloc: Global, parts: &Parts<'_>) -> Result<Settings, RunFault>
     ensures ok { IfOk result (HasSettings parts.now) }
     ensures err { IfErr result (Stops (option_map RunFault.BadSetting (first_bad_setting (setting_lines_of parts.now)))) }
 {
@@ -109,8 +127,15 @@ pub fn parse_tables(alloc: Global, bytes: &[u8]) -> Result<Job, RunFault>
     ensures { Answers result (tables_of bytes.now) }
 {
     let parts = Parts::find(alloc, bytes)?;
-    let settings = read_settings(alloc, &parts)?;
-    let tables = JobFiles::read(alloc, &parts)?;
+    tables_of_parts(alloc, &parts)
+}
+
+/// The settings, files and tables of a text's parts. BadSetting as from `parse_job`.
+fn tables_of_parts(alloc: Global, parts: &Parts<'_>) -> Result<Job, RunFault>
+    ensures { (text : List ℕ) → ArePartsOf text parts.now → Answers result (tables_of text) }
+{
+    let settings = read_settings(alloc, parts)?;
+    let tables = JobFiles::read(alloc, parts)?;
     let nobody = Envelope {
         sender: None,
         recipients: Seq::of(Vec::new(alloc)),

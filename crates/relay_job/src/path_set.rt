@@ -41,7 +41,9 @@ impl<'a> PathSet<'a> {
         ensures fresh { IfOk result (λ is_new. is_new ≡ not (has_text self.old path.now)) }
         ensures err { OnErr result (self.new ≡ self.old) }
     {
-        let is_new = self.paths.insert(HashedPath::new(path))?;
+        let Ok(is_new) = self.paths.insert(HashedPath::new(path)) else {
+            return Err(AllocError);
+        };
         Ok(is_new)
     }
 }

@@ -1,13 +1,16 @@
 //! Why a line of a job is at fault.
-ghost use Rattle.std.specs.Prelude.{◌≡◌, true, ℕ, List, Some, IfOk, IfErr};
+ghost use Rattle.std.specs.Prelude.{◌≡◌, true, ℕ, List, Some, option_map, IfOk, IfErr};
 ghost use Rattle.relay_text.specs.declared.lines.Line.{Line};
 ghost use Rattle.relay_job.specs.JobText.{JobLine, text_of, breaks_job, job_fault, job_settings, envelope_part, envelope_lines, heading_number, bad_envelope};
-ghost use Rattle.relay_job.specs.Settings.{breaks_settings};
+ghost use Rattle.relay_job.specs.JobParts.{commands_of, lines_of, first_bad_command, first_bad_setting, Stops};
+ghost use Rattle.relay_job.specs.SectionPlaces.{content_behind, line_behind, place_of, setting_lines_of};
+ghost use Rattle.relay_job.specs.Settings.{breaks_settings, settings_of};
 ghost use Rattle.relay_job.specs.Reasons.{is_limit_key, value_reason, BreaksJob, BreaksSettings, BreaksEnvelope};
 
 use crate::envelope::Envelope;
 use crate::fault::RunFault;
 use crate::heading::Heading;
+use crate::parsing::read_settings;
 use crate::parts::Parts;
 use crate::reason::Reason;
 use crate::section::Section;
@@ -86,13 +89,15 @@ pub fn envelope_reason(alloc: Global, bytes: &[u8]) -> Result<Reason, RunFault>
     ensures told { IfErr result (λ fault. (number : ℕ) → job_fault bytes.now ≡ Some (RunFault.BadEnvelope number) → fault ≡ RunFault.Memory) }
 {
     let parts = Parts::find(alloc, bytes)?;
-    let sections = parts.sections;
-    let values = SettingValues::read(alloc, sections.section(Section::Settings))?;
-    let settings = values.settings(alloc)?;
-    let reason = Envelope::reason(
-        alloc,
-        sections.section(Section::Envelope),
-        settings.origin.as_bytes(),
-    )?;
-    Ok(reason)
+    reason_in_parts(alloc, &parts)
+}
+
+/// The same of a job's parts. BadSetting as from `parse_job`.
+fn reason_in_parts(alloc: Global, parts: &Parts<'_>) -> Result<Reason, RunFault>
+    ensures reason { let origin = (settings_of (setting_lines_of parts.now)).origin in let place = place_of parts.now.sections Section.Envelope in IfOk result (λ reason. (number : ℕ) → first_bad_command origin (line_behind place) (commands_of (lines_of (content_behind place))) ≡ Some number → BreaksEnvelope origin number (line_behind place) (commands_of (lines_of (content_behind place))) reason) }
+    ensures err { IfErr result (Stops (option_map RunFault.BadSetting (first_bad_setting (setting_lines_of parts.now)))) }
+{
+    let settings = read_settings(alloc, parts)?;
+    let section = parts.sections.section(Section::Envelope);
+    Ok(Envelope::reason(alloc, section, settings.origin.as_bytes())?)
 }

@@ -1,8 +1,9 @@
 //! The recipients that an envelope's commands name, read by one thread or by several.
-ghost use Rattle.std.specs.Prelude.{◌<◌, ◌≤◌, IsTrue, IfOk, IfErr};
+ghost use Rattle.std.specs.Prelude.{◌<◌, ◌≤◌, ◌∷◌, ◌++◌, [], ℕ, List, IsTrue, IfOk, IfErr, OnOk};
 ghost use Rattle.std.specs.Thread.{IsSync};
 ghost use Rattle.relay_text.specs.Addresses.{is_origin};
-ghost use Rattle.relay_job.specs.JobParts.{commands_at, first_bad_recipient, AreRecipientsOf, Stops};
+ghost use Rattle.relay_text.specs.declared.lines.Line.{Line};
+ghost use Rattle.relay_job.specs.JobParts.{commands_at, line_in, first_bad_recipient, AreRecipientsOf, HasNamed, Stops};
 ghost use Rattle.relay_job.specs.Places.{IsWithinSection};
 
 use crate::command::Command;
@@ -31,13 +32,27 @@ pub(crate) fn read_recipients(
     let mut recipients = Vec::with_capacity(alloc, section.rest.len() / BYTES_FOR_RECIPIENT)?;
     let mut place = section;
     while let Some((command, after)) = Command::split_from(&place) {
+        add_recipient(alloc, &command, origin, &mut recipients)?;
         place = after;
-        match command.recipient(alloc, origin)? {
-            Some(address) => recipients.push(address)?,
-            None => return Err(RunFault::BadEnvelope(command.number)),
-        }
     }
     Ok(recipients)
+}
+
+/// Adds the recipient that a command names. BadEnvelope has the command's number, where it names none.
+fn add_recipient(
+    alloc: Global,
+    command: &Command<'_>,
+    origin: &[u8],
+    recipients: &mut Vec<Address>,
+) -> Result<(), RunFault>
+    requires { IsTrue (is_origin origin.now) }
+    ensures ok { OnOk result (HasNamed origin.now (line_in command.now) recipients.old.items recipients.new.items) }
+    ensures err { IfErr result (Stops (first_bad_recipient origin.now (line_in command.now ∷ []))) }
+{
+    match command.recipient(alloc, origin)? {
+        Some(address) => Ok(recipients.push(address)?),
+        None => Err(RunFault::BadEnvelope(command.number)),
+    }
 }
 
 /// How many of so many workers read so many bytes, so that each has enough to read.
@@ -88,6 +103,19 @@ fn read_halves<R: Threads + Sync>(
         ensures { IfOk result (λ recipients. AreRecipientsOf origin.entry.now (commands_at front.entry) recipients.items) × IfErr result (Stops (first_bad_recipient origin.entry.now (commands_at front.entry))) }
     { read_halves(rt, alloc, own, front, origin) };
     let (there, here) = join(rt, read_back, read_front);
+    both(here, there)
+}
+
+/// The recipients of a front part and of what stands behind it. The first part's fault comes first.
+fn both(
+    here: Result<Vec<Address>, RunFault>,
+    there: Result<Vec<Address>, RunFault>,
+) -> Result<Vec<Address>, RunFault>
+    ensures { (origin : List ℕ) (front back : List Line)
+        → IfOk here (λ recipients. AreRecipientsOf origin front recipients.items) → IfErr here (Stops (first_bad_recipient origin front))
+        → IfOk there (λ recipients. AreRecipientsOf origin back recipients.items) → IfErr there (Stops (first_bad_recipient origin back))
+        → IfOk result (λ recipients. AreRecipientsOf origin (front ++ back) recipients.items) × IfErr result (Stops (first_bad_recipient origin (front ++ back))) }
+{
     let mut recipients = here?;
     let mut more = there?;
     recipients.append(&mut more)?;

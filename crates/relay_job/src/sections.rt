@@ -14,7 +14,7 @@ pub struct Sections<'a> {
 }
 
 impl<'a> Sections<'a> {
-    ghost use Rattle.std.specs.Prelude.{◌≡◌, None, is_some};
+    ghost use Rattle.std.specs.Prelude.{◌≡◌, true, not, None, is_some};
     ghost use Rattle.relay_job.specs.SectionPlaces.{place_of, with_place, content_behind, line_behind};
     ghost use Rattle.relay_job.specs.Places.{content_at};
 
@@ -46,7 +46,7 @@ impl<'a> Sections<'a> {
     }
 
     /// Whether the job has the section.
-    pub fn has(&self, section: Section) -> bool
+    fn has(&self, section: Section) -> bool
         ensures { result ≡ is_some (place_of self.now section) }
     {
         self.place(section).is_some()
@@ -63,8 +63,20 @@ impl<'a> Sections<'a> {
         }
     }
 
+    /// Takes a section behind its heading, where the job hasn't it yet, and answers whether it is new.
+    pub fn take(&mut self, section: Section, place: Place<'a>) -> bool
+        ensures fresh { result ≡ not (is_some (place_of self.old section)) }
+        ensures taken { result ≡ true → self.new ≡ with_place self.old section place.entry }
+    {
+        if self.has(section) {
+            return false;
+        }
+        self.add(section, place);
+        true
+    }
+
     /// Puts a section behind its heading.
-    pub fn add(&mut self, section: Section, place: Place<'a>)
+    fn add(&mut self, section: Section, place: Place<'a>)
         ensures { self.new ≡ with_place self.old section place.entry }
     {
         match section {

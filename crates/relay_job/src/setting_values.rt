@@ -1,5 +1,5 @@
 //! The values of the settings.
-use crate::defaults::{domains_or_own, text_or, via_or_mailbox};
+use crate::defaults::{names_or_own, via_or_mailbox};
 use crate::domains::read_domains;
 use crate::fault::RunFault;
 use crate::place::Place;
@@ -28,10 +28,11 @@ pub struct SettingValues {
     expand: Option<bool>,
 }
 
-ghost use Rattle.std.specs.Prelude.{◌≡◌, true, not, ◌&&◌, ℕ, List, Option, is_some, option_map, IfOk, IfErr};
+ghost use Rattle.std.specs.Prelude.{◌≡◌, ◌⊎◌, true, false, not, ◌&&◌, ℕ, List, Option, None, is_some, option_map, IfOk, IfErr, OnOk};
 ghost use Rattle.relay_job.specs.Places.{content_at};
-ghost use Rattle.relay_job.specs.Settings.{is_good_setting};
-ghost use Rattle.relay_job.specs.SettingValues.{setting_in, settings_with, AreRead, HasSet, AreValuesOf};
+ghost use Rattle.relay_job.specs.Reasons.{is_limit_key};
+ghost use Rattle.relay_job.specs.Settings.{is_good_setting, setting_of};
+ghost use Rattle.relay_job.specs.SettingValues.{setting_in, settings_with, takes_memory, values_by, AreRead, HasSet, HasSetBy, AreValuesOf};
 ghost use Rattle.relay_job.specs.JobParts.{lines_of, first_bad_setting, Stops};
 
 /// Puts a value where none is, and answers whether it did: not where there is no value to put.
@@ -59,26 +60,49 @@ impl SettingValues {
             Ok(put(&mut self.origin, read_host(alloc, value)?))
         } else if key == b"mydestination".as_slice() {
             Ok(put(&mut self.destinations, read_domains(alloc, value)?))
-        } else if key == b"recipient_delimiter".as_slice() {
-            Ok(put(&mut self.delimiter, read_delimiter(value)))
-        } else if key == b"default_destination_recipient_limit".as_slice() {
-            Ok(put(&mut self.limit, read_limit(value)))
-        } else if key == b"smtp_destination_recipient_limit".as_slice() {
-            Ok(put(&mut self.smtp_limit, read_limit(value)))
-        } else if key == b"relay_destination_recipient_limit".as_slice() {
-            Ok(put(&mut self.relay_limit, read_limit(value)))
-        } else if key == b"lmtp_destination_recipient_limit".as_slice() {
-            Ok(put(&mut self.lmtp_limit, read_limit(value)))
-        } else if key == b"default_transport".as_slice() {
-            Ok(put(&mut self.default_transport, Transport::named(value)))
         } else if key == b"mailbox_transport".as_slice() {
             Ok(put(&mut self.mailbox_transport, Via::parse(alloc, value)?))
-        } else if key == b"seed".as_slice() {
-            Ok(put(&mut self.seed, read_seed(value)))
-        } else if key == b"expand_owner_alias".as_slice() {
-            Ok(put(&mut self.expand, read_choice(value)))
         } else {
-            Ok(false)
+            Ok(self.set_limit(setting))
+        }
+    }
+
+    /// The same of a key whose value takes no memory.
+    fn set_limit(&mut self, setting: Setting<'_>) -> bool
+        requires { takes_memory setting.key.now ≡ false }
+        ensures { (at : List ℕ → Option (List ℕ)) → AreRead at self.old → HasSet at (setting_in setting.entry) result self.new }
+    {
+        let Setting { key, value } = setting;
+        if key == b"default_destination_recipient_limit".as_slice() {
+            put(&mut self.limit, read_limit(value))
+        } else if key == b"smtp_destination_recipient_limit".as_slice() {
+            put(&mut self.smtp_limit, read_limit(value))
+        } else if key == b"relay_destination_recipient_limit".as_slice() {
+            put(&mut self.relay_limit, read_limit(value))
+        } else if key == b"lmtp_destination_recipient_limit".as_slice() {
+            put(&mut self.lmtp_limit, read_limit(value))
+        } else {
+            self.set_choice(setting)
+        }
+    }
+
+    /// The same of a key that is not a limit either.
+    fn set_choice(&mut self, setting: Setting<'_>) -> bool
+        requires no_text { takes_memory setting.key.now ≡ false }
+        requires no_limit { is_limit_key setting.key.now ≡ false }
+        ensures { (at : List ℕ → Option (List ℕ)) → AreRead at self.old → HasSet at (setting_in setting.entry) result self.new }
+    {
+        let Setting { key, value } = setting;
+        if key == b"recipient_delimiter".as_slice() {
+            put(&mut self.delimiter, read_delimiter(value))
+        } else if key == b"default_transport".as_slice() {
+            put(&mut self.default_transport, Transport::named(value))
+        } else if key == b"seed".as_slice() {
+            put(&mut self.seed, read_seed(value))
+        } else if key == b"expand_owner_alias".as_slice() {
+            put(&mut self.expand, read_choice(value))
+        } else {
+            false
         }
     }
 
@@ -98,6 +122,16 @@ impl SettingValues {
         ensures err { IfErr result (λ fault. Stops (option_map RunFault.BadSetting (first_bad_setting (lines_of (content_at section.entry)))) fault) }
     {
         let mut values = SettingValues::default();
+        values.take_all(alloc, section)?;
+        Ok(values)
+    }
+
+    /// Sets what the lines behind a place say, where none was set before. BadSetting as from `read`.
+    fn take_all(&mut self, alloc: Global, section: Place<'_>) -> Result<(), RunFault>
+        requires { self.old ≡ values_by (λ name. None) }
+        ensures ok { OnOk result (AreValuesOf (lines_of (content_at section.entry)) self.new) }
+        ensures err { IfErr result (λ fault. Stops (option_map RunFault.BadSetting (first_bad_setting (lines_of (content_at section.entry)))) fault) }
+    {
         let mut place = section;
         while let Some((line, after)) = place.split_content() {
             place = after;
@@ -105,23 +139,35 @@ impl SettingValues {
             if is_ignored(text) {
                 continue;
             }
-            let Some(setting) = Setting::of(text) else {
-                return Err(RunFault::BadSetting(line.number));
-            };
-            if !values.set(alloc, setting)? {
-                return Err(RunFault::BadSetting(line.number));
-            }
+            self.take(alloc, line.number, text)?;
         }
-        Ok(values)
+        Ok(())
+    }
+
+    /// Sets what the line of a number says, which isn't ignored. BadSetting has the number.
+    fn take(&mut self, alloc: Global, number: usize, text: &[u8]) -> Result<(), RunFault>
+        ensures ok { OnOk result (HasSetBy self.old text.now true self.new) }
+        ensures err { IfErr result (λ fault. (fault ≡ RunFault.Memory) ⊎ ((fault ≡ RunFault.BadSetting number) × ((setting_of text.now ≡ None) ⊎ HasSetBy self.old text.now false self.new))) }
+    {
+        let Some(setting) = Setting::of(text) else {
+            return Err(RunFault::BadSetting(number));
+        };
+        if !self.set(alloc, setting)? {
+            return Err(RunFault::BadSetting(number));
+        }
+        Ok(())
     }
 
     /// The settings, each at its value or its default.
     pub fn settings(self, alloc: Global) -> Result<Settings, AllocError>
         ensures { IfOk result (λ settings. settings ≡ settings_with self) }
     {
-        let hostname = text_or(alloc, self.hostname, b"localhost")?;
-        let origin = text_or(alloc, self.origin, hostname.as_bytes())?;
-        let destinations = domains_or_own(alloc, self.destinations, hostname.as_bytes())?;
+        let (hostname, origin, destinations) = names_or_own(
+            alloc,
+            self.hostname,
+            self.origin,
+            self.destinations,
+        )?;
         let mailbox_transport = via_or_mailbox(alloc, self.mailbox_transport)?;
         let limit = self.limit.unwrap_or(50);
         Ok(Settings {

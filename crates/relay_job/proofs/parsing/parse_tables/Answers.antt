@@ -1,8 +1,7 @@
-use Rattle.std.proofs.Common.{refl, ◌∙◌}
 use Rattle.std.proofs.lemmas.Result.{err_from_is_err_and}
 use Rattle.relay_job.specs.Tables.{tables_of}
 use Rattle.relay_job.proofs.ParseFacts.{Fails-from_stop}
-use Rattle.relay_job.proofs.TablesFacts.{tables-broken, parts-tables_settings, parts-tables}
+use Rattle.relay_job.proofs.TablesFacts.{tables-broken}
 use Rattle.relay_job.proofs.parsing.parse_tables.Goals as goal
 
 pub returns-in_err-parts : goal.returns-in_err-parts
@@ -10,11 +9,5 @@ returns-in_err-parts c =
     let p = err_from_is_err_and c.from_residual.result c.from_residual.ensures.1 in
     rw (p.1, p.2) (Fails-from_stop _ c.in_err-parts.field-0.0 (tables_of c.args.bytes.now) (λ f g. tables-broken c.args.bytes.now f g) c.in_err-parts.ensures.err)
 
-pub returns-in_err-settings : goal.returns-in_err-settings
-returns-in_err-settings c =
-    let p = err_from_is_err_and c.from_residual-in_err-settings.result c.from_residual-in_err-settings.ensures.1 in
-    rw (p.1, p.2) (parts-tables_settings c.args.bytes.now c.in_ok-parts.parts c.in_ok-parts.ensures.ok _ c.in_err-settings.ensures.err)
-
 pub returns : goal.returns
-returns c =
-    parts-tables c.args.bytes.now c.in_ok-parts.parts c.in_ok-parts.ensures.ok c.in_ok-settings.settings c.in_ok-tables.tables _ c.of-2.result c.in_ok-settings.ensures.ok c.in_ok-tables.ensures c.of-2.ensures refl (c.of.ensures ∙ c.new.ensures.items)
+returns c = c.tables_of_parts.ensures c.args.bytes.now c.in_ok-parts.ensures.ok
