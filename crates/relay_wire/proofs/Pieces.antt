@@ -27,6 +27,13 @@ pieces_more f xs i d h = rw (take_more xs i d h) (one_more f (take i xs) (get_or
 pub lines_more : {X : Type 0} (f : X → List ℕ) (xs : List X) (i : ℕ) (d : X) → i < length xs → lines_of (map f (take (i + 1) xs)) ≡ lines_of (map f (take i xs)) ++ line (f (get_or xs i d))
 lines_more f xs i d h = rw (take_more xs i d h, map-append f (take i xs) (get_or xs i d ∷ [])) (one_more line (map f (take i xs)) (f (get_or xs i d)))
 
+pub lines_step : (out written new : List ℕ) (lines : List (List ℕ)) (i : ℕ) (d : List ℕ) → i < length lines → d ≡ get_or lines i d → written ≡ out ++ lines_of (take i lines) → new ≡ written ++ line d → new ≡ out ++ lines_of (take (i + 1) lines)
+lines_step out written new lines i d h at before after =
+    after
+    ∙ ap (λ (l : List ℕ). l ++ line d) before
+    ∙ append_assoc out (lines_of (take i lines)) (line d)
+    ∙ ap (λ (l : List ℕ). out ++ l) (ap (λ (l : List ℕ). lines_of (take i lines) ++ line l) at ∙ sym (pieces_more line lines i d h))
+
 pub numbered_more : (text : ℕ → Planned → List ℕ) (xs : List Planned) (i : ℕ) (d : Planned) → i < length xs → numbered_texts text (take (i + 1) (enumerate_from 1 xs)) ≡ numbered_texts text (take i (enumerate_from 1 xs)) ++ text (i + 1) (get_or xs i d)
 numbered_more text xs i d h =
     let within : i < length (enumerate_from 1 xs) = rw (length-enumerate_from 1 xs) h in
@@ -72,6 +79,12 @@ check_counts_are out x y =
     ∙ pair_more (out ++ codes "check") x (codes "findings") second
     ∙ append_assoc out (codes "check") first
     ∙ ap (λ l. out ++ l) (check_joined x y)
+
+pub four_pieces : (out a b c d : List ℕ) → (((out ++ a) ++ b) ++ c) ++ d ≡ out ++ (((a ++ b) ++ c) ++ d)
+four_pieces out a b c d = simp append_assoc
+
+pub two_behind : (out a b c d : List ℕ) → ((out ++ a) ++ b) ++ (c ++ d) ≡ out ++ (((a ++ b) ++ c) ++ d)
+two_behind out a b c d = simp append_assoc
 
 ends_here : (out a b rest : List ℕ) → (out ++ (a ++ (b ++ []))) ++ rest ≡ out ++ (a ++ (b ++ rest))
 ends_here out a b rest = simp (append-nil, append_assoc)

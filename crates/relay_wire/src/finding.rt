@@ -1,8 +1,9 @@
 //! What a plan reports.
-ghost use Rattle.std.specs.Prelude.{◌≡◌, [], ◌∷◌, ◌++◌, Some, decimal, length, take, IfOk, OnOk, OnErr};
+ghost use Rattle.std.specs.Prelude.{◌≡◌, [], ◌∷◌, ◌++◌, Some, codes, decimal, length, take, IfOk, OnOk, OnErr};
 ghost use Rattle.relay_text.specs.Addresses.{local_text_of, path_text_of};
-ghost use Rattle.relay_wire.specs.Findings.{after_spaces, spaced, place_words, reason_words, line_word, finding_text_of};
+ghost use Rattle.relay_wire.specs.Findings.{after_spaces, spaced, place_words, reason_words, line_word, line_words, finding_text_of};
 
+use crate::words::text_put;
 use itoa::Buffer;
 use relay_text::{Address, Text, write_local, write_path};
 use std::alloc::{AllocError, Global};
@@ -203,7 +204,21 @@ fn put_unrouted(
     put_text(word, text, out)
 }
 
-// Writes the line of a finding. The words with which each kind begins stand here alone, each kind's in one piece. Where memory runs out,
+// Writes the words of a finding on an include file, its path behind them, the number of a line, and what is wrong with the line.
+fn put_include_fault(
+    path: &[u8],
+    number: usize,
+    word: LineWord,
+    out: &mut Vec<u8>,
+) -> Result<(), AllocError>
+    ensures ok { OnOk result (out.new.items ≡ out.old.items ++ spaced (codes "finding" ∷ codes "include" ∷ path.now ∷ line_words number word)) }
+    ensures kept { take (length out.old.items) out.new.items ≡ out.old.items }
+{
+    put_text(b"finding include ", path, out)?;
+    put_fault(b" line ", number, word, out)
+}
+
+// Writes the line of a finding. The words with which each other kind begins stand here alone, each kind's in one piece. Where memory runs out,
 // some front of the line stands behind what was there.
 fn put_finding(finding: &Finding, out: &mut Vec<u8>) -> Result<(), AllocError>
     ensures ok { OnOk result (out.new.items ≡ out.old.items ++ finding_text_of finding.now) }
@@ -227,8 +242,7 @@ fn put_finding(finding: &Finding, out: &mut Vec<u8>) -> Result<(), AllocError>
         }
         Finding::Aliases(number, word) => put_fault(b"finding aliases line ", *number, *word, out),
         Finding::Include(path, number, word) => {
-            put_text(b"finding include ", path.as_bytes(), out)?;
-            put_fault(b" line ", *number, *word, out)
+            put_include_fault(path.as_bytes(), *number, *word, out)
         }
         Finding::Mailboxes(number, word) => {
             put_fault(b"finding mailboxes line ", *number, *word, out)
@@ -262,6 +276,6 @@ pub fn finding_line(alloc: Global, finding: &Finding) -> Result<Text, AllocError
     ensures { IfOk result (λ line. line ≡ finding_text_of finding.now) }
 {
     let mut line = Vec::with_capacity(alloc, USUAL_LEN)?;
-    put_finding_line(finding, &mut line)?;
-    Ok(Text::of(line))
+    let put = put_finding_line(finding, &mut line);
+    text_put(put, line)
 }

@@ -1,10 +1,10 @@
 //! Plans.
 ghost use Rattle.std.specs.Prelude.{◌≡◌, ◌≤◌, ◌^◌, ◌∷◌, ◌++◌, [], codes, map, option_map, IfOk, IfSome, IfNone, OnOk};
 ghost use Rattle.std.specs.List.{enumerate_from};
-ghost use Rattle.relay_wire.specs.PlanText.{line, lines_of, recipient_count, counts_line, via_line, host_line, host_lines, from_line, to_line, transaction_line, transaction_text, numbered_texts, plan_text_of};
+ghost use Rattle.relay_wire.specs.PlanText.{line, lines_of, recipient_count, counts_line, first_line, via_line, host_line, host_lines, from_line, to_line, transaction_line, transaction_text, numbered_texts, plan_text_of};
 
 use crate::lengths::plan_len;
-use crate::words::{put_count, put_each_line, put_number, put_path, put_word};
+use crate::words::{end_line, put_count, put_each_line, put_number, put_path, put_word, text_put};
 use relay_routes::{Hosts, Transport};
 use relay_text::{Address, Seq, Text, write_path};
 use std::alloc::{AllocError, Global};
@@ -46,7 +46,7 @@ pub(crate) fn recipient_count(plan: &Plan) -> Option<usize>
 }
 
 // Writes the line that counts.
-pub(crate) fn put_counts(
+fn put_counts(
     transactions: usize,
     recipients: usize,
     findings: usize,
@@ -58,8 +58,7 @@ pub(crate) fn put_counts(
     put_count(transactions, b"transactions", out)?;
     put_count(recipients, b"recipients", out)?;
     put_count(findings, b"findings", out)?;
-    out.push(b'\n')?;
-    Ok(())
+    end_line(out)
 }
 
 // Writes the line of a transaction's number.
@@ -68,8 +67,7 @@ pub(crate) fn put_transaction_line(number: usize, out: &mut Vec<u8>) -> Result<(
 {
     out.extend_from_slice(b"transaction")?;
     put_number(number, out)?;
-    out.push(b'\n')?;
-    Ok(())
+    end_line(out)
 }
 
 // Writes the line of a transaction's number, and the line of its sender.
@@ -79,8 +77,7 @@ fn put_sender(number: usize, from: Option<&Address>, out: &mut Vec<u8>) -> Resul
     put_transaction_line(number, out)?;
     out.extend_from_slice(b"from")?;
     put_path(from, out)?;
-    out.push(b'\n')?;
-    Ok(())
+    end_line(out)
 }
 
 // Writes the line of a transaction's transport and nexthop.
@@ -90,8 +87,7 @@ fn put_via(planned: &Planned, out: &mut Vec<u8>) -> Result<(), AllocError>
     out.extend_from_slice(b"via")?;
     put_word(planned.transport.name(), out)?;
     put_word(planned.nexthop.as_bytes(), out)?;
-    out.push(b'\n')?;
-    Ok(())
+    end_line(out)
 }
 
 // Writes the line of each host.
@@ -99,11 +95,18 @@ fn put_hosts(hosts: &[Text], out: &mut Vec<u8>) -> Result<(), AllocError>
     ensures { OnOk result (out.new.items ≡ out.old.items ++ lines_of (map host_line hosts.now)) }
 {
     for host in hosts {
-        out.extend_from_slice(b"host")?;
-        put_word(host.as_bytes(), out)?;
-        out.push(b'\n')?;
+        put_host(host, out)?;
     }
     Ok(())
+}
+
+// Writes the line of a host.
+fn put_host(host: &Text, out: &mut Vec<u8>) -> Result<(), AllocError>
+    ensures { OnOk result (out.new.items ≡ out.old.items ++ line (host_line host.now)) }
+{
+    out.extend_from_slice(b"host")?;
+    put_word(host.as_bytes(), out)?;
+    end_line(out)
 }
 
 // Writes the word of a recipient's line and the space behind it. A plan has more of these than of all other lines.
@@ -122,11 +125,19 @@ fn put_recipients(to: &[Address], out: &mut Vec<u8>) -> Result<(), AllocError>
     ensures { OnOk result (out.new.items ≡ out.old.items ++ lines_of (map to_line to.now)) }
 {
     for address in to {
-        put_to(out)?;
-        write_path(Some(address), out)?;
-        out.push(b'\n')?;
+        put_recipient(address, out)?;
     }
     Ok(())
+}
+
+// Writes the line of a recipient.
+#[inline]
+fn put_recipient(address: &Address, out: &mut Vec<u8>) -> Result<(), AllocError>
+    ensures { OnOk result (out.new.items ≡ out.old.items ++ line (to_line address.now)) }
+{
+    put_to(out)?;
+    write_path(Some(address), out)?;
+    end_line(out)
 }
 
 // Writes where a transaction goes.
@@ -166,14 +177,41 @@ pub fn plan_text(alloc: Global, plan: &Plan) -> Result<Text, AllocError>
         return Err(AllocError);
     };
     let mut out = Vec::with_capacity(alloc, plan_len(plan, recipients))?;
+    let put = put_plan(plan, recipients, &mut out);
+    text_put(put, out)
+}
+
+// Writes a plan of so many recipients.
+fn put_plan(plan: &Plan, recipients: usize, out: &mut Vec<u8>) -> Result<(), AllocError>
+    requires { recipients ≡ recipient_count plan.now }
+    ensures { OnOk result (out.new.items ≡ out.old.items ++ plan_text_of plan.now) }
+{
+    put_first_line(plan, recipients, out)?;
+    put_transactions(plan.transactions.as_slice(), out)?;
+    put_last_lines(plan, out)
+}
+
+// Writes the line that counts what a plan of so many recipients has.
+pub(crate) fn put_first_line(
+    plan: &Plan,
+    recipients: usize,
+    out: &mut Vec<u8>,
+) -> Result<(), AllocError>
+    requires { recipients ≡ recipient_count plan.now }
+    ensures { OnOk result (out.new.items ≡ out.old.items ++ line (first_line plan.now)) }
+{
     put_counts(
         plan.transactions.len(),
         recipients,
         plan.findings.len(),
-        &mut out,
-    )?;
-    put_transactions(plan.transactions.as_slice(), &mut out)?;
-    put_each_line(plan.findings.as_slice(), &mut out)?;
-    out.extend_from_slice(b"end\n")?;
-    Ok(Text::of(out))
+        out,
+    )
+}
+
+// Writes the findings of a plan, and `end`.
+pub(crate) fn put_last_lines(plan: &Plan, out: &mut Vec<u8>) -> Result<(), AllocError>
+    ensures { OnOk result (out.new.items ≡ out.old.items ++ (lines_of plan.now.findings ++ line (codes "end"))) }
+{
+    put_each_line(plan.findings.as_slice(), out)?;
+    out.extend_from_slice(b"end\n")
 }

@@ -1,11 +1,13 @@
 //! Plans with their scripts.
 ghost use Rattle.std.specs.Prelude.{◌≡◌, ◌++◌, IfOk, OnOk};
 ghost use Rattle.std.specs.List.{enumerate_from};
-ghost use Rattle.relay_wire.specs.PlanText.{line, numbered_texts, script_line, scripted_text, wire_text_of};
+ghost use Rattle.relay_wire.specs.PlanText.{line, numbered_texts, recipient_count, script_line, scripted_text, wire_text_of};
 
 use crate::lengths::{script_len, wire_len};
-use crate::plan::{Plan, Planned, put_counts, put_route, put_transaction_line, recipient_count};
-use crate::words::{put_each_line, put_number};
+use crate::plan::{
+    Plan, Planned, put_first_line, put_last_lines, put_route, put_transaction_line, recipient_count,
+};
+use crate::words::{end_line, put_number, text_put};
 use crate::writing::put_script;
 use relay_text::Text;
 use std::alloc::{AllocError, Global};
@@ -16,8 +18,7 @@ fn put_script_line(octets: usize, out: &mut Vec<u8>) -> Result<(), AllocError>
 {
     out.extend_from_slice(b"script")?;
     put_number(octets, out)?;
-    out.push(b'\n')?;
-    Ok(())
+    end_line(out)
 }
 
 // Writes a transaction with its script; an `Err` too where a `usize` doesn't count the script.
@@ -65,18 +66,16 @@ pub fn wire_text(alloc: Global, plan: &Plan) -> Result<Text, AllocError>
         return Err(AllocError);
     };
     let mut out = Vec::with_capacity(alloc, wire_len(plan, recipients))?;
-    put_counts(
-        plan.transactions.len(),
-        recipients,
-        plan.findings.len(),
-        &mut out,
-    )?;
-    put_scripted_transactions(
-        plan.transactions.as_slice(),
-        plan.hostname.as_bytes(),
-        &mut out,
-    )?;
-    put_each_line(plan.findings.as_slice(), &mut out)?;
-    out.extend_from_slice(b"end\n")?;
-    Ok(Text::of(out))
+    let put = put_wire(plan, recipients, &mut out);
+    text_put(put, out)
+}
+
+// Writes a plan of so many recipients, with its scripts.
+fn put_wire(plan: &Plan, recipients: usize, out: &mut Vec<u8>) -> Result<(), AllocError>
+    requires { recipients ≡ recipient_count plan.now }
+    ensures { OnOk result (out.new.items ≡ out.old.items ++ wire_text_of plan.now) }
+{
+    put_first_line(plan, recipients, out)?;
+    put_scripted_transactions(plan.transactions.as_slice(), plan.hostname.as_bytes(), out)?;
+    put_last_lines(plan, out)
 }

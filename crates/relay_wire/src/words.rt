@@ -1,8 +1,8 @@
-//! Words of a line, each with a space before it, and whole lines.
-ghost use Rattle.std.specs.Prelude.{◌≡◌, ◌∷◌, ◌++◌, [], decimal, option_map, OnOk};
+//! Words of a line, each with a space before it, whole lines, and the text of what was put.
+ghost use Rattle.std.specs.Prelude.{◌≡◌, ◌∷◌, ◌++◌, [], ℕ, List, decimal, option_map, IfOk, OnOk};
 ghost use Rattle.relay_text.specs.Addresses.{local_text_of, path_text_of};
 ghost use Rattle.relay_wire.specs.Findings.{after_spaces};
-ghost use Rattle.relay_wire.specs.PlanText.{lines_of};
+ghost use Rattle.relay_wire.specs.PlanText.{line, lines_of};
 
 use crate::lengths::texts_len;
 use itoa::Buffer;
@@ -63,8 +63,32 @@ pub(crate) fn put_each_line(lines: &[Text], out: &mut Vec<u8>) -> Result<(), All
     ensures { OnOk result (out.new.items ≡ out.old.items ++ lines_of lines.now) }
 {
     for text in lines {
-        out.extend_from_slice(text.as_bytes())?;
-        out.push(b'\n')?;
+        put_line(text, out)?;
     }
     Ok(())
+}
+
+// Puts a line at the end.
+fn put_line(text: &Text, out: &mut Vec<u8>) -> Result<(), AllocError>
+    ensures { OnOk result (out.new.items ≡ out.old.items ++ line text.now) }
+{
+    out.extend_from_slice(text.as_bytes())?;
+    end_line(out)
+}
+
+// Puts the end of a line.
+#[inline]
+pub(crate) fn end_line(out: &mut Vec<u8>) -> Result<(), AllocError>
+    ensures { OnOk result (out.new.items ≡ out.old.items ++ 10 ∷ []) }
+{
+    out.push(b'\n')?;
+    Ok(())
+}
+
+// The text of what was put, or the `Err` of putting it.
+pub(crate) fn text_put(put: Result<(), AllocError>, out: Vec<u8>) -> Result<Text, AllocError>
+    ensures { (bytes : List ℕ) → OnOk put (out.items ≡ bytes) → IfOk result (λ text. text ≡ bytes) }
+{
+    put?;
+    Ok(Text::of(out))
 }
