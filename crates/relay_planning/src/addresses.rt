@@ -1,10 +1,12 @@
 //! The transactions of the addresses that are reached.
-ghost use Rattle.std.specs.Prelude.{◌≡◌, ◌<◌, ◌≤◌, length, IfOk, OnOk};
+ghost use Rattle.std.specs.Prelude.{◌≡◌, ◌↔◌, ◌<◌, ◌≤◌, length, IfOk, OnOk};
+ghost use Rattle.relay_text.specs.AddressParts.{AddressParts};
+ghost use Rattle.relay_routes.specs.declared.route.Route as ways;
 ghost use Rattle.relay_routes.specs.declared.transport.Transport as names;
 ghost use Rattle.relay_job.specs.Settings.{limit_of};
-ghost use Rattle.relay_delivery.specs.Groups.{limit_at};
-ghost use Rattle.relay_delivery.specs.Placings.{senders_of};
-ghost use Rattle.relay_planning.specs.Delivery.{routing_of, IsJobPart};
+ghost use Rattle.relay_delivery.specs.Groups.{limit_at, Sender};
+ghost use Rattle.relay_delivery.specs.Placings.{senders_of, AreApart, AreInRange, IsPlacedBy};
+ghost use Rattle.relay_planning.specs.Delivery.{routing_of, IsJobPart, IsPlaced};
 ghost use Rattle.relay_planning.specs.Findings.{Reports};
 ghost use Rattle.relay_planning.specs.Plans.{AreTransactionsOf, IsFewest, IsSoundFor};
 ghost use Rattle.relay_planning.specs.Reaching.{AreReachedPairs};
@@ -12,10 +14,11 @@ ghost use Rattle.relay_planning.specs.Report.{routes, IsLineOf};
 
 use crate::gathering::{Gathering, gather_pairs};
 use crate::job_view::JobView;
-use relay_delivery::{BatchLimits, transactions};
+use relay_delivery::{BatchLimits, Routed, Stop, transactions};
 use relay_destinations::Destinations;
 use relay_job::Settings;
 use relay_pairs::Reached;
+use relay_routes::Route;
 use relay_tables::Graph;
 use relay_text::Address;
 use relay_wire::{FindingLines, Planned};
@@ -45,12 +48,78 @@ fn senders_of<'a>(alloc: Global, graph: &'a Graph) -> Result<Vec<Option<&'a Addr
     Ok(senders)
 }
 
+/// The transactions of these stops, which place what the job places.
+fn transactions_of<'a>(
+    alloc: Global,
+    job: &JobView<'_>,
+    graph: &'a Graph,
+    routes: &'a [Route],
+    recipients: &[Routed<'a>],
+    stops: Vec<Stop>,
+) -> Result<Vec<Planned>, AllocError>
+    requires apart { AreApart graph.now.senders routes.now }
+    requires range { AreInRange graph.now.senders routes.now recipients.now stops.items }
+    requires few { length stops.items ≤ 16777216 }
+    requires placed { (s : Sender) (r : ways.Route) (a : AddressParts) → IsPlacedBy graph.now.senders routes.now recipients.now stops.items s r a ↔ IsPlaced job.now s r a }
+    ensures transactions { IfOk result (λ transactions. AreTransactionsOf job.now transactions.items) }
+    ensures sound { IfOk result (λ transactions. IsSoundFor job.now transactions.items) }
+    ensures fewest { IfOk result (λ transactions. IsFewest job.now transactions.items) }
+{
+    let senders = senders_of(alloc, graph)?;
+    transactions(
+        alloc,
+        senders.as_slice(),
+        routes,
+        recipients,
+        stops,
+        limits_of(job.settings()),
+    )
+}
+
+/// The same as `plan_addresses`, where it is lent what finds routes.
+fn plan_by<'a>(
+    alloc: Global,
+    job: &JobView<'_>,
+    destinations: &mut Destinations<'a>,
+    graph: &'a Graph,
+    pairs: &[Reached],
+    lines: &mut FindingLines,
+) -> Result<Vec<Planned>, AllocError>
+    requires routing { destinations.old.routing ≡ routing_of job.now }
+    requires via { destinations.old.via ≡ job.now.settings.mailbox_transport }
+    requires graph { IsJobPart job.now graph.now }
+    requires pairs { AreReachedPairs job.now graph.now pairs.now }
+    requires few { length pairs.now ≤ 16777216 }
+    ensures transactions { IfOk result (λ transactions. AreTransactionsOf job.now transactions.items) }
+    ensures sound { IfOk result (λ transactions. IsSoundFor job.now transactions.items) }
+    ensures fewest { IfOk result (λ transactions. IsFewest job.now transactions.items) }
+    ensures lines { OnOk result (Reports lines.old lines.new (IsLineOf job.now routes)) }
+{
+    let gathering = gather_pairs(alloc, job, graph, destinations, pairs, lines)?;
+    let Gathering {
+        recipients,
+        stops,
+        known,
+        ..
+    } = gathering;
+    // Its room is given back before the transactions need theirs.
+    drop(known);
+    transactions_of(
+        alloc,
+        job,
+        graph,
+        destinations.routes(),
+        recipients.as_slice(),
+        stops,
+    )
+}
+
 /// The transactions of all addresses that are reached, each once under each of its senders, and a line for each address that has no
 /// route.
 pub fn plan_addresses<'a>(
     alloc: Global,
     job: &JobView<'_>,
-    destinations: Destinations<'a>,
+    mut destinations: Destinations<'a>,
     graph: &'a Graph,
     pairs: &[Reached],
     lines: &mut FindingLines,
@@ -65,23 +134,5 @@ pub fn plan_addresses<'a>(
     ensures fewest { IfOk result (λ transactions. IsFewest job.now transactions.items) }
     ensures lines { OnOk result (Reports lines.old lines.new (IsLineOf job.now routes)) }
 {
-    let gathering = gather_pairs(alloc, job, graph, destinations, pairs, lines)?;
-    let Gathering {
-        destinations,
-        recipients,
-        stops,
-        known,
-        ..
-    } = gathering;
-    // Its room is given back before the transactions need theirs.
-    drop(known);
-    let senders = senders_of(alloc, graph)?;
-    transactions(
-        alloc,
-        senders.as_slice(),
-        destinations.routes(),
-        recipients.as_slice(),
-        stops,
-        limits_of(job.settings()),
-    )
+    plan_by(alloc, job, &mut destinations, graph, pairs, lines)
 }

@@ -12,6 +12,7 @@ ghost use Rattle.relay_planning.specs.Listing.{place_at, place_of, target_findin
 ghost use Rattle.relay_planning.specs.Findings.{Reports};
 ghost use Rattle.relay_planning.specs.Entries.{LeadsWithin, IsLineIn, HaveLine, IsTargetLine, IsListLine, IsNodeLine, IsLoopLine};
 
+use crate::findings::add_line;
 use crate::job_view::JobView;
 use crate::listing::Listing;
 use crate::reach::Reach;
@@ -28,7 +29,7 @@ fn report_any(
     ensures { OnOk result (Reports lines.old lines.new (IsLineIn finding)) }
 {
     match finding {
-        Some(finding) => lines.add(&finding),
+        Some(finding) => add_line(finding, lines),
         None => Ok(()),
     }
 }

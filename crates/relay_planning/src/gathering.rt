@@ -3,11 +3,10 @@
 //! A node is looked at once, where the first pair with it comes: its route is found, or the line is added that tells why there is none.
 //! From then on a number says what is known of it, so each further sender of an address costs no look-up.
 use relay_delivery::{Routed, Stop};
-use relay_destinations::Destinations;
 use relay_tables::Graph;
 
 /// What is known of a node.
-#[derive(Clone, Copy, Debug, PartialEq, Eq)]
+#[derive(Clone, Copy)]
 pub enum Known {
     Unseen,
     /// No message goes there: it is no address, or one without a route.
@@ -20,7 +19,6 @@ pub enum Known {
 #[derive(Drop)]
 pub struct Gathering<'a> {
     graph: &'a Graph,
-    pub destinations: Destinations<'a>,
     /// Each as often as nodes have it.
     pub recipients: Vec<Routed<'a>>,
     pub stops: Vec<Stop>,
@@ -36,18 +34,26 @@ ghost use Rattle.relay_routes.specs.declared.unrouted.Unrouted as causes;
 ghost use Rattle.relay_destinations.specs.Ways.{Means, Keeps};
 ghost use Rattle.relay_planning.specs.Delivery.{routing_of};
 ghost use Rattle.relay_planning.specs.Findings.{Reports};
+ghost use Rattle.relay_planning.specs.Report.{reason_of};
 ghost use Rattle.relay_planning.specs.Routes.{IsThere, IsLineAt, IsRoutedAt, IsLineOfNode, IsLineOfPair, HaveLine, IsRecipientIfAny, AreKnown, AreGathered, StayKnown};
 ghost use Rattle.relay_pairs.specs.declared.reached.Reached as reached;
 
-use crate::findings::reason_for;
+use crate::findings::{add_line, reason_for};
 use crate::job_view::JobView;
-use relay_destinations::Way;
+use relay_destinations::{Destinations, Way};
 use relay_pairs::Reached;
 use relay_routes::Unrouted;
 use relay_tables::Node;
 use relay_text::Address;
-use relay_wire::{Finding, FindingLines};
+use relay_wire::{Finding, FindingLines, Reason};
 use std::alloc::{AllocError, Global};
+
+/// The reason that a plan gives for want of a route, with a copy of its text.
+fn copied_reason(alloc: Global, unrouted: &Unrouted) -> Result<Reason, AllocError>
+    ensures { IfOk result (λ reason. reason_of unrouted.now ≡ Some reason) }
+{
+    reason_for(unrouted.copy(alloc)?).ok_or(AllocError)
+}
 
 /// Adds the line of an address that has no route, which few lack: it stands apart, so that the others' way stays short.
 #[inline(never)]
@@ -59,9 +65,9 @@ fn add_unrouted(
 ) -> Result<(), AllocError>
     ensures lines { OnOk result (Reports lines.old lines.new (IsLineAt (Err unrouted.now) address.now)) }
 {
+    let reason = copied_reason(alloc, unrouted)?;
     let address = address.copy(alloc)?;
-    let reason = reason_for(unrouted.copy(alloc)?).ok_or(AllocError)?;
-    lines.add(&Finding::Unrouted(address, reason))
+    add_line(Finding::Unrouted(address, reason), lines)
 }
 
 /// The recipient that an address is, by what was found for it. The line of an address without a route is added.
@@ -122,23 +128,18 @@ pub fn recipient_of<'a>(
 
 impl<'a> Gathering<'a> {
     /// Nothing yet, with room for so many stops.
-    pub fn new(
-        alloc: Global,
-        graph: &'a Graph,
-        destinations: Destinations<'a>,
-        stops: usize,
-    ) -> Result<Gathering<'a>, AllocError>
+    fn new(alloc: Global, graph: &'a Graph, stops: usize) -> Result<Gathering<'a>, AllocError>
         ensures graph { IfOk result (λ gathering. gathering.graph.now ≡ graph.now) }
-        ensures destinations { IfOk result (λ gathering. gathering.destinations ≡ destinations.entry) }
         ensures empty { IfOk result (λ gathering. (gathering.recipients.items ≡ []) × (gathering.stops.items ≡ [])) }
         ensures unseen { IfOk result (λ gathering. (length gathering.known.items ≡ length graph.now.nodes) × All (λ k. k ≡ Known.Unseen) gathering.known.items) }
     {
+        let stops = Vec::with_capacity(alloc, stops)?;
+        let known = vec![in alloc; Known::Unseen; graph.nodes()]?;
         Ok(Gathering {
             graph,
-            destinations,
             recipients: Vec::new(alloc),
-            stops: Vec::with_capacity(alloc, stops)?,
-            known: vec![in alloc; Known::Unseen; graph.nodes()]?,
+            stops,
+            known,
         })
     }
 
@@ -148,25 +149,26 @@ impl<'a> Gathering<'a> {
         alloc: Global,
         job: &JobView<'_>,
         node: u32,
+        destinations: &mut Destinations<'a>,
         lines: &mut FindingLines,
     ) -> Result<Known, AllocError>
         requires node { node < length self.old.graph.now.nodes }
-        requires routing { self.old.destinations.routing ≡ routing_of job.now }
-        requires via { self.old.destinations.via ≡ job.now.settings.mailbox_transport }
+        requires routing { destinations.old.routing ≡ routing_of job.now }
+        requires via { destinations.old.via ≡ job.now.settings.mailbox_transport }
         requires few { length self.old.recipients.items < 2 ^ 32 }
-        requires known { AreKnown job.now self.old.graph.now self.old.destinations.routes self.old.recipients.items self.old.known.items lines.old }
+        requires known { AreKnown job.now self.old.graph.now destinations.old.routes self.old.recipients.items self.old.known.items lines.old }
         requires unseen { slice_get self.old.known.items node ≡ Some Known.Unseen }
-        ensures known { OnOk result (AreKnown job.now self.new.graph.now self.new.destinations.routes self.new.recipients.items self.new.known.items lines.new) }
+        ensures known { OnOk result (AreKnown job.now self.new.graph.now destinations.new.routes self.new.recipients.items self.new.known.items lines.new) }
         ensures there { IfOk result (λ k. slice_get self.new.known.items node ≡ Some k) }
         ensures seen { IfOk result (λ k. k ≡ Known.Unseen → ⊥) }
         ensures stay { OnOk result (StayKnown self.old.known.items self.new.known.items) }
         ensures lines { OnOk result (Reports lines.old lines.new (λ q. IsLineOfPair job.now self.old.graph.now q (record { sender = 0; node = node }))) }
         ensures few { OnOk result (length self.new.recipients.items ≤ length self.old.recipients.items + 1) }
-        ensures kept { OnOk result (Keeps self.old.destinations self.new.destinations) }
+        ensures kept { OnOk result (Keeps destinations.old destinations.new) }
         ensures same { (self.new.graph.now ≡ self.old.graph.now) × (self.new.stops.items ≡ self.old.stops.items) }
     {
         let at = self.graph.node(node);
-        let recipient = recipient_of(alloc, job, at, &mut self.destinations, lines)?;
+        let recipient = recipient_of(alloc, job, at, destinations, lines)?;
         let known = match recipient {
             Some(routed) => {
                 let number = self.recipients.len() as u32;
@@ -185,24 +187,25 @@ impl<'a> Gathering<'a> {
         alloc: Global,
         job: &JobView<'_>,
         node: u32,
+        destinations: &mut Destinations<'a>,
         lines: &mut FindingLines,
     ) -> Result<Known, AllocError>
         requires node { node < length self.old.graph.now.nodes }
-        requires routing { self.old.destinations.routing ≡ routing_of job.now }
-        requires via { self.old.destinations.via ≡ job.now.settings.mailbox_transport }
+        requires routing { destinations.old.routing ≡ routing_of job.now }
+        requires via { destinations.old.via ≡ job.now.settings.mailbox_transport }
         requires few { length self.old.recipients.items < 2 ^ 32 }
-        requires known { AreKnown job.now self.old.graph.now self.old.destinations.routes self.old.recipients.items self.old.known.items lines.old }
-        ensures known { OnOk result (AreKnown job.now self.new.graph.now self.new.destinations.routes self.new.recipients.items self.new.known.items lines.new) }
+        requires known { AreKnown job.now self.old.graph.now destinations.old.routes self.old.recipients.items self.old.known.items lines.old }
+        ensures known { OnOk result (AreKnown job.now self.new.graph.now destinations.new.routes self.new.recipients.items self.new.known.items lines.new) }
         ensures there { IfOk result (λ k. slice_get self.new.known.items node ≡ Some k) }
         ensures seen { IfOk result (λ k. k ≡ Known.Unseen → ⊥) }
         ensures stay { OnOk result (StayKnown self.old.known.items self.new.known.items) }
         ensures lines { OnOk result (Reports lines.old lines.new (λ q. IsLineOfPair job.now self.old.graph.now q (record { sender = 0; node = node }))) }
         ensures few { OnOk result (length self.new.recipients.items ≤ length self.old.recipients.items + 1) }
-        ensures kept { OnOk result (Keeps self.old.destinations self.new.destinations) }
+        ensures kept { OnOk result (Keeps destinations.old destinations.new) }
         ensures same { (self.new.graph.now ≡ self.old.graph.now) × (self.new.stops.items ≡ self.old.stops.items) }
     {
         match self.known[node as usize] {
-            Known::Unseen => self.settle(alloc, job, node, lines),
+            Known::Unseen => self.settle(alloc, job, node, destinations, lines),
             known => Ok(known),
         }
     }
@@ -213,24 +216,58 @@ impl<'a> Gathering<'a> {
         alloc: Global,
         job: &JobView<'_>,
         pair: Reached,
+        destinations: &mut Destinations<'a>,
         lines: &mut FindingLines,
     ) -> Result<(), AllocError>
         requires node { pair.node < length self.old.graph.now.nodes }
-        requires routing { self.old.destinations.routing ≡ routing_of job.now }
-        requires via { self.old.destinations.via ≡ job.now.settings.mailbox_transport }
+        requires routing { destinations.old.routing ≡ routing_of job.now }
+        requires via { destinations.old.via ≡ job.now.settings.mailbox_transport }
         requires few { length self.old.recipients.items < 2 ^ 32 }
-        requires known { AreKnown job.now self.old.graph.now self.old.destinations.routes self.old.recipients.items self.old.known.items lines.old }
-        ensures known { OnOk result (AreKnown job.now self.new.graph.now self.new.destinations.routes self.new.recipients.items self.new.known.items lines.new) }
+        requires known { AreKnown job.now self.old.graph.now destinations.old.routes self.old.recipients.items self.old.known.items lines.old }
+        ensures known { OnOk result (AreKnown job.now self.new.graph.now destinations.new.routes self.new.recipients.items self.new.known.items lines.new) }
         ensures gathered { OnOk result ((pairs : List reached.Reached) → AreGathered job.now self.old.graph.now pairs self.old.known.items self.old.stops.items → AreGathered job.now self.old.graph.now (pairs ++ pair ∷ []) self.new.known.items self.new.stops.items) }
         ensures lines { OnOk result (Reports lines.old lines.new (λ q. IsLineOfPair job.now self.old.graph.now q pair)) }
         ensures few_recipients { OnOk result (length self.new.recipients.items ≤ length self.old.recipients.items + 1) }
         ensures few_stops { OnOk result (length self.new.stops.items ≤ length self.old.stops.items + 1) }
-        ensures kept { OnOk result (Keeps self.old.destinations self.new.destinations) }
+        ensures kept { OnOk result (Keeps destinations.old destinations.new) }
         ensures same { self.new.graph.now ≡ self.old.graph.now }
     {
-        if let Known::Recipient(recipient) = self.know(alloc, job, pair.node, lines)? {
+        if let Known::Recipient(recipient) = self.know(
+            alloc,
+            job,
+            pair.node,
+            destinations,
+            lines,
+        )? {
             let sender = pair.sender;
             self.stops.push(Stop { sender, recipient })?;
+        }
+        Ok(())
+    }
+
+    /// Adds what pairs lead to, where nothing was added yet.
+    fn add_all(
+        &mut self,
+        alloc: Global,
+        job: &JobView<'_>,
+        pairs: &[Reached],
+        destinations: &mut Destinations<'a>,
+        lines: &mut FindingLines,
+    ) -> Result<(), AllocError>
+        requires in_graph { All (λ p. p.node < length self.old.graph.now.nodes) pairs.now }
+        requires few { length pairs.now ≤ 16777216 }
+        requires routing { destinations.old.routing ≡ routing_of job.now }
+        requires via { destinations.old.via ≡ job.now.settings.mailbox_transport }
+        requires empty { (self.old.recipients.items ≡ []) × (self.old.stops.items ≡ []) }
+        requires known { AreKnown job.now self.old.graph.now destinations.old.routes self.old.recipients.items self.old.known.items lines.old }
+        requires gathered { AreGathered job.now self.old.graph.now [] self.old.known.items self.old.stops.items }
+        ensures known { OnOk result (AreKnown job.now self.old.graph.now destinations.new.routes self.new.recipients.items self.new.known.items lines.new) }
+        ensures gathered { OnOk result (AreGathered job.now self.old.graph.now pairs.now self.new.known.items self.new.stops.items) }
+        ensures lines { OnOk result (Reports lines.old lines.new (HaveLine job.now self.old.graph.now pairs.now)) }
+        ensures few { OnOk result (length self.new.stops.items ≤ length pairs.now) }
+    {
+        for pair in pairs {
+            self.add(alloc, job, *pair, destinations, lines)?;
         }
         Ok(())
     }
@@ -241,23 +278,20 @@ pub fn gather_pairs<'a>(
     alloc: Global,
     job: &JobView<'_>,
     graph: &'a Graph,
-    destinations: Destinations<'a>,
+    destinations: &mut Destinations<'a>,
     pairs: &[Reached],
     lines: &mut FindingLines,
 ) -> Result<Gathering<'a>, AllocError>
-    requires routing { destinations.routing ≡ routing_of job.now }
-    requires via { destinations.via ≡ job.now.settings.mailbox_transport }
+    requires routing { destinations.old.routing ≡ routing_of job.now }
+    requires via { destinations.old.via ≡ job.now.settings.mailbox_transport }
     requires in_graph { All (λ p. p.node < length graph.now.nodes) pairs.now }
     requires few { length pairs.now ≤ 16777216 }
-    ensures graph { IfOk result (λ gathering. gathering.graph.now ≡ graph.now) }
-    ensures known { IfOk result (λ gathering. AreKnown job.now graph.now gathering.destinations.routes gathering.recipients.items gathering.known.items lines.new) }
+    ensures known { IfOk result (λ gathering. AreKnown job.now graph.now destinations.new.routes gathering.recipients.items gathering.known.items lines.new) }
     ensures gathered { IfOk result (λ gathering. AreGathered job.now graph.now pairs.now gathering.known.items gathering.stops.items) }
     ensures lines { OnOk result (Reports lines.old lines.new (HaveLine job.now graph.now pairs.now)) }
     ensures few { IfOk result (λ gathering. length gathering.stops.items ≤ length pairs.now) }
 {
-    let mut gathering = Gathering::new(alloc, graph, destinations, pairs.len())?;
-    for pair in pairs {
-        gathering.add(alloc, job, *pair, lines)?;
-    }
+    let mut gathering = Gathering::new(alloc, graph, pairs.len())?;
+    gathering.add_all(alloc, job, pairs, destinations, lines)?;
     Ok(gathering)
 }

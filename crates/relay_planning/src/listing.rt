@@ -66,26 +66,34 @@ impl<'a> Listing<'a> {
         }
     }
 
+    /// A copy of a target's text, and where it stands.
+    fn placed(self, alloc: Global, text: &[u8]) -> Result<(Text, Place), AllocError>
+        ensures { IfOk result (λ both. (both.0 ≡ text.now) × (both.1 ≡ place_at self.entry)) }
+    {
+        let text = Text::copy_of(alloc, text)?;
+        Ok((text, self.place(alloc)?))
+    }
+
     /// What is reported of one of its targets: a missing name or include file, a file or a command.
     pub(crate) fn target(self, alloc: Global, node: &Node) -> Result<Option<Finding>, AllocError>
         ensures { IfOk result (λ finding. finding ≡ target_finding (place_at self.entry) node.now) }
     {
         match node {
             Node::Missing(name) => {
-                let name = Text::copy_of(alloc, name.as_bytes())?;
-                Ok(Some(Finding::Missing(name, self.place(alloc)?)))
+                let (name, place) = self.placed(alloc, name.as_bytes())?;
+                Ok(Some(Finding::Missing(name, place)))
             }
             Node::NoInclude(path) => {
-                let path = Text::copy_of(alloc, path.as_bytes())?;
-                Ok(Some(Finding::NoInclude(path, self.place(alloc)?)))
+                let (path, place) = self.placed(alloc, path.as_bytes())?;
+                Ok(Some(Finding::NoInclude(path, place)))
             }
             Node::Command(text) => {
-                let text = Text::copy_of(alloc, text.as_bytes())?;
-                Ok(Some(Finding::Command(text, self.place(alloc)?)))
+                let (text, place) = self.placed(alloc, text.as_bytes())?;
+                Ok(Some(Finding::Command(text, place)))
             }
             Node::File(path) => {
-                let path = Text::copy_of(alloc, path.as_bytes())?;
-                Ok(Some(Finding::File(path, self.place(alloc)?)))
+                let (path, place) = self.placed(alloc, path.as_bytes())?;
+                Ok(Some(Finding::File(path, place)))
             }
             _ => Ok(None),
         }

@@ -5,6 +5,7 @@ ghost use Rattle.relay_job.specs.JobAnswers.{IsJobWithin};
 ghost use Rattle.relay_loops.specs.Loops.{AreLoopsOf, IsClosedPart};
 ghost use Rattle.relay_pairs.specs.Pairs.{ArePairs};
 ghost use Rattle.relay_planning.specs.Delivery.{directory_of, routing_of, HasAtMostPairs, IsJobGraph, IsJobPart};
+ghost use Rattle.relay_planning.specs.Findings.{Reports};
 ghost use Rattle.relay_planning.specs.Limits.{name_count, owned_count, AreOptions, AreLimits, IsWithin, IsRefused};
 ghost use Rattle.relay_planning.specs.Plans.{AreTransactionsOf, IsFewest, IsPlanOf, IsPlanWith, IsSoundFor};
 ghost use Rattle.relay_planning.specs.Report.{entries, routes, IsLineOf, IsOwnFindingLine};
@@ -24,6 +25,7 @@ use relay_job::{Job, RunFault};
 use relay_loops::on_loops;
 use relay_pairs::{Reached, pairs_are_counted, pairs_by_numbers, reached_nodes, reached_pairs};
 use relay_rounds::{Gate, ReachFault};
+use relay_routes::Router;
 use relay_tables::{Graph, LookedUp, TableFault, Tables};
 use relay_text::{Seq, Text};
 use relay_wire::{FindingLines, Plan, Planned};
@@ -218,68 +220,85 @@ pub fn plan_reached<G: Gate, R: Threads + Sync>(
     plan_pairs(alloc, job, destinations, graph, pairs, lines)
 }
 
-/// Adds the lines of what is reached to those that are given. Nobody needs the tables any more: their room is given back.
-fn lines_reached<G: Gate, R: Threads + Sync>(
+/// The pairs that a job reaches on this graph of it. Adds the lines of what is reached.
+fn pairs_reported<G: Gate, R: Threads + Sync>(
     crew: &Crew<G, R>,
     job: &JobView<'_>,
-    tables: Tables,
+    tables: &Tables,
     graph: &Graph,
-    pairs: &[Reached],
-    lines: FindingLines,
-) -> Result<FindingLines, AllocError>
-    requires tables { tables ≡ directory_of job.now }
-    requires graph { IsJobPart job.now graph.now }
-    requires pairs { ArePairs graph.now pairs.now }
-    ensures { IfOk result (λ reported. (q : List ℕ) → IsTrue (has_text reported q) ↔ (IsTrue (has_text lines q) ⊎ IsLineOf job.now entries q)) }
-{
-    let mut lines = lines;
-    report_reached(crew, job, &tables, graph, pairs, &mut lines)?;
-    Ok(lines)
-}
-
-/// The same as `plan_reached`, where nobody else needs what was read: the tables are dropped before the transactions need room.
-fn plan_once<G: Gate, R: Threads + Sync>(
-    crew: &Crew<G, R>,
-    job: &JobView<'_>,
-    sources: Sources,
-    graph: &Graph,
-    pairs: &[Reached],
-    lines: FindingLines,
-) -> Result<Plan, AllocError>
-    requires tables { sources.tables ≡ directory_of job.now }
-    requires router { sources.router ≡ routing_of job.now }
-    requires graph { IsJobPart job.now graph.now }
-    requires pairs { ArePairs graph.now pairs.now }
-    requires reached { AreReachedPairs job.now graph.now pairs.now }
-    requires few { length pairs.now ≤ 16777216 }
-    ensures plan { IfOk result (IsPlanWith job.now (λ q. IsTrue (has_text lines q) ⊎ IsOwnFindingLine job.now q)) }
-    ensures sound { IfOk result (λ plan. IsSoundFor job.now plan.transactions) }
-    ensures fewest { IfOk result (λ plan. IsFewest job.now plan.transactions) }
-{
-    let Sources {
-        tables,
-        router,
-        key,
-    } = sources;
-    let lines = lines_reached(crew, job, tables, graph, pairs, lines)?;
-    let via = &job.settings().mailbox_transport;
-    let destinations = Destinations::new(crew.alloc, &router, via, key)?;
-    plan_pairs(crew.alloc, job, destinations, graph, pairs, lines)
-}
-
-/// The plan of a job of this graph. The lines of files and tables that are at fault are given.
-fn plan_graph<G: Gate, R: Threads + Sync>(
-    crew: &Crew<G, R>,
-    job: &JobView<'_>,
-    sources: Sources,
-    graph: &Graph,
-    lines: FindingLines,
-) -> Result<Plan, RunFault>
-    requires tables { sources.tables ≡ directory_of job.now }
-    requires router { sources.router ≡ routing_of job.now }
+    lines: &mut FindingLines,
+) -> Result<Vec<Reached>, RunFault>
+    requires tables { tables.now ≡ directory_of job.now }
     requires graph { IsJobPart job.now graph.now }
     requires names { name_count job.now ≤ crew.now.limits.names }
     requires owners { owned_count job.now ≤ crew.now.limits.owners }
+    ensures reached { IfOk result (λ pairs. AreReachedPairs job.now graph.now pairs.items) }
+    ensures few { IfOk result (λ pairs. length pairs.items ≤ 16777216) }
+    ensures at_most { OnOk result (HasAtMostPairs job.now crew.now.limits.pairs) }
+    ensures lines { OnOk result (Reports lines.old lines.new (IsLineOf job.now entries)) }
+    ensures refused { IfErr result (IsRefused crew.now.limits job.now) }
+{
+    let pairs = pairs_of(crew, job, graph)?;
+    report_reached(crew, job, tables, graph, &pairs, lines)?;
+    Ok(pairs)
+}
+
+/// The graph of a job, and the pairs that it reaches there. Adds the lines of what is reached.
+fn graph_reported<G: Gate, R: Threads + Sync>(
+    crew: &Crew<G, R>,
+    job: &JobView<'_>,
+    tables: &Tables,
+    lines: &mut FindingLines,
+) -> Result<(Graph, Vec<Reached>), RunFault>
+    requires tables { tables.now ≡ directory_of job.now }
+    ensures graph { IfOk result (λ both. IsJobPart job.now both.0) }
+    ensures reached { IfOk result (λ both. AreReachedPairs job.now both.0 both.1.items) }
+    ensures few { IfOk result (λ both. length both.1.items ≤ 16777216) }
+    ensures lines { OnOk result (Reports lines.old lines.new (IsLineOf job.now entries)) }
+    ensures within { OnOk result (IsWithin crew.now.limits job.now) }
+    ensures refused { IfErr result (IsRefused crew.now.limits job.now) }
+{
+    let graph = graph_of(crew, job, tables)?;
+    let pairs = pairs_reported(crew, job, tables, &graph, lines)?;
+    Ok((graph, pairs))
+}
+
+/// The plan of a job that reaches these pairs of its graph, by what routes its addresses, with the lines that are given and those of
+/// addresses without a route. The key is that of the hashes of domains and nexthops.
+fn plan_routes(
+    alloc: Global,
+    job: &JobView<'_>,
+    router: &Router,
+    key: u64,
+    reached: &(Graph, Vec<Reached>),
+    lines: FindingLines,
+) -> Result<Plan, AllocError>
+    requires router { router.now ≡ routing_of job.now }
+    requires graph { IsJobPart job.now reached.now.0 }
+    requires reached { AreReachedPairs job.now reached.now.0 reached.now.1.items }
+    requires few { length reached.now.1.items ≤ 16777216 }
+    ensures plan { IfOk result (IsPlanWith job.now (λ q. IsTrue (has_text lines q) ⊎ IsLineOf job.now routes q)) }
+    ensures sound { IfOk result (λ plan. IsSoundFor job.now plan.transactions) }
+    ensures fewest { IfOk result (λ plan. IsFewest job.now plan.transactions) }
+{
+    let (graph, pairs) = reached;
+    let via = &job.settings().mailbox_transport;
+    let destinations = Destinations::new(alloc, router, via, key)?;
+    plan_pairs(alloc, job, destinations, graph, pairs, lines)
+}
+
+/// The plan of a job of these tables, by what routes its addresses. The lines of files and tables that are at fault are given. The key is
+/// that of the hashes of domains and nexthops.
+fn plan_tables<G: Gate, R: Threads + Sync>(
+    crew: &Crew<G, R>,
+    job: &JobView<'_>,
+    tables: Tables,
+    router: &Router,
+    key: u64,
+    lines: FindingLines,
+) -> Result<Plan, RunFault>
+    requires tables { tables ≡ directory_of job.now }
+    requires router { router.now ≡ routing_of job.now }
     requires lines { (q : List ℕ) → has_text lines q ≡ has_fault_line job.now q }
     ensures plan { IfOk result (IsPlanOf job.now) }
     ensures sound { IfOk result (λ plan. IsSoundFor job.now plan.transactions) }
@@ -287,9 +306,14 @@ fn plan_graph<G: Gate, R: Threads + Sync>(
     ensures within { OnOk result (IsWithin crew.now.limits job.now) }
     ensures refused { IfErr result (IsRefused crew.now.limits job.now) }
 {
-    match pairs_of(crew, job, graph) {
-        Ok(pairs) => Ok(plan_once(crew, job, sources, graph, &pairs, lines)?),
-        Err(fault) => Err(fault),
+    let mut lines = lines;
+    let reported = graph_reported(crew, job, &tables, &mut lines);
+    // Nobody needs the tables any more: their room is given back before the transactions need theirs.
+    drop(tables);
+    let reached = reported?;
+    match plan_routes(crew.alloc, job, router, key, &reached, lines) {
+        Ok(plan) => Ok(plan),
+        Err(_) => Err(RunFault::Memory),
     }
 }
 
@@ -311,10 +335,12 @@ pub fn plan_sources<G: Gate, R: Threads + Sync>(
     ensures within { OnOk result (IsWithin crew.now.limits job.now) }
     ensures refused { IfErr result (IsRefused crew.now.limits job.now) }
 {
-    match graph_of(crew, job, &sources.tables) {
-        Ok(graph) => plan_graph(crew, job, sources, &graph, lines),
-        Err(fault) => Err(fault),
-    }
+    let Sources {
+        tables,
+        router,
+        key,
+    } = sources;
+    plan_tables(crew, job, tables, &router, key, lines)
 }
 
 /// The plan of a job: each address that an entry or recipient leads to, once under each sender that a chain of entries gives it, in

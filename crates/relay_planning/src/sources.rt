@@ -107,6 +107,30 @@ fn read_router(
 }
 
 impl Sources {
+    /// What names stand for, and what routes addresses by these tables. Adds the lines of those that are at fault.
+    fn with_router(
+        alloc: Global,
+        job: &Job,
+        tables: Tables,
+        transports: TransportTable,
+        exchanges: MxTable,
+        lines: &mut FindingLines,
+    ) -> Result<Sources, AllocError>
+        requires tables { tables ≡ directory_of job.now }
+        requires transports { transports ≡ transport_table_of job.now.transport }
+        requires exchanges { exchanges ≡ mx_table_of job.now.mx }
+        ensures tables { IfOk result (λ sources. sources.tables ≡ directory_of job.now) }
+        ensures router { IfOk result (λ sources. sources.router ≡ routing_of job.now) }
+        ensures lines { OnOk result (ReportsWhere lines.old lines.new (is_route_line transports.faults exchanges.faults)) }
+    {
+        let router = read_router(alloc, job, transports, exchanges, lines)?;
+        Ok(Sources {
+            tables,
+            router,
+            key: key_of(job),
+        })
+    }
+
     /// What the files and tables of a job say, which are parsed. Adds the lines of those that are at fault. `Err` where memory runs out.
     pub(crate) fn of(
         alloc: Global,
@@ -127,12 +151,7 @@ impl Sources {
             exchanges,
         } = parsed;
         let tables = read_tables(alloc, job, aliases, mailboxes, lines)?;
-        let router = read_router(alloc, job, transports, exchanges, lines)?;
-        Ok(Sources {
-            tables,
-            router,
-            key: key_of(job),
-        })
+        Sources::with_router(alloc, job, tables, transports, exchanges, lines)
     }
 
     /// What the files and tables of a job say. Adds the lines of those that are at fault. `Err` where memory runs out.

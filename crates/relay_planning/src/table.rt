@@ -3,7 +3,7 @@ use relay_routes::{FaultKind, LineFault};
 use relay_wire::{Finding, LineWord};
 
 /// A table of a job.
-#[derive(Clone, Copy, Debug, PartialEq, Eq)]
+#[derive(Clone, Copy)]
 pub enum Table {
     Transport,
     Mx,

@@ -7,6 +7,7 @@ ghost use Rattle.relay_planning.specs.Findings.{ReportsWhere};
 ghost use Rattle.relay_planning.specs.Texts.{table_line};
 ghost use Rattle.relay_planning.specs.Texts.{source_line, has_include_line};
 
+use crate::findings::add_line;
 use crate::source::Source;
 use crate::table::Table;
 use relay_aliasfile::{LineFault, parse_include};
@@ -26,7 +27,7 @@ fn report_file_fault(
     ensures { OnOk result (ReportsWhere lines.old lines.new (λ q. bytes_eq q (source_line source.entry fault))) }
 {
     let finding = source.finding(alloc, fault)?;
-    lines.add(&finding)
+    add_line(finding, lines)
 }
 
 /// Adds the lines of a file that are at fault.
@@ -54,7 +55,7 @@ fn report_table_fault(
     ensures { OnOk result (ReportsWhere lines.old lines.new (λ q. bytes_eq q (table_line table fault))) }
 {
     let finding = table.finding(fault);
-    lines.add(&finding)
+    add_line(finding, lines)
 }
 
 /// Adds the lines of a table that are at fault.

@@ -1,57 +1,24 @@
-use Rattle.std.proofs.Common.{◌≡◌, ◌⊎◌, ◌<◌, ℕ, List, ◌∷◌, [], ◌++◌, ◌+◌, length, get_or, take, arith, ap, subst, ◌∙◌, sym, inl, inr}
-use Rattle.std.specs.Prelude.{IsTrue, ◌↔◌}
-use Rattle.std.proofs.lemmas.List.{take_all, take_more, get_or_default}
-use Rattle.relay_text.specs.Bytes.{has_text}
-use Rattle.relay_pairs.specs.declared.reached.Reached.{Reached}
-use Rattle.relay_planning.specs.Routes.{HaveLine, IsLineOfPair, AreGathered}
-use Rattle.relay_planning.proofs.GatherFacts.{some_more, known_first, gathered_first}
+use Rattle.relay_planning.proofs.GatherFacts.{known_first, gathered_first}
 use Rattle.relay_planning.proofs.gathering.gather_pairs.Goals as goal
 
-pub loop-pair-init : goal.loop-pair-init
-loop-pair-init c =
+pub add_all-requires-clause-known : goal.add_all-requires-clause-known
+add_all-requires-clause-known c =
     let h = c.in_ok-gathering.ensures in
-    let job = c.args.job.now in
-    let g = c.args.graph.now in
-    record {
-      graph = h.graph;
-      routing = ap (λ d. d.routing) h.destinations ∙ c.requires.routing;
-      via = ap (λ d. d.via) h.destinations ∙ c.requires.via;
-      known = rw (h.empty.0) (known_first job g c.in_ok-gathering.gathering.destinations.routes c.in_ok-gathering.gathering.known.items c.args.lines.now h.unseen.0 h.unseen.1);
-      gathered = rw (h.empty.1) (gathered_first job g c.in_ok-gathering.gathering.known.items);
-      lines = λ q. (λ old. inl old, λ either. elim either [ inl old ↦ old | inr none ↦ absurd (omega (arith, none.1.1)) ]);
-      few_recipients = rw (h.empty.0) (omega arith);
-      few_stops = rw (h.empty.1) (omega arith);
-    }
+    rw (h.graph, h.empty.0) (known_first c.args.job.now c.args.graph.now c.args.destinations.now.routes c.in_ok-gathering.gathering.known.items c.args.lines.now h.unseen.0 h.unseen.1)
 
-pub loop-pair-preserved : goal.loop-pair-preserved
-loop-pair-preserved c =
-    let job = c.args.job.now in
-    let g = c.args.graph.now in
-    let pairs = c.args.pairs.now in
-    let i = c.loop-pair.pair-index in
-    let first : Reached = record { sender = 0; node = 0 } in
-    let pair = get_or pairs i first in
-    let inside : i < length pairs = omega arith in
-    let here : get_or pairs i pair ≡ pair = get_or_default pairs i pair first inside in
-    let h = c.in_ok-add.ensures in
-    let old = c.loop-pair.invariant in
-    let pushed : take (i + 1) pairs ≡ take i pairs ++ pair ∷ [] = take_more pairs i pair inside ∙ ap (λ x. take i pairs ++ x ∷ []) here in
-    record {
-      graph = h.same ∙ old.graph;
-      routing = h.kept.routing ∙ old.routing;
-      via = h.kept.via ∙ old.via;
-      known = rw (sym old.graph, sym h.same) h.known;
-      gathered = rw pushed (subst (λ x. AreGathered job x (take i pairs ++ pair ∷ []) c.add.new.self.known.items c.add.new.self.stops.items) old.graph (h.gathered (take i pairs) (rw (old.graph) old.gathered)));
-      lines = λ q.
-          some_more (IsLineOfPair job g q) pairs i pair (IsTrue (has_text c.args.lines.now q)) (IsTrue (has_text c.loop-pair.lines q)) (IsTrue (has_text c.add.new.lines q)) inside here
-          (old.lines q)
-          (subst (λ x. IsTrue (has_text c.add.new.lines q) ↔ (IsTrue (has_text c.loop-pair.lines q) ⊎ IsLineOfPair job x q pair)) old.graph (h.lines q));
-      few_recipients = omega (arith, h.few_recipients, old.few_recipients);
-      few_stops = omega (arith, h.few_stops, old.few_stops);
-    }
+pub add_all-requires-clause-gathered : goal.add_all-requires-clause-gathered
+add_all-requires-clause-gathered c =
+    let h = c.in_ok-gathering.ensures in
+    rw (h.graph, h.empty.1) (gathered_first c.args.job.now c.args.graph.now c.in_ok-gathering.gathering.known.items)
+
+pub add_all-requires-clause-in_graph : goal.add_all-requires-clause-in_graph
+add_all-requires-clause-in_graph c = rw (c.in_ok-gathering.ensures.graph) c.requires.in_graph
+
+pub returns-clause-known : goal.returns-clause-known
+returns-clause-known c = rw (c.in_ok-gathering.ensures.graph) at c.in_ok-add_all.ensures.known
+
+pub returns-clause-gathered : goal.returns-clause-gathered
+returns-clause-gathered c = rw (c.in_ok-gathering.ensures.graph) at c.in_ok-add_all.ensures.gathered
 
 pub returns-clause-lines : goal.returns-clause-lines
-returns-clause-lines c =
-    let whole : take c.loop-pair.pair-index c.args.pairs.now ≡ c.args.pairs.now = take_all c.loop-pair.pair-index c.args.pairs.now (omega arith) in
-    let P : List Reached → Type 0 = λ ps. (q : List ℕ) → IsTrue (has_text c.loop-pair.lines q) ↔ (IsTrue (has_text c.args.lines.now q) ⊎ HaveLine c.args.job.now c.args.graph.now ps q) in
-    subst P whole c.loop-pair.invariant.lines
+returns-clause-lines c = λ q. rw (c.in_ok-gathering.ensures.graph) at (c.in_ok-add_all.ensures.lines q)

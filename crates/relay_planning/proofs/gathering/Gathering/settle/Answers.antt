@@ -21,15 +21,15 @@ returns-clause-known c =
           let number : w.len-number.result ≡ length old.recipients.items = omega (arith, w.len-number.ensures) in
           let routed = subst (λ o. IsRecipientIfAny job found.routes c.node-at.result.now o) w.in-Some.is is in
           rw (w.self-is, w.known-is, w.in_ok-push-in-Some.ensures.items)
-          (known_after job g old.destinations.routes found.routes old.recipients.items _ old.known.items c.args.lines.now c.recipient_of.new.lines c.args.node c.node-at.result.now (Recipient w.len-number.result)
-          c.requires.known more (grows_push old.recipients.items r) (routed_push job g old.destinations.routes found.routes old.recipients.items c.node-at.result.now r more c.requires.known.in_routes routed)
+          (known_after job g c.args.destinations.now.routes found.routes old.recipients.items _ old.known.items c.args.lines.now c.recipient_of.new.lines c.args.node c.node-at.result.now (Recipient w.len-number.result)
+          c.requires.known more (grows_push old.recipients.items r) (routed_push job g c.args.destinations.now.routes found.routes old.recipients.items c.node-at.result.now r more c.requires.known.in_routes routed)
           c.in_ok-recipient.ensures.lines c.node-at.ensures within
           (recipient_pushed job g found.routes old.recipients.items c.node-at.result.now r w.len-number.result number routed))
       | in-None w ↦
           let none = subst (λ o. IsRecipientIfAny job found.routes c.node-at.result.now o) w.in-None.is is in
           rw (w.self-is, w.known-is)
-          (known_after job g old.destinations.routes found.routes old.recipients.items old.recipients.items old.known.items c.args.lines.now c.recipient_of.new.lines c.args.node c.node-at.result.now NoRoute
-          c.requires.known more (grows_itself old.recipients.items) (routed_inside job g old.destinations.routes found.routes old.recipients.items more c.requires.known.in_routes)
+          (known_after job g c.args.destinations.now.routes found.routes old.recipients.items old.recipients.items old.known.items c.args.lines.now c.recipient_of.new.lines c.args.node c.node-at.result.now NoRoute
+          c.requires.known more (grows_itself old.recipients.items) (routed_inside job g c.args.destinations.now.routes found.routes old.recipients.items more c.requires.known.in_routes)
           c.in_ok-recipient.ensures.lines c.node-at.ensures within none)
     ]
 

@@ -1,9 +1,11 @@
 use Rattle.std.proofs.Common.{◌||◌, ◌∙◌, ap}
+use Rattle.std.proofs.lemmas.Result.{on_ok_weaker}
 use Rattle.relay_text.specs.Bytes.{has_text}
 use Rattle.relay_aliasfile.specs.AliasFiles.{alias_file_of}
 use Rattle.relay_aliasfile.specs.MailboxFiles.{mailbox_file_of}
 use Rattle.relay_routes.specs.Transports.{transport_table_of}
 use Rattle.relay_routes.specs.Exchanges.{mx_table_of}
+use Rattle.relay_planning.specs.Findings.{ReportsWhere}
 use Rattle.relay_planning.specs.Texts.{is_name_line, is_route_line}
 use Rattle.relay_planning.proofs.ReportFacts.{reports_two}
 use Rattle.relay_planning.proofs.sources.Sources.of.Goals as goal
@@ -15,12 +17,14 @@ returns-clause-lines c =
     let middle = c.read_tables.new.lines in
     let parsed = c.args.parsed in
     let is = c.requires.parsed in
-    reports_two old middle c.read_router.new.lines
+    on_ok_weaker {P = ReportsWhere middle c.with_router.new.lines (is_route_line parsed.transports.faults parsed.exchanges.faults)} c.with_router.result
+    (λ routes. reports_two old middle c.with_router.new.lines
     (is_name_line (alias_file_of job.aliases).faults (mailbox_file_of job.mailboxes).faults job.includes)
     (is_route_line (transport_table_of job.transport).faults (mx_table_of job.mx).faults)
     (λ q. c.in_ok-tables.ensures.lines q
     ∙ ap (λ a. has_text old q || is_name_line a.faults parsed.mailboxes.faults job.includes q) is.aliases
     ∙ ap (λ m. has_text old q || is_name_line (alias_file_of job.aliases).faults m.faults job.includes q) is.mailboxes)
-    (λ q. c.in_ok-router.ensures.lines q
+    (λ q. routes q
     ∙ ap (λ t. has_text middle q || is_route_line t.faults parsed.exchanges.faults q) is.transports
-    ∙ ap (λ m. has_text middle q || is_route_line (transport_table_of job.transport).faults m.faults q) is.exchanges)
+    ∙ ap (λ m. has_text middle q || is_route_line (transport_table_of job.transport).faults m.faults q) is.exchanges))
+    c.with_router.ensures.lines
