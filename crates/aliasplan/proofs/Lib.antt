@@ -7,3 +7,4 @@ pub mod ReturnSteps
 pub mod BlockFacts
 pub mod ReturnFacts
 pub mod ReturnFaults
+pub mod RunFacts

@@ -22,22 +22,15 @@ use relay_wire::FindingLines;
 use std::alloc::{AllocError, Global};
 use std::thread::Threads;
 
-/// The job of the null sender who writes to every alias, by files and tables that are read.
-fn to_each_alias(alloc: Global, tables: Job, read: &Tables) -> Result<Job, AllocError>
-    requires { read.now ≡ directory_of tables }
-    ensures { IfOk result (λ job. job ≡ to_each_alias tables) }
+/// Makes a job of these files and tables, which are read, that of the null sender who writes to every alias.
+fn write_to_each_alias(alloc: Global, tables: &mut Job, read: &Tables) -> Result<(), AllocError>
+    requires { read.now ≡ directory_of tables.old }
+    ensures { OnOk result (tables.new ≡ to_each_alias tables.old) }
 {
     let recipients = read.alias_addresses(alloc)?;
-    Ok(Job {
-        settings: tables.settings,
-        aliases: tables.aliases,
-        includes: tables.includes,
-        mailboxes: tables.mailboxes,
-        transport: tables.transport,
-        mx: tables.mx,
-        sender: None,
-        recipients: Seq::of(recipients),
-    })
+    tables.sender = None;
+    tables.recipients = Seq::of(recipients);
+    Ok(())
 }
 
 /// The lines of findings that say which lines of the files and tables are at fault, in the order of their bytes, each once. `Err` where
@@ -79,20 +72,20 @@ fn findings_of<G: Gate, R: Threads + Sync>(
 /// The same where the null sender writes to every alias of these files and tables.
 fn findings_of_aliases<G: Gate, R: Threads + Sync>(
     crew: &Crew<G, R>,
-    tables: Job,
+    tables: &mut Job,
     sources: Sources,
     lines: FindingLines,
 ) -> Result<Seq<Text>, RunFault>
-    requires batches { (t : names.Transport) → 0 < limit_of tables.settings t }
-    requires tables { sources.tables ≡ directory_of tables }
-    requires router { sources.router ≡ routing_of tables }
-    requires lines { (q : List ℕ) → has_text lines q ≡ has_fault_line tables q }
-    ensures lines { IfOk result (AreLines (IsFindingLine (to_each_alias tables))) }
-    ensures within { OnOk result (IsWithin crew.now.limits (to_each_alias tables)) }
-    ensures refused { IfErr result (IsRefused crew.now.limits (to_each_alias tables)) }
+    requires batches { (t : names.Transport) → 0 < limit_of tables.old.settings t }
+    requires tables { sources.tables ≡ directory_of tables.old }
+    requires router { sources.router ≡ routing_of tables.old }
+    requires lines { (q : List ℕ) → has_text lines q ≡ has_fault_line tables.old q }
+    ensures lines { IfOk result (AreLines (IsFindingLine (to_each_alias tables.old))) }
+    ensures within { OnOk result (IsWithin crew.now.limits (to_each_alias tables.old)) }
+    ensures refused { IfErr result (IsRefused crew.now.limits (to_each_alias tables.old)) }
 {
-    match to_each_alias(crew.alloc, tables, &sources.tables) {
-        Ok(job) => findings_of(crew, &job, sources, lines),
+    match write_to_each_alias(crew.alloc, tables, &sources.tables) {
+        Ok(()) => findings_of(crew, &*tables, sources, lines),
         Err(_) => Err(RunFault::Memory),
     }
 }
@@ -112,9 +105,10 @@ pub fn check_aliases<G: Gate, R: Threads + Sync>(
     ensures refused { IfErr result (IsRefused crew.now.limits (to_each_alias tables)) }
 {
     parsed_is_readable();
+    let mut tables = tables;
     let mut lines = FindingLines::new(crew.alloc);
     match Sources::read_by(crew, &tables, &mut lines) {
-        Ok(sources) => findings_of_aliases(crew, tables, sources, lines),
+        Ok(sources) => findings_of_aliases(crew, &mut tables, sources, lines),
         Err(_) => Err(RunFault::Memory),
     }
 }
