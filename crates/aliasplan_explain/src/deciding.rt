@@ -115,23 +115,37 @@ fn lookup_of(alloc: Global, to: Option<&Destination>) -> Result<Option<Text>, Al
     }
 }
 
+// The same, and the records of that name.
+fn looked_up(
+    alloc: Global,
+    job: &Job,
+    to: Option<&Destination>,
+) -> Result<(Option<Text>, Seq<Record>), AllocError>
+    ensures lookup { IfOk result (λ both. both.0 ≡ option_and_then looked_up_name (option_map (λ d. d.now) to.entry)) }
+    ensures records { IfOk result (λ both. both.1 ≡ records_of job.now (option_and_then looked_up_name (option_map (λ d. d.now) to.entry))) }
+{
+    let lookup = lookup_of(alloc, to)?;
+    let records = records_of(alloc, job, lookup.as_ref())?;
+    Ok((lookup, records))
+}
+
 // What decides, where this is the rule and the destination.
 fn decision_by(
     alloc: Global,
     job: &Job,
     rule: Rule,
     to: Option<Destination>,
-) -> Result<Decision, AllocError>
-    ensures { IfOk result (λ decision. decision ≡ decision_by job.now rule to) }
+) -> Result<Option<Decision>, AllocError>
+    ensures { IfOk result (λ decision. decision ≡ Some (decision_by job.now rule to)) }
 {
-    let lookup = lookup_of(alloc, to.as_ref())?;
-    let records = records_of(alloc, job, lookup.as_ref())?;
-    Ok(Decision {
+    let found = looked_up(alloc, job, to.as_ref())?;
+    let (lookup, records) = found;
+    Ok(Some(Decision {
         rule,
         to,
         lookup,
         records,
-    })
+    }))
 }
 
 /// What decides where a node goes, where it is a mailbox or a remote address. `Err` where memory runs out.
@@ -150,12 +164,12 @@ pub(crate) fn decision_of(
             let via = &job.settings.mailbox_transport;
             let rule = Rule::MailboxTransport(copy_of_via(alloc, via)?);
             let to = destination_in(router.destination_via(alloc, via, address))?;
-            Ok(Some(decision_by(alloc, job, rule, to)?))
+            decision_by(alloc, job, rule, to)
         }
         Node::Remote(address) => {
             let rule = rule_for(alloc, job, address)?;
             let to = destination_in(router.destination(alloc, address))?;
-            Ok(Some(decision_by(alloc, job, rule, to)?))
+            decision_by(alloc, job, rule, to)
         }
         _ => Ok(None),
     }

@@ -1,13 +1,15 @@
 //! Why an address is in a job's plan, or isn't.
-ghost use Rattle.std.specs.Prelude.{◌≡◌, [], ℕ, List, Some, length, IfOk, IfErr, OnOk};
+ghost use Rattle.std.specs.Prelude.{◌≡◌, [], ℕ, List, Some, length, IfOk, IfErr, IsSome, OnOk};
 ghost use Rattle.relay_text.specs.Bytes.{has_text};
 ghost use Rattle.relay_wire.specs.declared.plan.Plan as plans;
 ghost use Rattle.relay_job.specs.JobAnswers.{IsJobWithin};
 ghost use Rattle.relay_planning.specs.Limits.{IsWithin, IsRefused};
 ghost use Rattle.relay_planning.specs.Delivery.{directory_of};
-ghost use Rattle.relay_planning.specs.Plans.{IsPlanOf};
+ghost use Rattle.relay_planning.specs.Plans.{IsPlanOf, IsSoundFor};
 ghost use Rattle.relay_planning.specs.Texts.{has_fault_line};
-ghost use Rattle.aliasplan_explain.specs.Grounds.{IsBasisOf};
+ghost use Rattle.aliasplan_explain.specs.Chains.{LeadToAsked};
+ghost use Rattle.aliasplan_explain.specs.Decisions.{decision_of};
+ghost use Rattle.aliasplan_explain.specs.Grounds.{IsBasisOf, IsReadingOf};
 ghost use Rattle.aliasplan_explain.specs.Targets.{stands_for, target_at, IsAskedFor};
 ghost use Rattle.aliasplan_explain.specs.Tellings.{AreToldFor, IsTellingOf};
 ghost use Rattle.aliasplan_explain.specs.Unreached.{unreached_of};
@@ -22,7 +24,7 @@ use crate::targets::target_of;
 use crate::telling::told_for;
 use crate::unreached::unreached_of;
 use aliasplan::{Crew, Gate, Job, RunFault};
-use relay_explain::{Asked, Listed, Target, Telling, Told};
+use relay_explain::{Asked, Decision, Listed, Target, Telling, Told};
 use relay_planning::{JobView, parsed_is_readable};
 use relay_tables::Node;
 use relay_text::Seq;
@@ -60,6 +62,35 @@ fn recipient_target(
     target_of(alloc, &grounds.basis.sources.tables, &node)
 }
 
+// The question, and the target that the asked name or address stands for as a recipient.
+fn of_question(
+    alloc: Global,
+    grounds: &Grounds<'_>,
+    asked: &Asked,
+) -> Result<(Asked, Target), AllocError>
+    requires { IsBasisOf grounds.now.job.now grounds.now.basis.now }
+    ensures asked { IfOk result (λ both. both.0 ≡ asked.now) }
+    ensures stands { IfOk result (λ both. target_at (directory_of grounds.now.job.now) (stands_for (directory_of grounds.now.job.now) asked.now) ≡ Some both.1) }
+{
+    let stands_for = recipient_target(alloc, grounds, asked)?;
+    Ok((asked.copy(alloc)?, stands_for))
+}
+
+// The target that a node is, and what decides where it goes.
+fn of_node(
+    alloc: Global,
+    grounds: &Grounds<'_>,
+    node: &Node,
+) -> Result<(Target, Option<Decision>), AllocError>
+    requires made { IsBasisOf grounds.now.job.now grounds.now.basis.now }
+    requires target { IsSome (target_at (directory_of grounds.now.job.now) node.now) }
+    ensures target { IfOk result (λ both. target_at (directory_of grounds.now.job.now) node.now ≡ Some both.0) }
+    ensures decision { IfOk result (λ both. both.1 ≡ decision_of grounds.now.job.now node.now) }
+{
+    let target = target_of(alloc, &grounds.basis.sources.tables, node)?;
+    Ok((target, decision_of(alloc, grounds, node)?))
+}
+
 // What is told of a node that is asked for, by these answers.
 fn telling_by(
     alloc: Global,
@@ -75,15 +106,37 @@ fn telling_by(
     ensures { IfOk result (IsTellingOf grounds.now.job.now plan.now grounds.now.recipient_lines.now asked.now) }
 {
     let _ = plan;
-    let stands_for = recipient_target(alloc, grounds, asked)?;
+    let unreached = unreached_beside(alloc, grounds, node, &answers)?;
+    let question = of_question(alloc, grounds, asked)?;
+    let aim = of_node(alloc, grounds, node)?;
+    let (asked, stands_for) = question;
+    let (target, decision) = aim;
     Ok(Telling {
-        asked: asked.copy(alloc)?,
-        target: target_of(alloc, &grounds.basis.sources.tables, node)?,
-        decision: decision_of(alloc, grounds, node)?,
-        stands_for,
-        unreached: unreached_beside(alloc, grounds, node, &answers)?,
+        asked,
+        target,
+        decision,
         answers,
+        stands_for,
+        unreached,
     })
+}
+
+// What is told of the node that chains lead to, by the job's plan.
+fn telling_along(
+    alloc: Global,
+    grounds: &Grounds<'_>,
+    plan: &Plan,
+    asked: &Asked,
+    chains: Chains,
+) -> Result<Telling, AllocError>
+    requires made { IsBasisOf grounds.now.job.now grounds.now.basis.now }
+    requires sound { IsSoundFor grounds.now.job.now plan.now.transactions }
+    requires chains { LeadToAsked grounds.now.job.now grounds.now.basis.now.graph grounds.now.recipient_lines.now asked.now chains }
+    ensures { IfOk result (IsTellingOf grounds.now.job.now plan.now grounds.now.recipient_lines.now asked.now) }
+{
+    let Chains { node, lines } = chains;
+    let answers = told_for(alloc, grounds, plan, &node, lines)?;
+    telling_by(alloc, grounds, plan, asked, &node, answers)
 }
 
 // What is told of a job. The lines of its files and tables that are at fault are given.
@@ -99,11 +152,32 @@ fn telling_of<G: Gate, R: Threads + Sync>(
     requires lines { (q : List ℕ) → has_text lines q ≡ has_fault_line grounds.now.job.now q }
     ensures { IfOk result (λ telling. (plan : plans.Plan) × IsPlanOf grounds.now.job.now plan × IsTellingOf grounds.now.job.now plan grounds.now.recipient_lines.now asked.now telling) }
 {
-    let alloc = crew.alloc;
-    let (plan, chains) = plan_beside(crew, view, grounds, asked, lines)?;
-    let Chains { node, lines } = chains;
-    let answers = told_for(alloc, grounds, &plan, &node, lines)?;
-    telling_by(alloc, grounds, &plan, asked, &node, answers)
+    let planned = plan_beside(crew, view, grounds, asked, lines)?;
+    let (plan, chains) = planned;
+    telling_along(crew.alloc, grounds, &plan, asked, chains)
+}
+
+// What is told of a job that is read.
+fn telling_from<G: Gate, R: Threads + Sync>(
+    crew: &Crew<G, R>,
+    job: &Job,
+    recipient_lines: &[usize],
+    reading: Reading,
+    asked: &Asked,
+) -> Result<Telling, AllocError>
+    requires job { IsJobWithin crew.now.limits.bytes job.now }
+    requires lines { length recipient_lines.now ≡ length job.now.recipients }
+    requires reading { IsReadingOf job.now reading }
+    ensures { IfOk result (λ telling. (plan : plans.Plan) × IsPlanOf job.now plan × IsTellingOf job.now plan recipient_lines.now asked.now telling) }
+{
+    parsed_is_readable();
+    let Reading {
+        basis,
+        faults,
+        alias_lines,
+    } = reading;
+    let grounds = Grounds::new(job, recipient_lines, &basis, alias_lines);
+    telling_of(crew, &JobView::of(job), &grounds, asked, faults)
 }
 
 /// Why a name or an address is reached by a job's message, or isn't: for each sender under which it is reached, the least of the shortest
@@ -127,14 +201,8 @@ pub fn explain<G: Gate, R: Threads + Sync>(
     ensures within { OnOk result (IsWithin crew.now.limits job.now) }
     ensures refused { IfErr result (IsRefused crew.now.limits job.now) }
 {
-    parsed_is_readable();
-    let Reading {
-        basis,
-        faults,
-        alias_lines,
-    } = Reading::of(crew, job)?;
-    let grounds = Grounds::new(job, recipient_lines, &basis, alias_lines);
-    match telling_of(crew, &JobView::of(job), &grounds, asked, faults) {
+    let reading = Reading::of(crew, job)?;
+    match telling_from(crew, job, recipient_lines, reading, asked) {
         Ok(telling) => Ok(telling),
         Err(_) => Err(RunFault::Memory),
     }

@@ -14,6 +14,7 @@
 mod ahead;
 mod asking;
 pub(crate) mod basis;
+mod both;
 pub(crate) mod chains;
 mod deciding;
 pub(crate) mod ending;

@@ -12,10 +12,12 @@ pub(crate) struct ChainLines {
     pub(crate) given_by: GivenBy,
 }
 
-ghost use Rattle.std.specs.Prelude.{◌≡◌, ◌≤◌, Ok, Some, length, map, slice_get, IfOk, IsSome};
+ghost use Rattle.std.specs.Prelude.{◌≡◌, ◌≤◌, Ok, Some, length, map, slice_get, take, IfOk, IsSome};
 ghost use Rattle.std.specs.Thread.{IsSync};
 ghost use Rattle.relay_trails.specs.Trails.{HasNodes, trail_of};
+ghost use Rattle.relay_explain.specs.declared.given_by.GivenBy as givers;
 ghost use Rattle.relay_explain.specs.PiecedTexts.{text_of};
+ghost use Rattle.aliasplan_explain.specs.ChainSteps.{IsGivenPast};
 ghost use Rattle.aliasplan_explain.specs.Grounds.{IsBasisOf};
 ghost use Rattle.aliasplan_explain.specs.Stretches.{AreLinesOf, IsFirstLine, IsTextOf};
 
@@ -116,6 +118,35 @@ fn sender_of(
     }
 }
 
+// The lines of all steps of a trail, in pieces.
+fn step_lines<G: Gate, R: Threads + Sync>(
+    crew: &Crew<G, R>,
+    grounds: &Grounds<'_>,
+    found: &Found,
+) -> Result<Vec<Text>, AllocError>
+    requires made { IsBasisOf grounds.now.job.now grounds.now.basis.now }
+    requires nodes { HasNodes grounds.now.basis.now.graph found.now }
+    ensures { IfOk result (λ texts. (given : givers.GivenBy) → IsGivenPast grounds.now.job.now grounds.now.basis.now.graph GivenBy.Envelope (take (length found.now.items.items) found.now.nodes.items) given → AreLinesOf grounds.now.job.now grounds.now.recipient_lines.now (trail_of found.now) texts.items given) }
+{
+    let mut lines = Vec::new(crew.alloc);
+    lines.push(first_line(crew.alloc, grounds, found)?)?;
+    let mut more = item_lines(crew, grounds, found)?;
+    lines.append(&mut more)?;
+    Ok(lines)
+}
+
+// Who gave the sender at the end of a trail.
+fn giver_of(alloc: Global, grounds: &Grounds<'_>, found: &Found) -> Result<GivenBy, AllocError>
+    requires made { IsBasisOf grounds.now.job.now grounds.now.basis.now }
+    requires nodes { HasNodes grounds.now.basis.now.graph found.now }
+    ensures { IfOk result (IsGivenPast grounds.now.job.now grounds.now.basis.now.graph GivenBy.Envelope (take (length found.now.items.items) found.now.nodes.items)) }
+{
+    let nodes = found.nodes.as_slice();
+    let items = found.items.as_slice();
+    let owner = owner_along(grounds, &nodes[..items.len()]);
+    given_by(alloc, grounds, owner)
+}
+
 /// The lines of the steps of a trail that was found, the sender after them, and who gave it. `Err` where memory runs out.
 pub(crate) fn chain_lines<G: Gate, R: Threads + Sync>(
     crew: &Crew<G, R>,
@@ -128,17 +159,9 @@ pub(crate) fn chain_lines<G: Gate, R: Threads + Sync>(
     ensures lines { IfOk result (λ chain. AreLinesOf grounds.now.job.now grounds.now.recipient_lines.now (trail_of found.now) chain.lines.items chain.given_by) }
     ensures from { IfOk result (λ chain. slice_get grounds.now.basis.now.graph.senders found.now.sender ≡ Some chain.from) }
 {
-    let alloc = crew.alloc;
-    let nodes = found.nodes.as_slice();
-    let items = found.items.as_slice();
-    let owner = owner_along(grounds, &nodes[..items.len()]);
-    let given_by = given_by(alloc, grounds, owner)?;
-    let first = first_line(alloc, grounds, found)?;
-    let mut more = item_lines(crew, grounds, found)?;
-    let mut lines = Vec::new(alloc);
-    lines.push(first)?;
-    lines.append(&mut more)?;
-    let from = sender_of(alloc, grounds, found)?;
+    let lines = step_lines(crew, grounds, found)?;
+    let given_by = giver_of(crew.alloc, grounds, found)?;
+    let from = sender_of(crew.alloc, grounds, found)?;
     Ok(ChainLines {
         lines,
         from,

@@ -7,6 +7,7 @@ ghost use Rattle.relay_planning.specs.Texts.{has_fault_line};
 ghost use Rattle.aliasplan_explain.specs.Chains.{LeadToAsked};
 ghost use Rattle.aliasplan_explain.specs.Grounds.{IsBasisOf};
 
+use crate::both::both_of;
 use crate::chains::Chains;
 use crate::grounds::Grounds;
 use aliasplan::{Crew, Gate};
@@ -70,7 +71,7 @@ fn side_by_side<G: Gate, R: Threads + Sync>(
         ensures { IfOk result (λ plan. IsPlanOf grounds.entry.now.job.now plan × IsSoundFor grounds.entry.now.job.now plan.transactions) }
     { planned(crew, view, grounds, &mut lines) };
     let (there, here) = join(crew.rt, lead, plan);
-    Ok((here?, there?))
+    both_of(here, there)
 }
 
 /// The plan of a job, and the chains to what is asked for: neither needs the other. The lines of files and tables that are at fault are

@@ -20,17 +20,19 @@ ghost use Rattle.relay_planning.specs.Limits.{IsWithin, IsRefused};
 ghost use Rattle.relay_planning.specs.Texts.{has_fault_line};
 ghost use Rattle.aliasplan_explain.specs.Grounds.{IsBasisOf, IsReadingOf};
 
+use crate::both::both_of;
 use aliasplan::{Crew, Gate, Job, RunFault};
 use relay_text::logical_lines;
-use std::alloc::{AllocError, Global};
+use std::alloc::Global;
 use std::thread::{Threads, join};
 
 // Starting a thread takes as long as cutting some ten thousand bytes into lines.
 const FEWEST_BYTES: usize = 65_536;
 
 // The logical lines of a job's alias file.
-fn alias_lines_of(alloc: Global, job: &Job) -> Result<Vec<Line>, AllocError>
-    ensures { IfOk result (λ lines. lines.items ≡ (logical_lines_of job.now.aliases).lines) }
+fn alias_lines_of(alloc: Global, job: &Job) -> Result<Vec<Line>, RunFault>
+    ensures lines { IfOk result (λ lines. lines.items ≡ (logical_lines_of job.now.aliases).lines) }
+    ensures memory { IfErr result (λ fault. fault ≡ RunFault.Memory) }
 {
     let lines = logical_lines(alloc, job.aliases.as_bytes())?;
     Ok(lines.lines.into_vec())
@@ -41,30 +43,27 @@ fn alias_lines_of(alloc: Global, job: &Job) -> Result<Vec<Line>, AllocError>
 fn read_and_cut<G: Gate, R: Threads + Sync>(
     crew: &Crew<G, R>,
     job: &Job,
-) -> (
-    Result<(Basis, FindingLines), RunFault>,
-    Result<Vec<Line>, AllocError>,
-)
+) -> Result<((Basis, FindingLines), Vec<Line>), RunFault>
     requires { IsJobWithin crew.now.limits.bytes job.now }
-    ensures basis { IfOk result.0 (λ both. IsBasisOf job.now both.0) }
-    ensures faults { IfOk result.0 (λ both. (q : List ℕ) → has_text both.1 q ≡ has_fault_line job.now q) }
-    ensures within { OnOk result.0 (IsWithin crew.now.limits job.now) }
-    ensures refused { IfErr result.0 (IsRefused crew.now.limits job.now) }
-    ensures lines { IfOk result.1 (λ lines. lines.items ≡ (logical_lines_of job.now.aliases).lines) }
+    ensures basis { IfOk result (λ all. IsBasisOf job.now all.0.0) }
+    ensures faults { IfOk result (λ all. (q : List ℕ) → has_text all.0.1 q ≡ has_fault_line job.now q) }
+    ensures lines { IfOk result (λ all. all.1.items ≡ (logical_lines_of job.now.aliases).lines) }
+    ensures within { OnOk result (IsWithin crew.now.limits job.now) }
+    ensures refused { IfErr result (IsRefused crew.now.limits job.now) }
 {
     let alloc = crew.alloc;
     if crew.options.workers == 1 || job.aliases.len() < FEWEST_BYTES {
-        return (Basis::read(crew, job), alias_lines_of(alloc, job));
+        return both_of(Basis::read(crew, job), alias_lines_of(alloc, job));
     }
-    let cut = || -> Result<Vec<Line>, AllocError>
-        ensures { IfOk result (λ lines. lines.items ≡ (logical_lines_of job.entry.now.aliases).lines) }
+    let cut = || -> Result<Vec<Line>, RunFault>
+        ensures { IfOk result (λ lines. lines.items ≡ (logical_lines_of job.entry.now.aliases).lines) × IfErr result (λ fault. fault ≡ RunFault.Memory) }
     { alias_lines_of(alloc, job) };
     let read = || -> Result<(Basis, FindingLines), RunFault>
         requires { IsSync R.row × IsJobWithin crew.now.limits.bytes job.now }
         ensures { IfOk result (λ both. IsBasisOf job.entry.now both.0 × ((q : List ℕ) → has_text both.1 q ≡ has_fault_line job.entry.now q)) × OnOk result (IsWithin crew.entry.now.limits job.entry.now) × IfErr result (IsRefused crew.entry.now.limits job.entry.now) }
     { Basis::read(crew, job) };
     let (lines, read) = join(crew.rt, cut, read);
-    (read, lines)
+    both_of(read, lines)
 }
 
 impl Reading {
@@ -78,11 +77,7 @@ impl Reading {
         ensures within { OnOk result (IsWithin crew.now.limits job.now) }
         ensures refused { IfErr result (IsRefused crew.now.limits job.now) }
     {
-        let (read, lines) = read_and_cut(crew, job);
-        let (basis, faults) = read?;
-        let Ok(alias_lines) = lines else {
-            return Err(RunFault::Memory);
-        };
+        let ((basis, faults), alias_lines) = read_and_cut(crew, job)?;
         Ok(Reading {
             basis,
             faults,

@@ -32,12 +32,12 @@ fn told_of(
     ensures told { IfOk result (IsToldFor grounds.now.job.now plan.now grounds.now.recipient_lines.now node.now) }
     ensures sender { IfOk result (λ told. told.from ≡ chain.from) }
 {
+    let outcome = outcome_of(alloc, grounds, plan, node, ending, chain.from.as_ref())?;
     let ChainLines {
         lines,
         from,
         given_by,
     } = chain;
-    let outcome = outcome_of(alloc, grounds, plan, node, ending, from.as_ref())?;
     Ok(Told {
         lines: Seq::of(lines),
         from,
