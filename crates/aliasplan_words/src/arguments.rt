@@ -1,35 +1,116 @@
-//! The arguments that several commands take.
-use clap::{Arg, ArgAction, value_parser};
-use std::alloc::Global;
+//! The arguments that the commands take.
+use crate::argument::Argument;
+use crate::kind::Kind;
+use crate::position::Position;
 
-pub(crate) fn verbose<'a>(alloc: Global) -> Arg<'a> {
-    Arg::new(alloc, "verbose")
-        .short('v')
-        .long("verbose")
-        .action(ArgAction::SetTrue)
-        .help("Where there is a fault, says on a second line which line or file has it, and why")
-}
+pub(crate) const WORKERS: Argument = Argument {
+    name: "workers",
+    position: Position::Option,
+    kind: Kind::Number(64),
+    help: "How many threads take part, from 1 to 64; 4 where it isn't said",
+};
 
-pub(crate) fn workers<'a>(alloc: Global) -> Arg<'a> {
-    Arg::new(alloc, "workers")
-        .long("workers")
-        .value_name("N")
-        .help("How many threads take part, from 1 to 64; 4 where it isn't said")
-        .value_parser(value_parser!(u64).range(1..=64))
-}
+pub(crate) const CUT: Argument = Argument {
+    name: "cut",
+    position: Position::Option,
+    kind: Kind::Number(1_048_576),
+    help: "How many pairs of sender and name a thread takes at once, from 1 to 1048576; 1024 where it isn't said",
+};
 
-pub(crate) fn cut<'a>(alloc: Global) -> Arg<'a> {
-    Arg::new(alloc, "cut")
-        .long("cut")
-        .value_name("N")
-        .help(
-            "How many pairs of sender and name a thread takes at once, from 1 to 1048576; 1024 where it isn't said",
-        )
-        .value_parser(value_parser!(u64).range(1..=1_048_576))
-}
+pub(crate) const FORM: Argument = Argument {
+    name: "form",
+    position: Position::Option,
+    kind: Kind::Form,
+    help: "plan for its lines, as where it isn't said, wire for the commands of each transaction, json for one JSON object",
+};
 
-pub(crate) fn job_file<'a>(alloc: Global) -> Arg<'a> {
-    Arg::new(alloc, "file").value_name("FILE").help(
-        "The file that the job is read from; - is standard input, as is no FILE",
-    )
-}
+pub(crate) const RETURNS: Argument = Argument {
+    name: "returns",
+    position: Position::Option,
+    kind: Kind::Flag,
+    help: "Before the findings, says for each sender what can't be delivered, and for which recipient; not in JSON",
+};
+
+pub(crate) const EACH: Argument = Argument {
+    name: "each",
+    position: Position::Option,
+    kind: Kind::Flag,
+    help: "Plans many envelopes by the same tables: in place of %envelope sections %envelope ID; not in JSON or with --returns",
+};
+
+pub(crate) const TABLES: Argument = Argument {
+    name: "tables",
+    position: Position::Option,
+    kind: Kind::File,
+    help: "With --each: the file with the settings, files and tables; then each envelope is answered when it has ended",
+};
+
+pub(crate) const ALL: Argument = Argument {
+    name: "all",
+    position: Position::Option,
+    kind: Kind::Flag,
+    help: "Also follows every alias, as if a message went to all of them: loops, missing names, addresses without a route",
+};
+
+pub(crate) const VERBOSE: Argument = Argument {
+    name: "verbose",
+    position: Position::LetteredOption('v'),
+    kind: Kind::Flag,
+    help: "Where there is a fault, says on a second line which line or file has it, and why",
+};
+
+pub(crate) const ADDRESS: Argument = Argument {
+    name: "address",
+    position: Position::RequiredOperand,
+    kind: Kind::Address,
+    help: "The address or local name that is asked for",
+};
+
+pub(crate) const JOB_FILE: Argument = Argument {
+    name: "file",
+    position: Position::Operand,
+    kind: Kind::File,
+    help: "The file that the job is read from; - is standard input, as is no FILE",
+};
+
+pub(crate) const SETTINGS: Argument = Argument {
+    name: "settings",
+    position: Position::Option,
+    kind: Kind::File,
+    help: "The settings",
+};
+
+pub(crate) const ALIASES: Argument = Argument {
+    name: "aliases",
+    position: Position::Option,
+    kind: Kind::Files,
+    help: "An alias file, whose include files are followed",
+};
+
+pub(crate) const MAILBOXES: Argument = Argument {
+    name: "mailboxes",
+    position: Position::Option,
+    kind: Kind::File,
+    help: "The names that have a mailbox, one a line",
+};
+
+pub(crate) const TRANSPORT: Argument = Argument {
+    name: "transport",
+    position: Position::Option,
+    kind: Kind::Files,
+    help: "A transport table",
+};
+
+pub(crate) const MX: Argument = Argument {
+    name: "mx",
+    position: Position::Option,
+    kind: Kind::File,
+    help: "The mail exchangers",
+};
+
+pub(crate) const ENVELOPE: Argument = Argument {
+    name: "envelope",
+    position: Position::Option,
+    kind: Kind::File,
+    help: "The envelope: the sender and the recipients",
+};

@@ -3,21 +3,25 @@
 //! [`read_words`] makes a [`Request`] of them. Help and the version are printed on the way, and so is what is wrong with words that ask for
 //! nothing that there is. No file that they name is read here.
 //!
-//! The way through the modules: `commands` has the commands and what each takes, by way of the `arguments` that several take and the texts
-//! in `help`. `reading` matches the words against them. `asking` makes a request of the words after a command, by what `values` reads of
-//! each; `refusing` has the words that no command takes.
+//! The way through the modules: `commands` has the commands and what each takes, of the `arguments` and the texts in `help`. `subcommand`
+//! and `argument` make of them what clap reads, the latter by an argument's `position` and `kind`. `reading` matches the words against them.
+//! `asking` makes a request of the words after a command, by what `values` reads of each; `refusing` has the words that no command takes.
 #![tactic(auto)]
 
+mod argument;
 mod arguments;
 mod asking;
 mod commands;
 mod detail;
 mod help;
+mod kind;
 mod output;
+mod position;
 mod reading;
 mod refusing;
 mod request;
 mod scope;
+mod subcommand;
 mod values;
 
 pub use detail::Detail;
