@@ -3,7 +3,7 @@ use growth_answers::inputs::{address, is_address};
 use growth_answers::{Answer, Teller, Unready, call, judged, lent};
 use relay_delivery::{BatchLimits, Routed, Stop, transactions};
 use relay_routes::{Hosts, Route, Transport};
-use relay_text::{Address, Text, TextFault};
+use relay_text::{Address, Text};
 use relay_wire::Planned;
 use std::alloc::{AllocError, Global};
 use std::slice;
@@ -67,34 +67,36 @@ fn are_planned(planned: &[Planned], first: &Address, last: &Address) -> bool {
 }
 
 /// The sender who isn't the null sender, and two recipients.
-#[derive(Drop)]
-struct Addresses {
-    sender: Address,
-    first: Address,
-    last: Address,
-}
+const MESSAGE: [&[u8]; 3] = [
+    b"list-owner@example.net",
+    b"ann@a-department-with-a-long-name.example.net",
+    b"joe@a-department-with-a-long-name.example.net",
+];
 
-fn message(alloc: Global) -> Result<Addresses, TextFault> {
-    let sender = address(alloc, b"list-owner@example.net")?;
-    let first = address(alloc, b"ann@a-department-with-a-long-name.example.net")?;
-    let last = address(alloc, b"joe@a-department-with-a-long-name.example.net")?;
-    Ok(Addresses {
-        sender,
-        first,
-        last,
-    })
+fn message(alloc: Global) -> Result<Vec<Address>, Unready> {
+    let mut addresses = Vec::new(alloc);
+    for text in MESSAGE {
+        addresses.push(address(alloc, text)?)?;
+    }
+    Ok(addresses)
 }
 
 /// What is answered where the first two recipients and the third, who is the first again, go by the route.
-fn answered(alloc: Global, message: &Addresses, route: &Route) -> Result<Answer, Unready> {
-    let Addresses {
-        sender,
-        first,
-        last,
-    } = message;
+fn answered(alloc: Global, message: &[Address], route: &Route) -> Result<Answer, Unready> {
+    let [sender, first, last] = message else {
+        return Err(Unready::Wrong);
+    };
     let stops = Vec::from_array(alloc, STOPS)?;
     let routes = slice::from_ref(route);
-    let recipients = [last, first, last].map(|address| Routed { route: 0, address });
+    let to_first = Routed {
+        route: 0,
+        address: first,
+    };
+    let to_last = Routed {
+        route: 0,
+        address: last,
+    };
+    let recipients = [to_last, to_first, to_last];
     let senders = [Some(sender), None];
     match transactions(alloc, &senders, routes, &recipients, stops, LIMITS) {
         Ok(planned) => Ok(judged(planned, |planned| are_planned(planned, first, last))),
@@ -102,7 +104,7 @@ fn answered(alloc: Global, message: &Addresses, route: &Route) -> Result<Answer,
     }
 }
 
-fn answered_by_route(alloc: Global, message: &Addresses) -> Result<Answer, Unready> {
+fn answered_by_route(alloc: Global, message: &[Address]) -> Result<Answer, Unready> {
     let route = route(alloc)?;
     lent(route, |route| answered(alloc, message, route))
 }

@@ -1,30 +1,11 @@
 //! Routes of addresses, each looked up once.
-use crate::routes::{mailbox_transport, router};
-use growth_answers::inputs::address;
-use growth_answers::{Answer, Seen, Teller, Unready, call, case, judged, lent, lent_mut, twice};
+use crate::routes::HUB;
+use crate::sought::{Sought, tell_sought};
+use growth_answers::{Answer, Seen, Teller, Unready, judged, lent_mut, twice};
 use relay_destinations::{Destinations, Way};
-use relay_routes::{Route, Router, Transport, Unrouted, Via};
+use relay_routes::{Route, Transport, Unrouted};
 use relay_text::Address;
 use std::alloc::{AllocError, Global};
-
-/// What a route is found with.
-#[derive(Drop)]
-struct Sought {
-    router: Router,
-    via: Via,
-    address: Address,
-}
-
-fn seek(alloc: Global, text: &[u8]) -> Result<Sought, Unready> {
-    let address = address(alloc, text)?;
-    let via = mailbox_transport(alloc)?;
-    let router = router(alloc)?;
-    Ok(Sought {
-        router,
-        via,
-        address,
-    })
-}
 
 /// Whether a way leads to the route by this transport to this nexthop.
 fn leads_to(
@@ -34,11 +15,12 @@ fn leads_to(
     nexthop: &[u8],
 ) -> Answer {
     match way {
-        Ok(Way::To(number)) => Answer::given(
-            routes.get(*number as usize).is_some_and(|route| {
-                route.transport == transport && route.nexthop.as_bytes() == nexthop
-            }),
-        ),
+        Ok(Way::To(number)) => match routes.get(*number as usize) {
+            Some(route) => Answer::given(
+                route.transport == transport && route.nexthop.as_bytes() == nexthop,
+            ),
+            None => Answer::Wrong,
+        },
         Ok(Way::Nowhere(_)) => Answer::Wrong,
         Err(_) => Answer::Refused,
     }
@@ -57,8 +39,8 @@ fn leads_nowhere(way: &Result<Way, AllocError>, reasons: &[Unrouted]) -> Answer 
 }
 
 /// Whether nothing is found before an address is sought.
-fn begins(alloc: Global, router: &Router, via: &Via) -> Answer {
-    match Destinations::new(alloc, router, via, 0) {
+fn begins(alloc: Global, sought: Sought<'_>) -> Answer {
+    match Destinations::new(alloc, sought.router, sought.via, 0) {
         Ok(found) => judged(found, |found| {
             found.routes().is_empty() && found.reasons().is_empty()
         }),
@@ -66,32 +48,20 @@ fn begins(alloc: Global, router: &Router, via: &Via) -> Answer {
     }
 }
 
-fn makes_destinations(alloc: Global) -> Result<Answer, Unready> {
-    let via = mailbox_transport(alloc)?;
-    let router = router(alloc)?;
-    lent(router, |router| Ok(begins(alloc, router, &via)))
+fn makes_destinations(alloc: Global, sought: Sought<'_>) -> Result<Seen, Unready> {
+    Ok(twice!(begins(alloc, sought)))
 }
 
 fn goes_to_hub(alloc: Global, address: &Address, found: &mut Destinations<'_>) -> Answer {
     let way = found.find(alloc, address);
-    leads_to(
-        &way,
-        found.routes(),
-        Transport::Relay,
-        b"hub.a-department-with-a-long-name.example.com:2525",
-    )
+    leads_to(&way, found.routes(), Transport::Relay, HUB)
 }
 
-fn finds_its_route(alloc: Global, sought: &Sought) -> Result<Seen, Unready> {
-    let found = Destinations::new(alloc, &sought.router, &sought.via, 0)?;
+fn finds_a_route(alloc: Global, sought: Sought<'_>) -> Result<Seen, Unready> {
+    let found = Destinations::new(alloc, sought.router, sought.via, 0)?;
     lent_mut(found, |found| {
-        Ok(twice!(goes_to_hub(alloc, &sought.address, found)))
+        Ok(twice!(goes_to_hub(alloc, sought.address, found)))
     })
-}
-
-fn finds_a_route(alloc: Global) -> Result<Seen, Unready> {
-    let sought = seek(alloc, b"u@a.b.example.net")?;
-    lent(sought, |sought| finds_its_route(alloc, sought))
 }
 
 fn goes_nowhere(alloc: Global, address: &Address, found: &mut Destinations<'_>) -> Answer {
@@ -99,16 +69,11 @@ fn goes_nowhere(alloc: Global, address: &Address, found: &mut Destinations<'_>) 
     leads_nowhere(&way, found.reasons())
 }
 
-fn finds_its_reason(alloc: Global, sought: &Sought) -> Result<Seen, Unready> {
-    let found = Destinations::new(alloc, &sought.router, &sought.via, 0)?;
+fn finds_a_reason(alloc: Global, sought: Sought<'_>) -> Result<Seen, Unready> {
+    let found = Destinations::new(alloc, sought.router, sought.via, 0)?;
     lent_mut(found, |found| {
-        Ok(twice!(goes_nowhere(alloc, &sought.address, found)))
+        Ok(twice!(goes_nowhere(alloc, sought.address, found)))
     })
-}
-
-fn finds_a_reason(alloc: Global) -> Result<Seen, Unready> {
-    let sought = seek(alloc, b"u@a-domain-that-nobody-knows.example")?;
-    lent(sought, |sought| finds_its_reason(alloc, sought))
 }
 
 fn goes_to_socket(alloc: Global, address: &Address, found: &mut Destinations<'_>) -> Answer {
@@ -116,30 +81,31 @@ fn goes_to_socket(alloc: Global, address: &Address, found: &mut Destinations<'_>
     leads_to(&way, found.routes(), Transport::Lmtp, b"unix:mbox")
 }
 
-fn finds_its_mailbox(alloc: Global, sought: &Sought) -> Result<Seen, Unready> {
-    let found = Destinations::new(alloc, &sought.router, &sought.via, 0)?;
+fn finds_a_mailboxs_route(alloc: Global, sought: Sought<'_>) -> Result<Seen, Unready> {
+    let found = Destinations::new(alloc, sought.router, sought.via, 0)?;
     lent_mut(found, |found| {
-        Ok(twice!(goes_to_socket(alloc, &sought.address, found)))
+        Ok(twice!(goes_to_socket(alloc, sought.address, found)))
     })
 }
 
-fn finds_a_mailboxs_route(alloc: Global) -> Result<Seen, Unready> {
-    let sought = seek(alloc, b"joe")?;
-    lent(sought, |sought| finds_its_mailbox(alloc, sought))
-}
-
 pub(crate) fn tell<R: Print + AllocGlobal>(teller: &mut Teller<'_, R>) {
-    let alloc = teller.rt.alloc();
-    call!(teller, "Destinations::new", makes_destinations(alloc));
-    case!(teller, "Destinations::find", finds_a_route(alloc));
-    case!(
+    tell_sought(teller, "Destinations::new", b"joe", makes_destinations);
+    tell_sought(
+        teller,
+        "Destinations::find",
+        b"u@a.b.example.net",
+        finds_a_route,
+    );
+    tell_sought(
         teller,
         "Destinations::find, no route",
-        finds_a_reason(alloc)
+        b"u@a-domain-that-nobody-knows.example",
+        finds_a_reason,
     );
-    case!(
+    tell_sought(
         teller,
         "Destinations::find_mailbox",
-        finds_a_mailboxs_route(alloc)
+        b"joe",
+        finds_a_mailboxs_route,
     );
 }

@@ -1,4 +1,5 @@
 //! The lines of tables that decide where an address goes.
+use crate::routes::own_names;
 use growth_answers::inputs::address;
 use growth_answers::{Answer, Seen, Teller, Unready, case, judged, twice};
 use relay_routes::{DecidingLine, ExchangerLine, Fate, deciding_line, exchanger_lines};
@@ -54,7 +55,7 @@ fn are_told(alloc: Global, own_names: &[Text]) -> Answer {
 }
 
 fn tells_fates(alloc: Global) -> Result<Seen, Unready> {
-    let own_names = [Text::copy_of(alloc, b"relay.example.org")?];
+    let own_names = own_names(alloc)?;
     Ok(twice!(are_told(alloc, &own_names)))
 }
 

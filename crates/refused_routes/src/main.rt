@@ -7,6 +7,7 @@ mod destinations;
 mod lines;
 mod route_finders;
 mod routes;
+mod sought;
 
 use growth_answers::{DONE, Teller};
 use std::env;
@@ -18,11 +19,16 @@ fn main(rt: HostRuntime) -> ExitCode {
         return ExitCode::from(DONE);
     };
     let name = words.skip(1).next();
-    let mut teller = Teller::new(&rt, name.as_ref().map(|name| name.as_str()));
+    ExitCode::from(told(&rt, name.as_deref()))
+}
+
+/// The status after the one call of this name, or after all calls.
+fn told<R: Print + AllocGlobal>(rt: &R, asked: Option<&str>) -> u8 {
+    let mut teller = Teller::new(rt, asked);
     routes::tell(&mut teller);
     route_finders::tell(&mut teller);
     destinations::tell(&mut teller);
     deliveries::tell(&mut teller);
     lines::tell(&mut teller);
-    ExitCode::from(teller.status())
+    teller.status()
 }

@@ -1,13 +1,14 @@
 //! Routes of destinations whose hosts are looked up once.
-use crate::routes::{leads_to_hub, router};
-use growth_answers::{Answer, Seen, Teller, Unready, call, case, lent, lent_mut, twice};
+use crate::routes::leads_to_hub;
+use crate::sought::{Sought, tell_sought};
+use growth_answers::{Answer, Seen, Teller, Unready, lent_mut, twice};
 use relay_routes::{RouteFinder, Router, Transport};
 use std::alloc::Global;
 
 const HUB: &[u8] = b"HUB.a-department-with-a-long-name.example.com:2525";
 
 fn goes_to_hub(alloc: Global, finder: &mut RouteFinder<'_>) -> Answer {
-    leads_to_hub(&finder.route_to(alloc, Transport::Relay, HUB))
+    leads_to_hub(finder.route_to(alloc, Transport::Relay, HUB))
 }
 
 fn begins(alloc: Global, router: &Router) -> Result<Answer, Unready> {
@@ -17,19 +18,13 @@ fn begins(alloc: Global, router: &Router) -> Result<Answer, Unready> {
     }
 }
 
-fn makes_a_finder(alloc: Global) -> Result<Answer, Unready> {
-    let router = router(alloc)?;
-    lent(router, |router| begins(alloc, router))
+fn makes_a_finder(alloc: Global, sought: Sought<'_>) -> Result<Seen, Unready> {
+    Ok(twice!(begins(alloc, sought.router)?))
 }
 
-fn finds_its_route(alloc: Global, router: &Router) -> Result<Seen, Unready> {
-    let finder = RouteFinder::new(alloc, router, 0)?;
+fn finds_a_route(alloc: Global, sought: Sought<'_>) -> Result<Seen, Unready> {
+    let finder = RouteFinder::new(alloc, sought.router, 0)?;
     lent_mut(finder, |finder| Ok(twice!(goes_to_hub(alloc, finder))))
-}
-
-fn finds_a_route(alloc: Global) -> Result<Seen, Unready> {
-    let router = router(alloc)?;
-    lent(router, |router| finds_its_route(alloc, router))
 }
 
 fn goes_to_known_hub(alloc: Global, finder: &mut RouteFinder<'_>) -> Result<Seen, Unready> {
@@ -37,24 +32,19 @@ fn goes_to_known_hub(alloc: Global, finder: &mut RouteFinder<'_>) -> Result<Seen
     Ok(twice!(goes_to_hub(alloc, finder)))
 }
 
-fn finds_its_route_again(alloc: Global, router: &Router) -> Result<Seen, Unready> {
-    let finder = RouteFinder::new(alloc, router, 0)?;
+/// The hub was found before, so its exchangers are there.
+fn finds_a_route_again(alloc: Global, sought: Sought<'_>) -> Result<Seen, Unready> {
+    let finder = RouteFinder::new(alloc, sought.router, 0)?;
     lent_mut(finder, |finder| goes_to_known_hub(alloc, finder))
 }
 
-/// The hub was found before, so its exchangers are there.
-fn finds_a_route_again(alloc: Global) -> Result<Seen, Unready> {
-    let router = router(alloc)?;
-    lent(router, |router| finds_its_route_again(alloc, router))
-}
-
 pub(crate) fn tell<R: Print + AllocGlobal>(teller: &mut Teller<'_, R>) {
-    let alloc = teller.rt.alloc();
-    call!(teller, "RouteFinder::new", makes_a_finder(alloc));
-    case!(teller, "RouteFinder::route_to", finds_a_route(alloc));
-    case!(
+    tell_sought(teller, "RouteFinder::new", b"joe", makes_a_finder);
+    tell_sought(teller, "RouteFinder::route_to", b"joe", finds_a_route);
+    tell_sought(
         teller,
         "RouteFinder::route_to, a known host",
-        finds_a_route_again(alloc)
+        b"joe",
+        finds_a_route_again,
     );
 }

@@ -1,4 +1,5 @@
 //! Which transport, nexthop and hosts an address goes to.
+use crate::sought::{Sought, tell_sought};
 use growth_answers::inputs::{address, are_texts};
 use growth_answers::{Answer, Seen, Teller, Unready, call, case, judged, lent, twice};
 use relay_routes::{
@@ -7,6 +8,10 @@ use relay_routes::{
 };
 use relay_text::{Address, Seq, Text};
 use std::alloc::{AllocError, Global};
+
+const HUB_NAME: &[u8] = b"hub.a-department-with-a-long-name.example.com";
+
+pub(crate) const HUB: &[u8] = b"hub.a-department-with-a-long-name.example.com:2525";
 
 /// With the pattern of an address, since a table that has none looks for no address.
 const TRANSPORTS: &[u8] =
@@ -110,8 +115,10 @@ fn finds_hosts(
     }
 }
 
-fn own_names(alloc: Global) -> Result<Vec<Text>, AllocError> {
-    Ok(Vec::from_array(alloc, [Text::copy_of(alloc, b"relay.example.org")?])?)
+pub(crate) fn own_names(alloc: Global) -> Result<Vec<Text>, AllocError> {
+    let mut names = Vec::new(alloc);
+    names.push(Text::copy_of(alloc, b"relay.example.org")?)?;
+    Ok(names)
 }
 
 const IN_ORDER: [&[u8]; 3] = [b"a.example.net", b"c.example.net", b"b.example.net"];
@@ -135,27 +142,16 @@ fn reads_exchangers(alloc: Global) -> Result<Answer, Unready> {
     }
 }
 
-fn finds_exchangers(alloc: Global) -> Result<Seen, Unready> {
+fn finds_exchangers(
+    alloc: Global,
+    exchanges: &[u8],
+    domain: &[u8],
+    wanted: &[&[u8]],
+) -> Result<Seen, Unready> {
     let names = own_names(alloc)?;
-    let table = MxTable::parse(alloc, PREFERENCES)?;
+    let table = MxTable::parse(alloc, exchanges)?;
     lent(table, |table| {
-        Ok(twice!({ finds_hosts(table, alloc, b"example.net", &names, &IN_ORDER) }))
-    })
-}
-
-fn finds_an_address(alloc: Global) -> Result<Seen, Unready> {
-    let names = own_names(alloc)?;
-    let table = MxTable::parse(alloc, EXCHANGES)?;
-    lent(table, |table| {
-        Ok(twice!({
-            finds_hosts(
-                table,
-                alloc,
-                b"hub.a-department-with-a-long-name.example.com",
-                &names,
-                &[b"hub.a-department-with-a-long-name.example.com"],
-            )
-        }))
+        Ok(twice!({ finds_hosts(table, alloc, domain, &names, wanted) }))
     })
 }
 
@@ -167,16 +163,26 @@ fn lists_one_host(alloc: Global) -> Result<Answer, Unready> {
     }
 }
 
-/// What making a router over the two tables answers.
-fn routed(alloc: Global) -> Result<Result<Router, AllocError>, Unready> {
-    let settings = RouteSettings {
-        own_names: Seq::of(own_names(alloc)?),
+fn settings(alloc: Global) -> Result<RouteSettings, AllocError> {
+    let own_names = own_names(alloc)?;
+    Ok(RouteSettings {
+        own_names: Seq::of(own_names),
         delimiter: Some(b'+'),
         default_transport: Transport::Smtp,
         seed: 0,
-    };
+    })
+}
+
+fn tables(alloc: Global) -> Result<(TransportTable, MxTable), AllocError> {
     let transports = TransportTable::parse(alloc, TRANSPORTS)?;
     let exchanges = MxTable::parse(alloc, EXCHANGES)?;
+    Ok((transports, exchanges))
+}
+
+/// What making a router over the two tables answers.
+fn routed(alloc: Global) -> Result<Result<Router, AllocError>, Unready> {
+    let settings = settings(alloc)?;
+    let (transports, exchanges) = tables(alloc)?;
     Ok(Router::new(alloc, settings, transports, exchanges))
 }
 
@@ -185,158 +191,120 @@ pub(crate) fn router(alloc: Global) -> Result<Router, Unready> {
     Ok(router)
 }
 
+/// How mailboxes are reached: by LMTP at a socket.
+pub(crate) fn mailbox_transport(alloc: Global) -> Result<Via, Unready> {
+    Via::parse(alloc, b"lmtp:unix:mbox")?.ok_or(Unready::Wrong)
+}
+
 /// Whether a route goes to this nexthop, which has one host.
 fn leads(
-    route: &Result<Route, Unrouted>,
+    route: Result<Route, Unrouted>,
     transport: Transport,
     nexthop: &[u8],
     host: &[u8],
 ) -> Answer {
     match route {
-        Ok(route) => Answer::given(
+        Ok(route) => judged(route, |route| {
             route.transport == transport
                 && is_text(&route.nexthop, nexthop)
-                && are_texts(route.hosts.as_slice(), &[host]),
-        ),
+                && are_texts(route.hosts.as_slice(), &[host])
+        }),
         Err(Unrouted::Memory) => Answer::Refused,
         Err(_) => Answer::Wrong,
     }
 }
 
-fn leads_to_gateway(route: &Result<Route, Unrouted>) -> Answer {
+pub(crate) fn leads_to_hub(route: Result<Route, Unrouted>) -> Answer {
+    leads(route, Transport::Relay, HUB, HUB)
+}
+
+fn goes_to_gateway(alloc: Global, router: &Router, address: &Address) -> Answer {
     leads(
-        route,
+        router.route(alloc, address),
         Transport::Smtp,
         b"[gw.example.com]",
         b"gw.example.com",
     )
 }
 
-pub(crate) fn leads_to_hub(route: &Result<Route, Unrouted>) -> Answer {
-    leads(
-        route,
-        Transport::Relay,
-        b"hub.a-department-with-a-long-name.example.com:2525",
-        b"hub.a-department-with-a-long-name.example.com:2525",
-    )
-}
-
-fn leads_to_socket(route: &Result<Route, Unrouted>) -> Answer {
-    leads(route, Transport::Lmtp, b"unix:mbox", b"unix:mbox")
-}
-
-fn goes_to_gateway(alloc: Global, router: &Router, address: &Address) -> Answer {
-    leads_to_gateway(&router.route(alloc, address))
-}
-
-fn makes_a_router(alloc: Global) -> Result<Answer, Unready> {
-    let address = address(alloc, b"u@example.net")?;
+fn router_is_made(alloc: Global, address: &Address) -> Result<Answer, Unready> {
     match routed(alloc)? {
-        Ok(router) => lent(
-            router,
-            |router| Ok(goes_to_gateway(alloc, router, &address)),
-        ),
+        Ok(router) => lent(router, |router| Ok(goes_to_gateway(alloc, router, address))),
         Err(_) => Ok(Answer::Refused),
     }
 }
 
-fn routes_to_a_host(alloc: Global) -> Result<Seen, Unready> {
+fn makes_a_router(alloc: Global) -> Result<Answer, Unready> {
     let address = address(alloc, b"u@example.net")?;
-    let router = router(alloc)?;
-    lent(
-        router,
-        |router| Ok(twice!(goes_to_gateway(alloc, router, &address))),
-    )
+    router_is_made(alloc, &address)
 }
 
-fn goes_to_hub(alloc: Global, router: &Router, address: &Address) -> Answer {
-    leads_to_hub(&router.route(alloc, address))
+fn routes_to_a_host(alloc: Global, sought: Sought<'_>) -> Result<Seen, Unready> {
+    Ok(twice!(goes_to_gateway(alloc, sought.router, sought.address)))
 }
 
-fn routes_to_exchangers(alloc: Global) -> Result<Seen, Unready> {
-    let address = address(alloc, b"u@a.b.example.net")?;
-    let router = router(alloc)?;
-    lent(
-        router,
-        |router| Ok(twice!(goes_to_hub(alloc, router, &address))),
-    )
+fn routes_to_exchangers(alloc: Global, sought: Sought<'_>) -> Result<Seen, Unready> {
+    Ok(twice!({ leads_to_hub(sought.router.route(alloc, sought.address)) }))
 }
 
-fn goes_to_nexthop(alloc: Global, router: &Router) -> Answer {
-    leads_to_hub(&router.route_to(
-        alloc,
-        Transport::Relay,
-        b"HUB.a-department-with-a-long-name.example.com:2525",
-    ))
+fn routes_to_a_nexthop(alloc: Global, sought: Sought<'_>) -> Result<Seen, Unready> {
+    Ok(twice!({
+        leads_to_hub(
+            sought.router.route_to(
+                alloc,
+                Transport::Relay,
+                b"HUB.a-department-with-a-long-name.example.com:2525",
+            )
+        )
+    }))
 }
 
-fn routes_to_a_nexthop(alloc: Global) -> Result<Seen, Unready> {
-    let router = router(alloc)?;
-    lent(router, |router| Ok(twice!(goes_to_nexthop(alloc, router))))
-}
-
-/// How mailboxes are reached: by LMTP at a socket.
-pub(crate) fn mailbox_transport(alloc: Global) -> Result<Via, Unready> {
-    Via::parse(alloc, b"lmtp:unix:mbox")?.ok_or(Unready::Wrong)
-}
-
-fn goes_to_socket(alloc: Global, router: &Router, via: &Via, address: &Address) -> Answer {
-    leads_to_socket(&router.route_via(alloc, via, address))
-}
-
-fn routes_a_mailbox(alloc: Global) -> Result<Seen, Unready> {
-    let address = address(alloc, b"joe")?;
-    let via = mailbox_transport(alloc)?;
-    let router = router(alloc)?;
-    lent(router, |router| {
-        Ok(twice!(goes_to_socket(alloc, router, &via, &address)))
-    })
+fn routes_a_mailbox(alloc: Global, sought: Sought<'_>) -> Result<Seen, Unready> {
+    Ok(twice!({
+        leads(
+            sought.router.route_via(alloc, sought.via, sought.address),
+            Transport::Lmtp,
+            b"unix:mbox",
+            b"unix:mbox",
+        )
+    }))
 }
 
 /// Whether a destination is this one.
 fn is_destination(
-    found: &Result<Destination, Unrouted>,
+    found: Result<Destination, Unrouted>,
     transport: Transport,
     nexthop: &[u8],
 ) -> Answer {
     match found {
-        Ok(found) => {
-            Answer::given(found.transport == transport && is_text(&found.nexthop, nexthop))
-        }
+        Ok(found) => judged(found, |found| {
+            found.transport == transport && is_text(&found.nexthop, nexthop)
+        }),
         Err(Unrouted::Memory) => Answer::Refused,
         Err(_) => Answer::Wrong,
     }
 }
 
-fn is_hub(alloc: Global, router: &Router, address: &Address) -> Answer {
-    is_destination(
-        &router.destination(alloc, address),
-        Transport::Relay,
-        b"hub.a-department-with-a-long-name.example.com:2525",
-    )
+fn finds_a_destination(alloc: Global, sought: Sought<'_>) -> Result<Seen, Unready> {
+    Ok(twice!({
+        is_destination(
+            sought.router.destination(alloc, sought.address),
+            Transport::Relay,
+            HUB,
+        )
+    }))
 }
 
-fn finds_a_destination(alloc: Global) -> Result<Seen, Unready> {
-    let address = address(alloc, b"u@a.b.example.net")?;
-    let router = router(alloc)?;
-    lent(router, |router| Ok(twice!(is_hub(alloc, router, &address))))
-}
-
-fn is_socket(alloc: Global, router: &Router, via: &Via, address: &Address) -> Answer {
-    is_destination(
-        &router.destination_via(alloc, via, address),
-        Transport::Lmtp,
-        b"unix:mbox",
-    )
-}
-
-fn finds_a_mailboxs_destination(alloc: Global) -> Result<Seen, Unready> {
-    let address = address(alloc, b"joe")?;
-    let via = mailbox_transport(alloc)?;
-    let router = router(alloc)?;
-    lent(router, |router| {
-        Ok(twice!(is_socket(alloc, router, &via, &address)))
-    })
+fn finds_a_mailboxs_destination(alloc: Global, sought: Sought<'_>) -> Result<Seen, Unready> {
+    Ok(twice!({
+        is_destination(
+            sought
+                .router
+                .destination_via(alloc, sought.via, sought.address),
+            Transport::Lmtp,
+            b"unix:mbox",
+        )
+    }))
 }
 
 /// Whether the name that a hub's exchangers are looked up by is the hub's.
@@ -364,51 +332,67 @@ fn finds_a_looked_up_name(alloc: Global) -> Result<Seen, Unready> {
     lent(to, |to| Ok(twice!(is_looked_up(alloc, to))))
 }
 
-fn tell_of_tables<R: Print + AllocGlobal>(teller: &mut Teller<'_, R>) {
+fn tell_of_transports<R: Print + AllocGlobal>(teller: &mut Teller<'_, R>) {
     let alloc = teller.rt.alloc();
     call!(teller, "Via::parse", reads_a_setting(alloc));
     call!(teller, "TransportTable::parse", reads_transports(alloc));
     case!(teller, "TransportTable::find", finds_a_transport(alloc));
+}
+
+fn tell_of_exchangers<R: Print + AllocGlobal>(teller: &mut Teller<'_, R>) {
+    let alloc = teller.rt.alloc();
     call!(teller, "MxTable::parse", reads_exchangers(alloc));
-    case!(teller, "MxTable::hosts", finds_exchangers(alloc));
+    case!(
+        teller,
+        "MxTable::hosts",
+        finds_exchangers(alloc, PREFERENCES, b"example.net", &IN_ORDER)
+    );
     case!(
         teller,
         "MxTable::hosts, an address",
-        finds_an_address(alloc)
+        finds_exchangers(alloc, EXCHANGES, HUB_NAME, &[HUB_NAME])
     );
 }
 
-fn tell_of_routes<R: Print + AllocGlobal>(teller: &mut Teller<'_, R>) {
+fn tell_of_routers<R: Print + AllocGlobal>(teller: &mut Teller<'_, R>) {
     let alloc = teller.rt.alloc();
     call!(teller, "Hosts::one", lists_one_host(alloc));
     call!(teller, "Router::new", makes_a_router(alloc));
-    case!(teller, "Router::route", routes_to_a_host(alloc));
-    case!(
-        teller,
-        "Router::route, exchangers",
-        routes_to_exchangers(alloc)
-    );
-    case!(teller, "Router::route_to", routes_to_a_nexthop(alloc));
-    case!(teller, "Router::route_via", routes_a_mailbox(alloc));
 }
 
-fn tell_of_destinations<R: Print + AllocGlobal>(teller: &mut Teller<'_, R>) {
-    let alloc = teller.rt.alloc();
-    case!(teller, "Router::destination", finds_a_destination(alloc));
-    case!(
+fn tell_of_routes<R: Print + AllocGlobal>(teller: &mut Teller<'_, R>) {
+    tell_sought(teller, "Router::route", b"u@example.net", routes_to_a_host);
+    tell_sought(
+        teller,
+        "Router::route, exchangers",
+        b"u@a.b.example.net",
+        routes_to_exchangers,
+    );
+    tell_sought(teller, "Router::route_to", b"joe", routes_to_a_nexthop);
+    tell_sought(teller, "Router::route_via", b"joe", routes_a_mailbox);
+    tell_sought(
+        teller,
+        "Router::destination",
+        b"u@a.b.example.net",
+        finds_a_destination,
+    );
+    tell_sought(
         teller,
         "Router::destination_via",
-        finds_a_mailboxs_destination(alloc)
+        b"joe",
+        finds_a_mailboxs_destination,
     );
+}
+
+pub(crate) fn tell<R: Print + AllocGlobal>(teller: &mut Teller<'_, R>) {
+    tell_of_transports(teller);
+    tell_of_exchangers(teller);
+    tell_of_routers(teller);
+    tell_of_routes(teller);
+    let alloc = teller.rt.alloc();
     case!(
         teller,
         "Destination::looked_up_name",
         finds_a_looked_up_name(alloc)
     );
-}
-
-pub(crate) fn tell<R: Print + AllocGlobal>(teller: &mut Teller<'_, R>) {
-    tell_of_tables(teller);
-    tell_of_routes(teller);
-    tell_of_destinations(teller);
 }

@@ -1,15 +1,57 @@
 //! Sets of keys and of texts, numbered in the order in which they came.
-use growth_answers::{Answer, Seen, Teller, Unready, call, case, judged, twice};
+ghost use Rattle.std.specs.Prelude.{◌≤◌, ◌-◌, ◌^◌};
+
+use crate::lending::made;
+use growth_answers::{Answer, Seen, Teller, Unready, case, lent_mut, twice};
 use relay_chains::{ChainFault, Chains, Interner, Key, Links};
 use std::alloc::Global;
 
 /// What a new or known key or text answers.
 type Inserted = Result<(u32, bool), ChainFault>;
 
-fn makes_chains(alloc: Global) -> Result<Answer, Unready> {
+/// Keys, of which the last one finds no room among two.
+const FEW_KEYS: [(Key, Inserted); 4] = [
+    (7, Ok((0, true))),
+    (9, Ok((1, true))),
+    (7, Ok((0, false))),
+    (8, Err(ChainFault::Full)),
+];
+
+/// So many that the nodes grow where there are some.
+const MORE_KEYS: [(Key, Inserted); 9] = [
+    (0, Ok((0, true))),
+    (3, Ok((1, true))),
+    (6, Ok((2, true))),
+    (9, Ok((3, true))),
+    (12, Ok((4, true))),
+    (15, Ok((5, true))),
+    (18, Ok((6, true))),
+    (21, Ok((7, true))),
+    (24, Ok((8, true))),
+];
+
+/// Texts, of which the last one finds no room among two.
+const FEW_TEXTS: [(&[u8], Inserted); 4] = [
+    (b"g", Ok((0, true))),
+    (b"i", Ok((1, true))),
+    (b"g", Ok((0, false))),
+    (b"h", Err(ChainFault::Full)),
+];
+
+/// So many that nodes and bytes grow where there are some, and not at once.
+const MORE_TEXTS: [(&[u8], Inserted); 6] = [
+    (b"joe", Ok((0, true))),
+    (b"kim@x", Ok((1, true))),
+    (b"", Ok((2, true))),
+    (b"l", Ok((3, true))),
+    (b"owner-club", Ok((4, true))),
+    (b"editor@example.com", Ok((5, true))),
+];
+
+fn makes_chains(alloc: Global) -> Answer {
     match Chains::new(alloc, 2, 2) {
-        Ok(set) => Ok(Answer::given(set.is_empty())),
-        Err(_) => Ok(Answer::Refused),
+        Ok(set) => Answer::given(set.is_empty()),
+        Err(_) => Answer::Refused,
     }
 }
 
@@ -43,43 +85,40 @@ fn inserts(set: &mut Chains, keys: &[(Key, Inserted)]) -> Seen {
     seen
 }
 
-fn inserts_keys(alloc: Global) -> Result<Seen, Unready> {
-    let mut set = Chains::new(alloc, 2, 2)?;
-    let seen = inserts(
-        &mut set,
-        &[
-            (7, Ok((0, true))),
-            (9, Ok((1, true))),
-            (7, Ok((0, false))),
-            (8, Err(ChainFault::Full)),
-        ],
-    );
-    let are_right = set.find(9) == Some(1) && set.find(8).is_none() && set.get(1) == Some(9);
-    if seen.is_answered() && !are_right {
-        return Ok(Seen::Wrong);
-    }
-    Ok(seen)
-}
-
-/// So many that the nodes grow where there are some.
-fn inserts_more_keys(alloc: Global) -> Result<Seen, Unready> {
-    let mut set = Chains::new(alloc, 2, 9)?;
-    let mut seen = Seen::Answered;
-    for number in 0..9u32 {
-        let key = u64::from(number) * 3;
-        seen = seen.max(inserts(&mut set, &[(key, Ok((number, true)))]));
-        if !seen.is_answered() {
-            return Ok(seen);
+/// Whether a set has each key under its number, and none that found no room.
+fn has_keys(set: &Chains, keys: &[(Key, Inserted)]) -> bool {
+    for (key, wanted) in keys {
+        let is_right = match wanted {
+            Ok((number, _)) => set.find(*key) == Some(*number) && set.get(*number) == Some(*key),
+            Err(_) => set.find(*key).is_none(),
+        };
+        if !is_right {
+            return false;
         }
     }
-    let are_right = (0..9u32).all(|number| set.get(number) == Some(u64::from(number) * 3));
-    Ok(seen.max(Seen::at_once(Answer::given(are_right))))
+    true
 }
 
-fn makes_an_interner(alloc: Global) -> Result<Answer, Unready> {
+/// How keys go into a set of room for so many.
+fn inserts_keys(alloc: Global, limit: usize, keys: &[(Key, Inserted)]) -> Result<Seen, Unready>
+    requires { limit ≤ 2 ^ 32 - 2 }
+{
+    let set = Chains::new(alloc, 2, limit)?;
+    lent_mut(set, |set| Ok(inserts_all(set, keys)))
+}
+
+fn inserts_all(set: &mut Chains, keys: &[(Key, Inserted)]) -> Seen {
+    let seen = inserts(set, keys);
+    if seen.is_answered() && !has_keys(set, keys) {
+        return Seen::Wrong;
+    }
+    seen
+}
+
+fn makes_an_interner(alloc: Global) -> Answer {
     match Interner::new(alloc, 2, 2) {
-        Ok(set) => Ok(Answer::given(set.is_empty())),
-        Err(_) => Ok(Answer::Refused),
+        Ok(set) => Answer::given(set.is_empty()),
+        Err(_) => Answer::Refused,
     }
 }
 
@@ -108,48 +147,36 @@ fn interns(set: &mut Interner, texts: &[(&[u8], Inserted)]) -> Seen {
     seen
 }
 
-fn interns_texts(alloc: Global) -> Result<Seen, Unready> {
-    let mut set = Interner::new(alloc, 2, 2)?;
-    let seen = interns(
-        &mut set,
-        &[
-            (b"g", Ok((0, true))),
-            (b"i", Ok((1, true))),
-            (b"g", Ok((0, false))),
-            (b"h", Err(ChainFault::Full)),
-        ],
-    );
-    let are_right = set.find(b"i") == Some(1)
-        && set.find(b"h").is_none()
-        && set.text(1).is_some_and(|text| text == b"i".as_slice());
-    if seen.is_answered() && !are_right {
-        return Ok(Seen::Wrong);
-    }
-    Ok(seen)
-}
-
-/// So many that nodes and bytes grow where there are some, and not at once.
-fn interns_more_texts(alloc: Global) -> Result<Seen, Unready> {
-    let mut set = Interner::new(alloc, 2, 6)?;
-    let texts: [&[u8]; 6] = [
-        b"joe",
-        b"kim@x",
-        b"",
-        b"l",
-        b"owner-club",
-        b"editor@example.com",
-    ];
-    let mut seen = Seen::Answered;
-    for (number, text) in texts.iter().enumerate() {
-        seen = seen.max(interns(&mut set, &[(*text, Ok((number as u32, true)))]));
-        if !seen.is_answered() {
-            return Ok(seen);
+/// Whether a set has each text under its number, and none that found no room.
+fn has_texts(set: &Interner, texts: &[(&[u8], Inserted)]) -> bool {
+    for (text, wanted) in texts {
+        let is_right = match wanted {
+            Ok((number, _)) => {
+                set.find(text) == Some(*number) && set.text(*number) == Some(*text)
+            }
+            Err(_) => set.find(text).is_none(),
+        };
+        if !is_right {
+            return false;
         }
     }
-    let are_right = texts.iter().enumerate().all(|(number, text)| set
-        .text(number as u32)
-        .is_some_and(|found| found == *text));
-    Ok(seen.max(Seen::at_once(Answer::given(are_right))))
+    true
+}
+
+/// How texts go into a set of room for so many.
+fn interns_texts(alloc: Global, limit: usize, texts: &[(&[u8], Inserted)]) -> Result<Seen, Unready>
+    requires { limit ≤ 2 ^ 32 - 2 }
+{
+    let set = Interner::new(alloc, 2, limit)?;
+    lent_mut(set, |set| Ok(interns_all(set, texts)))
+}
+
+fn interns_all(set: &mut Interner, texts: &[(&[u8], Inserted)]) -> Seen {
+    let seen = interns(set, texts);
+    if seen.is_answered() && !has_texts(set, texts) {
+        return Seen::Wrong;
+    }
+    seen
 }
 
 /// Each hash by the word of its newest number, which is that number and one more.
@@ -157,28 +184,33 @@ fn are_linked(links: &Links) -> bool {
     links.len() == 3 && links.newest(7) == 3 && links.newest(9) == 2 && links.newest(8) == 0
 }
 
-fn links_hashes(alloc: Global) -> Result<Answer, Unready> {
-    match Links::of(alloc, &[7, 9, 7]) {
-        Ok(links) => Ok(judged(links, are_linked)),
-        Err(_) => Ok(Answer::Refused),
-    }
+fn links_hashes(alloc: Global) -> Answer {
+    made(Links::of(alloc, &[7, 9, 7]), are_linked)
 }
 
 pub(crate) fn tell<R: Print + AllocGlobal>(teller: &mut Teller<'_, R>) {
     let alloc = teller.rt.alloc();
-    call!(teller, "Chains::new", makes_chains(alloc));
-    case!(teller, "Chains::insert", inserts_keys(alloc));
+    case!(teller, "Chains::new", Ok(twice!(makes_chains(alloc))));
+    case!(teller, "Chains::insert", inserts_keys(alloc, 2, &FEW_KEYS));
     case!(
         teller,
         "Chains::insert, nine keys",
-        inserts_more_keys(alloc)
+        inserts_keys(alloc, 9, &MORE_KEYS)
     );
-    call!(teller, "Interner::new", makes_an_interner(alloc));
-    case!(teller, "Interner::intern", interns_texts(alloc));
+    case!(
+        teller,
+        "Interner::new",
+        Ok(twice!(makes_an_interner(alloc)))
+    );
+    case!(
+        teller,
+        "Interner::intern",
+        interns_texts(alloc, 2, &FEW_TEXTS)
+    );
     case!(
         teller,
         "Interner::intern, six texts",
-        interns_more_texts(alloc)
+        interns_texts(alloc, 6, &MORE_TEXTS)
     );
-    call!(teller, "Links::of", links_hashes(alloc));
+    case!(teller, "Links::of", Ok(twice!(links_hashes(alloc))));
 }

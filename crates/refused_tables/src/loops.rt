@@ -3,11 +3,12 @@ ghost use Rattle.std.specs.Prelude.{◌≡◌, length, IfOk};
 ghost use Rattle.std.specs.List.{range_with_len};
 ghost use Rattle.relay_loops.specs.Loops.{IsClosedPart};
 
-use crate::tables::tables;
-use growth_answers::{Answer, Seen, Teller, Unready, case, lent, twice};
+use crate::inputs::graph;
+use crate::lending::lent_input;
+use growth_answers::{Answer, Seen, Teller, Unready, case, twice};
 use relay_loops::{on_loops, whole_graphs};
 use relay_rounds::NoGate;
-use relay_tables::{Graph, Tables};
+use relay_tables::Graph;
 use std::alloc::Global;
 use std::thread::Threads;
 
@@ -55,24 +56,15 @@ fn finds_its_loops<R: Threads + Sync>(
     Ok(twice!(are_loops(rt, alloc, graph, &nodes, wanted)))
 }
 
-fn graph_of(alloc: Global, tables: &Tables) -> Result<Graph, Unready> {
-    let graph = Graph::build(alloc, tables, None, &[], 1000, 0)?;
-    Ok(graph)
-}
-
-fn graph(alloc: Global, aliases: &[u8]) -> Result<Graph, Unready> {
-    let tables = tables(alloc, false, aliases)?;
-    lent(tables, |tables| graph_of(alloc, tables))
-}
-
 fn finds_loops<R: Threads + Sync>(
     rt: &R,
     alloc: Global,
     aliases: &[u8],
     wanted: &[u32],
 ) -> Result<Seen, Unready> {
-    let graph = graph(alloc, aliases)?;
-    lent(graph, |graph| finds_its_loops(rt, alloc, graph, wanted))
+    lent_input(graph(alloc, aliases, b"a"), |graph| {
+        finds_its_loops(rt, alloc, graph, wanted)
+    })
 }
 
 pub(crate) fn tell<R: Print + AllocGlobal + Threads + Sync>(teller: &mut Teller<'_, R>) {

@@ -4,6 +4,9 @@
 
 mod chains;
 mod claims;
+mod graphs;
+mod inputs;
+mod lending;
 mod loops;
 mod pairs;
 mod rings;
@@ -14,6 +17,7 @@ mod trails;
 use growth_answers::{DONE, Teller};
 use std::env;
 use std::process::ExitCode;
+use std::thread::Threads;
 
 fn main(rt: HostRuntime) -> ExitCode {
     let Ok(words) = env::args(&rt) else {
@@ -21,14 +25,20 @@ fn main(rt: HostRuntime) -> ExitCode {
         return ExitCode::from(DONE);
     };
     let name = words.skip(1).next();
-    let mut teller = Teller::new(&rt, name.as_ref().map(|name| name.as_str()));
+    ExitCode::from(told(&rt, name.as_deref()))
+}
+
+/// The status after the one call of this name, or after all calls.
+fn told<R: Print + AllocGlobal + Threads + Sync>(rt: &R, asked: Option<&str>) -> u8 {
+    let mut teller = Teller::new(rt, asked);
     chains::tell(&mut teller);
     rings::tell(&mut teller);
     claims::tell(&mut teller);
     rounds::tell(&mut teller);
     tables::tell(&mut teller);
+    graphs::tell(&mut teller);
     pairs::tell(&mut teller);
     loops::tell(&mut teller);
     trails::tell(&mut teller);
-    ExitCode::from(teller.status())
+    teller.status()
 }

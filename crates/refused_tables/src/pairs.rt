@@ -1,32 +1,14 @@
 //! Which senders and nodes a message reaches.
 ghost use Rattle.relay_pairs.specs.Pairs.{ArePairs};
 
-use crate::tables::{Message, OWNED, message_to, tables};
-use growth_answers::{Answer, Seen, Teller, Unready, case, lent, twice};
+use crate::inputs::{OWNED, graph};
+use crate::lending::lent_input;
+use growth_answers::{Answer, Seen, Teller, Unready, case, twice};
 use relay_pairs::{Reached, Search, reached_nodes, reached_pairs};
 use relay_rounds::{NoGate, ReachFault};
-use relay_tables::{Graph, Tables};
+use relay_tables::Graph;
 use std::alloc::Global;
 use std::thread::Threads;
-
-fn graph_of(alloc: Global, tables: &Tables, message: &Message) -> Result<Graph, Unready> {
-    let graph = Graph::build(
-        alloc,
-        tables,
-        Some(&message.sender),
-        &message.recipients,
-        1000,
-        10,
-    )?;
-    Ok(graph)
-}
-
-/// The graph of a message from `a@example.com` to the list `outer`.
-pub(crate) fn graph(alloc: Global) -> Result<Graph, Unready> {
-    let message = message_to(alloc, b"outer")?;
-    let tables = tables(alloc, false, OWNED)?;
-    lent(tables, |tables| graph_of(alloc, tables, &message))
-}
 
 const fn pair(sender: u32, node: u32) -> Reached {
     Reached { sender, node }
@@ -47,8 +29,9 @@ fn are_reached<R: Threads + Sync>(rt: &R, alloc: Global, graph: &Graph) -> Answe
 }
 
 fn reaches_pairs<R: Threads + Sync>(rt: &R, alloc: Global) -> Result<Seen, Unready> {
-    let graph = graph(alloc)?;
-    lent(graph, |graph| Ok(twice!(are_reached(rt, alloc, graph))))
+    lent_input(graph(alloc, OWNED, b"outer"), |graph| {
+        Ok(twice!(are_reached(rt, alloc, graph)))
+    })
 }
 
 /// The list is the first node, and the only recipient's target.
@@ -76,8 +59,9 @@ fn are_reached_from_list<R: Threads + Sync>(rt: &R, alloc: Global, graph: &Graph
 }
 
 fn reaches_pairs_of_a_recipient<R: Threads + Sync>(rt: &R, alloc: Global) -> Result<Seen, Unready> {
-    let graph = graph(alloc)?;
-    lent(graph, |graph| Ok(are_reached_from_list(rt, alloc, graph)))
+    lent_input(graph(alloc, OWNED, b"outer"), |graph| {
+        Ok(are_reached_from_list(rt, alloc, graph))
+    })
 }
 
 fn are_nodes(alloc: Global, graph: &Graph, pairs: &[Reached]) -> Answer
@@ -99,8 +83,9 @@ fn lists_its_nodes<R: Threads + Sync>(
 }
 
 fn lists_nodes<R: Threads + Sync>(rt: &R, alloc: Global) -> Result<Seen, Unready> {
-    let graph = graph(alloc)?;
-    lent(graph, |graph| lists_its_nodes(rt, alloc, graph))
+    lent_input(graph(alloc, OWNED, b"outer"), |graph| {
+        lists_its_nodes(rt, alloc, graph)
+    })
 }
 
 pub(crate) fn tell<R: Print + AllocGlobal + Threads + Sync>(teller: &mut Teller<'_, R>) {

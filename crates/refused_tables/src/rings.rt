@@ -1,7 +1,8 @@
 //! Lists per destination, and transactions within limits.
 ghost use Rattle.std.specs.Prelude.{◌≡◌, ◌<◌, length};
 
-use growth_answers::{Answer, Seen, Teller, Unready, call, case};
+use crate::lending::made;
+use growth_answers::{Answer, Seen, Teller, Unready, case, twice};
 use relay_rings::{Placed, RingFault, Rings, Transaction, batches};
 use std::alloc::Global;
 
@@ -44,10 +45,10 @@ const STEPS: [Step; 5] = [
     },
 ];
 
-fn makes_rings(alloc: Global) -> Result<Answer, Unready> {
+fn makes_rings(alloc: Global) -> Answer {
     match Rings::new(alloc, 3, 3) {
-        Ok(rings) => Ok(Answer::given(are_lists(&rings, &NONE))),
-        Err(_) => Ok(Answer::Refused),
+        Ok(rings) => Answer::given(are_lists(&rings, &NONE)),
+        Err(_) => Answer::Refused,
     }
 }
 
@@ -90,29 +91,43 @@ fn appended_at_last(rings: &mut Rings, next: &Step, before: &[&[u32]; 3]) -> See
     }
 }
 
-fn appends(alloc: Global) -> Result<Seen, Unready> {
-    let mut rings = Rings::new(alloc, 3, 5)?;
+/// Takes the steps in turn.
+fn takes_steps(rings: &mut Rings) -> Seen
+    requires { length rings.old.lists ≡ 3 }
+    ensures { length rings.new.lists ≡ 3 }
+{
     let mut seen = Seen::Answered;
     let mut before = NONE;
     for next in &STEPS {
-        seen = seen.max(appended_at_last(&mut rings, next, &before));
+        seen = seen.max(appended_at_last(rings, next, &before));
         if !seen.is_answered() {
-            return Ok(seen);
+            return seen;
         }
         before = next.lists;
     }
-    if rings.append(1, 4) != Err(RingFault::Full) || !are_lists(&rings, &before) {
-        return Ok(Seen::Wrong);
-    }
-    Ok(seen)
+    seen
+}
+
+/// Whether nothing more is appended behind the last step.
+fn are_full(rings: &mut Rings) -> bool
+    requires { length rings.old.lists ≡ 3 }
+{
+    rings.append(1, 4) == Err(RingFault::Full) && are_lists(rings, &STEPS[4].lists)
+}
+
+fn appends(alloc: Global) -> Result<Seen, Unready> {
+    let mut rings = Rings::new(alloc, 3, 5)?;
+    let seen = takes_steps(&mut rings);
+    let is_wrong = seen.is_answered() && !are_full(&mut rings);
+    Ok(if is_wrong { Seen::Wrong } else { seen })
 }
 
 fn is_transaction(transaction: &Transaction, key: u32, items: &[u32]) -> bool {
     transaction.key == key && transaction.items.as_slice() == items
 }
 
-fn are_batches(made: &[Transaction]) -> bool {
-    match made {
+fn are_batches(batches: &Vec<Transaction>) -> bool {
+    match batches.as_slice() {
         [first, second, third] => {
             is_transaction(first, 0, &[1, 2])
                 && is_transaction(second, 0, &[3])
@@ -128,17 +143,14 @@ fn at(key: u32, item: u32) -> Placed
     Placed { key, item }
 }
 
-fn cuts_batches(alloc: Global) -> Result<Answer, Unready> {
+fn cuts_batches(alloc: Global) -> Answer {
     let placed = [at(0, 1), at(0, 2), at(0, 3), at(2, 1)];
-    match batches(alloc, &placed, &[2, 2, 2]) {
-        Ok(made) => Ok(Answer::given(are_batches(&made))),
-        Err(_) => Ok(Answer::Refused),
-    }
+    made(batches(alloc, &placed, &[2, 2, 2]), are_batches)
 }
 
 pub(crate) fn tell<R: Print + AllocGlobal>(teller: &mut Teller<'_, R>) {
     let alloc = teller.rt.alloc();
-    call!(teller, "Rings::new", makes_rings(alloc));
+    case!(teller, "Rings::new", Ok(twice!(makes_rings(alloc))));
     case!(teller, "Rings::append", appends(alloc));
-    call!(teller, "batches", cuts_batches(alloc));
+    case!(teller, "batches", Ok(twice!(cuts_batches(alloc))));
 }

@@ -3,7 +3,7 @@ ghost use Rattle.std.specs.Prelude.{◌+◌, ◌*◌, ◌%◌, ◌≤◌, ◌^�
 ghost use Rattle.std.proofs.Common.{rules};
 ghost use Rattle.std.proofs.lemmas.Grind.{common_steps};
 
-use growth_answers::{Answer, Teller, Unready, call};
+use growth_answers::{Answer, Teller, case, twice};
 use relay_rounds::{Key, NoGate, ReachFault, Steps, reach};
 use std::alloc::Global;
 use std::thread::Threads;
@@ -38,25 +38,29 @@ fn reached<R: Threads + Sync>(rt: &R, alloc: Global, limit: usize) -> Result<Vec
     reach(rt, alloc, &Tenths, &[1, 1], 2, 1, limit, &NoGate)
 }
 
-fn reaches_all<R: Threads + Sync>(rt: &R, alloc: Global) -> Result<Answer, Unready> {
+fn reaches_all<R: Threads + Sync>(rt: &R, alloc: Global) -> Answer {
     match reached(rt, alloc, 10) {
-        Ok(keys) => Ok(Answer::given(keys.as_slice() == [0, 1, 2, 3, 4, 5, 6, 7, 8, 9].as_slice())),
-        Err(ReachFault::Memory) => Ok(Answer::Refused),
-        Err(ReachFault::TooManyPairs) => Ok(Answer::Wrong),
+        Ok(keys) => Answer::given(keys.as_slice() == [0, 1, 2, 3, 4, 5, 6, 7, 8, 9].as_slice()),
+        Err(ReachFault::Memory) => Answer::Refused,
+        Err(ReachFault::TooManyPairs) => Answer::Wrong,
     }
 }
 
-fn reaches_too_many<R: Threads + Sync>(rt: &R, alloc: Global) -> Result<Answer, Unready> {
+fn reaches_too_many<R: Threads + Sync>(rt: &R, alloc: Global) -> Answer {
     match reached(rt, alloc, 9) {
-        Ok(_) => Ok(Answer::Wrong),
-        Err(ReachFault::Memory) => Ok(Answer::Refused),
-        Err(ReachFault::TooManyPairs) => Ok(Answer::Right),
+        Ok(_) => Answer::Wrong,
+        Err(ReachFault::Memory) => Answer::Refused,
+        Err(ReachFault::TooManyPairs) => Answer::Right,
     }
 }
 
 pub(crate) fn tell<R: Print + AllocGlobal + Threads + Sync>(teller: &mut Teller<'_, R>) {
     let rt = teller.rt;
     let alloc = rt.alloc();
-    call!(teller, "reach", reaches_all(rt, alloc));
-    call!(teller, "reach, too many keys", reaches_too_many(rt, alloc));
+    case!(teller, "reach", Ok(twice!(reaches_all(rt, alloc))));
+    case!(
+        teller,
+        "reach, too many keys",
+        Ok(twice!(reaches_too_many(rt, alloc)))
+    );
 }

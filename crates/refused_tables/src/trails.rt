@@ -2,8 +2,9 @@
 ghost use Rattle.std.specs.Prelude.{◌<◌, length, All};
 ghost use Rattle.relay_pairs.specs.Pairs.{ArePairs};
 
-use crate::pairs::graph;
-use growth_answers::{Answer, Seen, Teller, Unready, case, lent, twice};
+use crate::inputs::{OWNED, graph};
+use crate::lending::lent_input;
+use growth_answers::{Answer, Seen, Teller, Unready, case, twice};
 use relay_pairs::{Reached, reached_pairs};
 use relay_rounds::NoGate;
 use relay_tables::Graph;
@@ -48,8 +49,9 @@ fn finds_its_trails<R: Threads + Sync>(
 }
 
 fn finds_trails<R: Threads + Sync>(rt: &R, alloc: Global) -> Result<Seen, Unready> {
-    let graph = graph(alloc)?;
-    lent(graph, |graph| finds_its_trails(rt, alloc, graph))
+    lent_input(graph(alloc, OWNED, b"outer"), |graph| {
+        finds_its_trails(rt, alloc, graph)
+    })
 }
 
 pub(crate) fn tell<R: Print + AllocGlobal + Threads + Sync>(teller: &mut Teller<'_, R>) {

@@ -24,13 +24,17 @@ fn is_include(item: &Item, path: &[u8]) -> bool {
     matches!(item, Item::Include(text) if text.as_bytes() == path)
 }
 
+fn are_joe(items: &[Item]) -> bool {
+    matches!(items, [item] if is_bare(item, b"joe"))
+}
+
 fn are_entries(entries: &[Entry]) -> bool {
     match entries {
         [first, second] => {
             first.name.as_bytes() == b"c".as_slice()
                 && first.items.is_empty()
                 && second.name.as_bytes() == b"d".as_slice()
-                && matches!(second.items.as_slice(), [item] if is_bare(item, b"joe"))
+                && are_joe(second.items.as_slice())
         }
         _ => false,
     }

@@ -1,4 +1,5 @@
 //! What is asked for, a step, and why kim is not reached: a list that would lead there is not.
+use crate::inputs::{both, one};
 use crate::texts::LONG;
 use growth_answers::inputs::{address, is_address};
 use growth_answers::{Answer, Seen, Teller, Unready, call, case, judged, lent, twice};
@@ -6,7 +7,7 @@ use relay_explain::{
     Asked, Entry, Listed, Mention, Step, Target, Telling, put_alias_step, telling_text,
 };
 use relay_text::{Seq, Text, TextFault};
-use std::alloc::{AllocError, Global};
+use std::alloc::Global;
 
 const EXPLANATION: &[u8] = b"explain kim answers 0\n\
     unreached alias club line 3 item 2 kim\n\
@@ -44,31 +45,48 @@ fn copies_what_is_asked(alloc: Global) -> Result<Seen, Unready> {
     lent(asked, |asked| Ok(twice!(is_copied(alloc, asked))))
 }
 
-fn kim(alloc: Global) -> Result<Text, AllocError> {
-    Text::copy_of(alloc, b"kim")
+fn kim(alloc: Global) -> Result<Text, Unready> {
+    Ok(Text::copy_of(alloc, b"kim")?)
+}
+
+fn missing_kim(alloc: Global) -> Result<Target, Unready> {
+    Ok(Target::Missing(kim(alloc)?))
+}
+
+fn club(alloc: Global) -> Result<Text, Unready> {
+    Ok(Text::copy_of(alloc, b"club")?)
 }
 
 /// The item of a list that nobody writes to.
-fn listed(alloc: Global) -> Result<Listed, AllocError> {
+fn listed(alloc: Global) -> Result<Listed, Unready> {
+    let (club, kim) = both(club(alloc), kim(alloc))?;
     Ok(Listed {
-        entry: Entry::Alias(Text::copy_of(alloc, b"club")?),
+        entry: Entry::Alias(club),
         line: 3,
         item: 2,
-        text: kim(alloc)?,
+        text: kim,
     })
 }
 
+fn asked_for_kim(alloc: Global) -> Result<Asked, Unready> {
+    Ok(Asked::Name(address(alloc, b"kim")?))
+}
+
+fn unreached(alloc: Global) -> Result<Vec<Listed>, Unready> {
+    let listed = one(alloc, listed(alloc)?)?;
+    Ok(listed)
+}
+
 fn telling(alloc: Global) -> Result<Telling, Unready> {
-    let name = address(alloc, b"kim")?;
-    let target = kim(alloc)?;
-    let stands_for = kim(alloc)?;
-    let unreached = Vec::from_array(alloc, [listed(alloc)?])?;
+    let targets = both(missing_kim(alloc), missing_kim(alloc));
+    let ends = both(asked_for_kim(alloc), unreached(alloc));
+    let ((target, stands_for), (asked, unreached)) = both(targets, ends)?;
     Ok(Telling {
-        asked: Asked::Name(name),
-        target: Target::Missing(target),
+        asked,
+        target,
         decision: None,
         answers: Seq::of(Vec::new(alloc)),
-        stands_for: Target::Missing(stands_for),
+        stands_for,
         unreached: Seq::of(unreached),
     })
 }
@@ -85,16 +103,25 @@ fn writes_what_is_told(alloc: Global) -> Result<Answer, Unready> {
     })
 }
 
-fn writes_a_step(alloc: Global) -> Result<Answer, Unready> {
-    let step = Step {
-        mention: Mention::Item(listed(alloc)?),
-        target: Target::Missing(kim(alloc)?),
-    };
+fn step(alloc: Global) -> Result<Step, Unready> {
+    let (listed, target) = both(listed(alloc), missing_kim(alloc))?;
+    Ok(Step {
+        mention: Mention::Item(listed),
+        target,
+    })
+}
+
+fn is_step(alloc: Global, step: &Step) -> Answer {
     let mut line = Vec::new(alloc);
-    Ok(match step.put_line(&mut line) {
+    match step.put_line(&mut line) {
         Ok(()) => Answer::given(line.as_slice() == STEP),
         Err(_) => Answer::Refused,
-    })
+    }
+}
+
+fn writes_a_step(alloc: Global) -> Result<Answer, Unready> {
+    let step = step(alloc)?;
+    lent(step, |step| Ok(is_step(alloc, step)))
 }
 
 fn writes_a_step_between_aliases(alloc: Global) -> Result<Answer, Unready> {

@@ -4,6 +4,7 @@
 
 mod alias_files;
 mod explained;
+mod inputs;
 mod places;
 mod returned;
 mod texts;
@@ -13,6 +14,7 @@ mod words;
 use growth_answers::{DONE, Teller};
 use std::env;
 use std::process::ExitCode;
+use std::thread::Threads;
 
 fn main(rt: HostRuntime) -> ExitCode {
     let Ok(words) = env::args(&rt) else {
@@ -20,7 +22,12 @@ fn main(rt: HostRuntime) -> ExitCode {
         return ExitCode::from(DONE);
     };
     let name = words.skip(1).next();
-    let mut teller = Teller::new(&rt, name.as_ref().map(|name| name.as_str()));
+    ExitCode::from(told(&rt, name.as_deref()))
+}
+
+/// The status after the one call of this name, or after all calls.
+fn told<R: Print + AllocGlobal + Threads + Sync>(rt: &R, asked: Option<&str>) -> u8 {
+    let mut teller = Teller::new(rt, asked);
     texts::tell(&mut teller);
     alias_files::tell(&mut teller);
     wire::tell(&mut teller);
@@ -28,5 +35,5 @@ fn main(rt: HostRuntime) -> ExitCode {
     returned::tell(&mut teller);
     places::tell(&mut teller);
     explained::tell(&mut teller);
-    ExitCode::from(teller.status())
+    teller.status()
 }

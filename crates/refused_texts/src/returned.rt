@@ -1,10 +1,11 @@
 //! What is returned behind a plan of one transaction: that kim, to whom `a@example.net` wrote too, isn't known.
+use crate::inputs::{one, texts};
 use crate::wire::{is_written, plan};
 use growth_answers::inputs::address;
 use growth_answers::{Answer, Seen, Teller, Unready, call, case, judged, lent, twice};
 use relay_ordering::in_order;
 use relay_returns::{Return, return_line, returned_plan_text, returned_wire_text};
-use relay_text::{Address, Seq, Text};
+use relay_text::{Address, Seq};
 use relay_wire::Plan;
 use std::alloc::Global;
 
@@ -35,15 +36,18 @@ const COMMANDS: &[u8] = b"plan 1 transactions 1 recipients 0 findings\n\
     missing kim in envelope for <kim@example.org>\n\
     end\n";
 
-fn blocks(alloc: Global) -> Result<Vec<Return>, Unready> {
-    let line = Text::copy_of(alloc, LINE)?;
-    let lines = Vec::from_array(alloc, [line])?;
+fn block(alloc: Global) -> Result<Return, Unready> {
+    let lines = texts(alloc, &[LINE])?;
     let sender = address(alloc, b"a@example.net")?;
-    let block = Return {
+    Ok(Return {
         sender: Some(sender),
         lines: Seq::of(lines),
-    };
-    Ok(Vec::from_array(alloc, [block])?)
+    })
+}
+
+fn blocks(alloc: Global) -> Result<Vec<Return>, Unready> {
+    let block = block(alloc)?;
+    Ok(one(alloc, block)?)
 }
 
 fn is_line(alloc: Global, recipient: &Address) -> Answer {

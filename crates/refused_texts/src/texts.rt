@@ -1,4 +1,5 @@
 //! Addresses, names and lines of text.
+use crate::inputs::texts;
 use growth_answers::inputs::{address, are_texts, is_address};
 use growth_answers::{Answer, Seen, Teller, Unready, call, case, judged, lent, lent_mut, twice};
 use relay_text::{
@@ -195,14 +196,6 @@ fn joins_a_line(alloc: Global) -> Result<Seen, Unready> {
     Ok(twice!(next_line(&mut lines, &mut joined)))
 }
 
-fn three_texts(alloc: Global) -> Result<Vec<Text>, Unready> {
-    let first = Text::copy_of(alloc, b"b")?;
-    let second = Text::copy_of(alloc, b"a")?;
-    let third = Text::copy_of(alloc, b"b")?;
-    let texts = Vec::from_array(alloc, [first, second, third])?;
-    Ok(texts)
-}
-
 fn are_in_order(alloc: Global, texts: &[Text]) -> Answer {
     match TextSet::of(alloc, texts) {
         Ok(set) => judged(set, |set| {
@@ -213,7 +206,7 @@ fn are_in_order(alloc: Global, texts: &[Text]) -> Answer {
 }
 
 fn puts_texts_in_order(alloc: Global) -> Result<Answer, Unready> {
-    let texts = three_texts(alloc)?;
+    let texts = texts(alloc, &[b"b", b"a", b"b"])?;
     lent(texts, |texts| Ok(are_in_order(alloc, texts)))
 }
 

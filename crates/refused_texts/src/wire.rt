@@ -1,4 +1,5 @@
 //! The texts of a plan of one transaction, from `a@example.net` to joe's mailbox.
+use crate::inputs::{both, one};
 use growth_answers::inputs::{address, is_address};
 use growth_answers::{Answer, Seen, Teller, Unready, call, case, judged, lent, twice};
 use relay_routes::{Hosts, Transport};
@@ -8,6 +9,7 @@ use relay_wire::{
     plan_text, read_script, script, wire_text,
 };
 use std::alloc::{AllocError, Global};
+use std::slice;
 
 const HOSTNAME: &[u8] = b"relay.example.org";
 
@@ -36,20 +38,26 @@ const SCRIPT: &[u8] = b"LHLO relay.example.org\r\n\
     DATA\r\n";
 
 fn to_joe(alloc: Global) -> Result<Vec<Address>, Unready> {
-    let to = Vec::from_array(alloc, [address(alloc, b"joe")?])?;
+    let to = one(alloc, address(alloc, b"joe")?)?;
     Ok(to)
 }
 
-fn hosts(alloc: Global) -> Result<Hosts, AllocError> {
-    let host = Text::copy_of(alloc, b"unix:mbox")?;
-    Hosts::one(alloc, host)
+fn socket(alloc: Global) -> Result<Text, Unready> {
+    Ok(Text::copy_of(alloc, b"unix:mbox")?)
+}
+
+fn hosts(alloc: Global) -> Result<Hosts, Unready> {
+    Ok(Hosts::one(alloc, socket(alloc)?)?)
+}
+
+fn sender(alloc: Global) -> Result<Address, Unready> {
+    Ok(address(alloc, b"a@example.net")?)
 }
 
 fn planned(alloc: Global) -> Result<Planned, Unready> {
-    let from = address(alloc, b"a@example.net")?;
-    let nexthop = Text::copy_of(alloc, b"unix:mbox")?;
-    let hosts = hosts(alloc)?;
-    let to = to_joe(alloc)?;
+    let ends = both(sender(alloc), to_joe(alloc));
+    let via = both(socket(alloc), hosts(alloc));
+    let ((from, to), (nexthop, hosts)) = both(ends, via)?;
     Ok(Planned {
         from: Some(from),
         transport: Transport::Lmtp,
@@ -60,7 +68,7 @@ fn planned(alloc: Global) -> Result<Planned, Unready> {
 }
 
 fn transactions(alloc: Global) -> Result<Vec<Planned>, Unready> {
-    let transactions = Vec::from_array(alloc, [planned(alloc)?])?;
+    let transactions = one(alloc, planned(alloc)?)?;
     Ok(transactions)
 }
 
@@ -113,11 +121,11 @@ fn writes_a_finding(alloc: Global) -> Result<Seen, Unready> {
 }
 
 fn writes_a_check(alloc: Global) -> Result<Seen, Unready> {
-    let finding = [Text::copy_of(alloc, b"finding aliases line 1 badline")?];
-    let note = [Text::copy_of(alloc, b"note something")?];
+    let finding = Text::copy_of(alloc, b"finding aliases line 1 badline")?;
+    let note = Text::copy_of(alloc, b"note something")?;
     Ok(twice!({
         is_written(
-            check_text(alloc, &finding, &note),
+            check_text(alloc, slice::from_ref(&finding), slice::from_ref(&note)),
             b"check 1 findings 1 notes\nfinding aliases line 1 badline\nnote something\nend\n",
         )
     }))

@@ -1,4 +1,5 @@
 //! Words, lines and findings, as a plan's text has them, put behind an `x` that stands there already.
+use crate::inputs::texts;
 use growth_answers::inputs::{address, are_texts};
 use growth_answers::{Answer, Teller, Unready, call, judged};
 use relay_text::Text;
@@ -48,7 +49,7 @@ fn puts_a_count(alloc: Global) -> Result<Answer, Unready> {
 }
 
 fn puts_lines(alloc: Global) -> Result<Answer, Unready> {
-    let lines = [Text::copy_of(alloc, b"a")?, Text::copy_of(alloc, b"b")?];
+    let lines = texts(alloc, &[b"a", b"b"])?;
     let mut out = Vec::from_slice(alloc, b"x")?;
     let answer = put_lines(&lines, &mut out);
     Ok(put(answer, &out, b"xa\nb\n"))
@@ -61,10 +62,15 @@ fn puts_a_reason(alloc: Global) -> Result<Answer, Unready> {
     Ok(put(answer, &out, b"x refused gone away"))
 }
 
+/// Adds the line of a fault of the transport table.
+fn add_fault(lines: &mut FindingLines, line: usize) -> Result<(), AllocError> {
+    lines.add(&Finding::Transport(line, LineWord::Duplicate))
+}
+
 /// The lines of two findings, which are brought in the other order.
 fn added(alloc: Global) -> Result<FindingLines, AllocError> {
     let mut lines = FindingLines::new(alloc);
-    lines.add(&Finding::Transport(2, LineWord::Duplicate))?;
+    add_fault(&mut lines, 2)?;
     lines.add(&Finding::Aliases(3, LineWord::BadLine))?;
     Ok(lines)
 }
@@ -89,7 +95,7 @@ fn gathers_findings(alloc: Global) -> Result<Answer, Unready> {
 fn numbered(alloc: Global) -> Result<FindingLines, AllocError> {
     let mut lines = FindingLines::new(alloc);
     for line in 40..201 {
-        lines.add(&Finding::Transport(line, LineWord::Duplicate))?;
+        add_fault(&mut lines, line)?;
     }
     Ok(lines)
 }

@@ -1,5 +1,5 @@
 use Rattle.std.proofs.Common.{◌≡◌, length}
-use Rattle.refused_tables.proofs.rings.appends.Given as goal
+use Rattle.refused_tables.proofs.rings.takes_steps.Given as goal
 
 abbrev pub invariant-loop-next : goal.invariant-loop-next
 invariant-loop-next l = length l.rings.lists ≡ 3
