@@ -6,6 +6,8 @@ mod devices;
 #[cfg(test)]
 mod domains;
 #[cfg(test)]
+mod envelopes;
+#[cfg(test)]
 mod files;
 #[cfg(test)]
 mod gates;

@@ -12,8 +12,6 @@ pub mod joining;
 pub mod parts;
 pub mod refusal;
 pub mod section;
-#[cfg(test)]
-mod tests;
 pub mod writing;
 
 pub use counts::EnvelopeCounts;

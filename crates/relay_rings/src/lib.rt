@@ -14,8 +14,6 @@
 
 mod batching;
 mod linking;
-#[cfg(test)]
-mod tests;
 mod walking;
 
 pub use batching::{Items, Placed, Transaction, batches};

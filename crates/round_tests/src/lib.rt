@@ -1,10 +1,12 @@
-//! Tests of chains of keys and texts, and of rounds over them, from outside the crates that have them.
+//! Tests of chains of keys and texts, of rounds over them, and of rings, from outside the crates that have them.
 #![tactic(auto)]
 
 #[cfg(test)]
 mod chains;
 #[cfg(test)]
 mod compared;
+#[cfg(test)]
+mod rings;
 #[cfg(test)]
 mod rounds;
 #[cfg(test)]

@@ -1,5 +1,8 @@
-//! Worked examples: the headings of envelopes, their sections, and the lines of answers.
-use super::*;
+//! The headings of envelopes, their sections, and the lines of answers.
+use relay_envelopes::{
+    EnvelopeCounts, Refusal, envelope_id, envelopes_place, find_envelopes, put_done, put_envelope,
+    put_refusal, put_tables,
+};
 use relay_job::RunFault;
 use relay_text::Text;
 use std::test::Fail;

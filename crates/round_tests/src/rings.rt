@@ -1,11 +1,11 @@
-//! Worked examples, sizes, and refused growths: a call whose growth was refused changes nothing, and the next one answers.
+//! Rings and their batches: worked examples, sizes, and refused growths, after which nothing is changed and the next call answers.
 ghost use Rattle.std.specs.Prelude.{◌≡◌, ℕ, ◌<◌, ◌≤◌, ◌-◌, ◌^◌, ◌↔◌, length, All, IfOk, IsTrue};
 ghost use Rattle.relay_rings.specs.Batches.{comes_before, IsAscendingPlaced};
 ghost use Rattle.relay_rings.specs.RingLists.{RingLists, list_at};
 
-use crate::{Placed, RingFault, Rings, Transaction, Walk, batches};
+use crate::compared::expect;
+use relay_rings::{Placed, RingFault, Rings, Transaction, Walk, batches};
 use std::alloc::{AllocError, Global};
-use std::fmt::Debug;
 use std::process::Abort;
 use std::test::Fail;
 
@@ -57,11 +57,6 @@ fn batched(
         Ok(transactions) => Ok(transactions),
         Err(AllocError) => batches(alloc, placed, limits),
     }
-}
-
-/// Compares by value: the loans of an assertion are proved here once, and not again at each comparison.
-fn expect<T: Copy + Debug + PartialEq>(rt: &impl Abort, found: T, wanted: T) {
-    assert_eq!(rt; found, wanted);
 }
 
 fn expect_transactions(rt: &impl Abort, made: &[Transaction], wanted: &[(u32, &[u32])]) {
