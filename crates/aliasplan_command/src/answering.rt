@@ -67,27 +67,25 @@ fn explained<G: Gate, R: Threads + Sync, F: Feed, S: Sink>(
     Ok(status_where(in_plan))
 }
 
-/// What becomes of the answer to the job that a reader gives.
-fn planned<R: Print + Eprint + AllocGlobal + Threads + Sync, J: Read + Drop>(
-    rt: &R,
-    job: J,
-    options: Options,
+/// What becomes of the answer to the job that a reader gives, which is written.
+fn written<G: Gate, R: AllocGlobal + Threads + Sync, F: Feed, S: Sink>(
+    crew: &Crew<G, R>,
+    reader: &mut F,
+    writer: &mut S,
     output: Output<'_>,
 ) -> Result<Status, RunFault>
-    requires { AreOptions options }
+    requires reader { (F.has_failed reader.old ≡ false) × (F.has_ended reader.old ≡ false) }
+    requires writer { S.has_failed writer.old ≡ false }
     ensures asked { IfOk result (λ status. status ≢ Status.CommandLine) }
     ensures domains { output.entry ≡ Output.Domains → IfOk result (λ status. status ≢ Status.Found) }
 {
-    let reader = &mut Device::new(job);
-    let writer = &mut Device::new(io::writer(rt));
-    let (alloc, limits, gate) = (rt.alloc(), Limits::default(), &NoGate);
-    let crew = &Crew {
+    let Crew {
         rt,
         alloc,
         options,
         limits,
         gate,
-    };
+    } = *crew;
     let summary = match output {
         Output::Text => run(rt, alloc, reader, writer, options, limits, gate)?,
         Output::Returns => run_returns(crew, reader, writer)?,
@@ -103,6 +101,29 @@ fn planned<R: Print + Eprint + AllocGlobal + Threads + Sync, J: Read + Drop>(
         Output::Explain(asked) => return explained(crew, reader, writer, asked),
     };
     Ok(status_of(summary.findings))
+}
+
+/// What becomes of the answer to a job on standard output.
+fn planned<R: Print + Eprint + AllocGlobal + Threads + Sync, J: Read + Drop>(
+    rt: &R,
+    job: J,
+    options: Options,
+    output: Output<'_>,
+) -> Result<Status, RunFault>
+    requires { AreOptions options }
+    ensures asked { IfOk result (λ status. status ≢ Status.CommandLine) }
+    ensures domains { output.entry ≡ Output.Domains → IfOk result (λ status. status ≢ Status.Found) }
+{
+    let mut reader = Device::new(job);
+    let mut writer = Device::new(io::writer(rt));
+    let crew = Crew {
+        rt,
+        alloc: rt.alloc(),
+        options,
+        limits: Limits::default(),
+        gate: &NoGate,
+    };
+    written(&crew, &mut reader, &mut writer, output)
 }
 
 /// Answers to the job that a reader gives.
@@ -142,6 +163,32 @@ fn read_whole<R: Eprint + AllocGlobal, J: Read + Drop>(
     }
 }
 
+/// Answers to the bytes of a job, and says what of them has a fault.
+fn plan_bytes<R: Print + Eprint + AllocGlobal + Threads + Sync>(
+    rt: &R,
+    bytes: &[u8],
+    options: Options,
+    output: Output<'_>,
+) -> Status
+    requires { AreOptions options }
+    ensures asked { result ≢ Status.CommandLine }
+    ensures domains { output.entry ≡ Output.Domains → result ≢ Status.Found }
+{
+    match planned(rt, bytes, options, output) {
+        Ok(status) => {
+            if status == Status::Found && !matches!(output, Output::Explain(_)) {
+                explain_items(rt, bytes);
+            }
+            status
+        }
+        Err(fault) => {
+            let status = refused(rt, fault);
+            explain_job(rt, bytes, fault);
+            status
+        }
+    }
+}
+
 /// Answers to the job that a reader of this name gives, and says what of it has a fault. It's read whole before, so that a line is there to
 /// be said.
 fn plan_verbosely<R: Print + Eprint + AllocGlobal + Threads + Sync, J: Read + Drop>(
@@ -155,22 +202,9 @@ fn plan_verbosely<R: Print + Eprint + AllocGlobal + Threads + Sync, J: Read + Dr
     ensures asked { result ≢ Status.CommandLine }
     ensures domains { output.entry ≡ Output.Domains → result ≢ Status.Found }
 {
-    let bytes = match read_whole(rt, job, name) {
-        Ok(bytes) => bytes,
-        Err(status) => return status,
-    };
-    match planned(rt, bytes.as_slice(), options, output) {
-        Ok(status) => {
-            if status == Status::Found && !matches!(output, Output::Explain(_)) {
-                explain_items(rt, bytes.as_slice());
-            }
-            status
-        }
-        Err(fault) => {
-            let status = refused(rt, fault);
-            explain_job(rt, bytes.as_slice(), fault);
-            status
-        }
+    match read_whole(rt, job, name) {
+        Ok(bytes) => plan_bytes(rt, bytes.as_slice(), options, output),
+        Err(status) => status,
     }
 }
 
@@ -304,30 +338,30 @@ fn gather_job<R: Files + Print + Eprint + AllocGlobal>(
 /// Answers to a request: writes what is asked for on standard output, and says on standard error why it can't.
 pub fn answer<R: Input + Files + Print + Eprint + AllocGlobal + Threads + Sync>(
     rt: &R,
-    request: Request,
+    request: &Request,
 ) -> Status
-    requires { IsRequest request }
-    ensures { IsStatusOf request result }
+    requires { IsRequest request.now }
+    ensures { IsStatusOf request.now result }
 {
     match request {
         Request::Plan(options, output, path, detail) => {
-            plan_named(rt, path.as_ref(), options, output, detail)
+            plan_named(rt, path.as_ref(), *options, *output, *detail)
         }
         Request::Each(options, tables, path, detail) => {
-            answer_each_named(rt, path.as_ref(), options, tables.as_ref(), detail)
+            answer_each_named(rt, path.as_ref(), *options, tables.as_ref(), *detail)
         }
         Request::Domains(options, path, detail) => {
-            plan_named(rt, path.as_ref(), options, Output::Domains, detail)
+            plan_named(rt, path.as_ref(), *options, Output::Domains, *detail)
         }
         Request::Check(options, scope, path, detail) => {
-            plan_named(rt, path.as_ref(), options, Output::Check(scope), detail)
+            plan_named(rt, path.as_ref(), *options, Output::Check(*scope), *detail)
         }
         Request::Explain(options, asked, path, detail) => {
-            plan_named(rt, path.as_ref(), options, Output::Explain(&asked), detail)
+            plan_named(rt, path.as_ref(), *options, Output::Explain(asked), *detail)
         }
-        Request::Gather(paths, detail) => gather_job(rt, &paths, detail),
+        Request::Gather(paths, detail) => gather_job(rt, paths, *detail),
         Request::Help => Status::Done,
         Request::Unknown => Status::CommandLine,
-        Request::Fault(fault) => refused(rt, fault),
+        Request::Fault(fault) => refused(rt, *fault),
     }
 }

@@ -152,6 +152,20 @@ fn escaped(alloc: Global, text: &[u8]) -> Result<Vec<u8>, AllocError>
     Ok(out)
 }
 
+/// Puts a plan as one object.
+fn put_plan(
+    alloc: Global,
+    plan: &Plan,
+    summary: Summary,
+    out: &mut Writer,
+) -> Result<(), AllocError> {
+    out.begin_object()?;
+    put_counts(summary, out)?;
+    put_transactions(alloc, plan.transactions.as_slice(), out)?;
+    put_findings(alloc, plan.findings.as_slice(), out)?;
+    out.end_object()
+}
+
 /// A plan as one JSON object on a line, with the words of the plan's text: `plan` has the numbers of its first line, `transactions` each
 /// transaction, `findings` the words of each finding. A byte of 128 or more is the character of its number, as an escape, so that the
 /// text is ASCII. `Err` where memory runs out.
@@ -159,11 +173,7 @@ pub fn json_text(alloc: Global, plan: &Plan, summary: Summary) -> Result<Vec<u8>
     ensures { IfOk result (λ text. All (λ byte. byte < 128) text.items) }
 {
     let mut out = Writer::new(Vec::new(alloc));
-    out.begin_object()?;
-    put_counts(summary, &mut out)?;
-    put_transactions(alloc, plan.transactions.as_slice(), &mut out)?;
-    put_findings(alloc, plan.findings.as_slice(), &mut out)?;
-    out.end_object()?;
+    put_plan(alloc, plan, summary, &mut out)?;
     let mut text = escaped(alloc, out.into_inner().as_slice())?;
     text.push(b'\n')?;
     Ok(text)

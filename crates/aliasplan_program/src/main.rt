@@ -1,5 +1,4 @@
-//! `aliasplan plan` reads a job and writes its plan on standard output, and `aliasplan domains` the names that it asks for;
-//! `aliasplan gather` writes a job of files that lie apart.
+//! `aliasplan` reads its command line, answers what that asks for, and ends with a status of aliasplan_command.
 #![tactic(auto)]
 
 use aliasplan_command::{answer, read_words};
@@ -7,5 +6,5 @@ use std::process::ExitCode;
 
 fn main(rt: HostRuntime) -> ExitCode {
     let request = read_words(&rt);
-    ExitCode::from(answer(&rt, request).code())
+    ExitCode::from(answer(&rt, &request).code())
 }
