@@ -2,7 +2,7 @@
 //!
 //! Where a function owns a value of many parts, and lends or drops it beside other things, the proof of that function is long. Here the value
 //! is of any type, so what becomes of it is proved once.
-ghost use Rattle.std.specs.Prelude.{◌≡◌, true, false};
+ghost use Rattle.std.specs.Prelude.{◌≡◌, ◌⊎◌, true, false, Ok, Err, IfOk, IfErr};
 ghost use Rattle.std.specs.Fn.{FnOnceReturnsAt, FnOnceReturnsAtMut};
 
 use crate::answer::Answer;
@@ -43,4 +43,22 @@ pub fn lent_mut<T: Drop, A: Drop, F: FnOnce(&mut T) -> Result<A, Unready>>(
     ensures { (after : _) × FnOnceReturnsAtMut F.FnOnce case value result after }
 {
     case(&mut value)
+}
+
+/// Two inputs in one, or why one of them isn't there. What is made of many parts takes them so, since a proof follows each part that is
+/// dropped to every place.
+pub fn both<A: Drop, B: Drop>(
+    first: Result<A, Unready>,
+    second: Result<B, Unready>,
+) -> Result<(A, B), Unready>
+    ensures both { IfOk result (λ both. (first ≡ Ok both.0) × (second ≡ Ok both.1)) }
+    ensures unready { IfErr result (λ unready. (first ≡ Err unready) ⊎ (second ≡ Err unready)) }
+{
+    match first {
+        Ok(first) => match second {
+            Ok(second) => Ok((first, second)),
+            Err(unready) => Err(unready),
+        },
+        Err(unready) => Err(unready),
+    }
 }

@@ -6,7 +6,7 @@
 //! prints a line on it. With the name of a call it makes that one alone, so that its growths of memory can be refused from outside, one
 //! after another; `tests/growths/run` does so.
 //!
-//! What a call gave goes to `judged`, and an input of many parts to `lent` or `lent_mut`, behind which it is dropped.
+//! What a call gave goes to `judged`, an input of many parts to `lent` or `lent_mut`, behind which it is dropped, and two inputs to `both`.
 #![tactic(auto)]
 
 pub mod answer;
@@ -18,7 +18,7 @@ pub mod twice;
 pub mod unready;
 
 pub use answer::Answer;
-pub use lending::{judged, lent, lent_mut};
+pub use lending::{both, judged, lent, lent_mut};
 pub use seen::Seen;
 pub use teller::{DONE, Teller};
 pub use unready::{Unready, made_anew};

@@ -5,9 +5,9 @@ ghost use Rattle.relay_text.specs.Bytes.{folded};
 ghost use Rattle.relay_text.specs.Addresses.{is_origin};
 ghost use Rattle.relay_tables.specs.Parts.{is_good_entry};
 
-use crate::lending::{both, of_both};
-use growth_answers::Unready;
+use crate::lending::of_both;
 use growth_answers::inputs::address;
+use growth_answers::{Unready, both};
 use relay_aliasfile::{AliasFile, MailboxFile, parse_aliases, parse_mailboxes};
 use relay_tables::{Graph, Local, Tables, parsed_files};
 use relay_text::{Address, Seq, Text};

@@ -1,8 +1,6 @@
 //! Values that are made, lent to a call and dropped behind it.
 //!
 //! They are of any type here, so what becomes of them is proved once, and not again in each case.
-ghost use Rattle.std.specs.Prelude.{◌≡◌, Ok, IfOk};
-
 use growth_answers::{Answer, Seen, Unready, judged, twice};
 use relay_tables::TableFault;
 use std::alloc::{AllocError, Global};
@@ -72,22 +70,6 @@ pub(crate) fn of_both<A: Drop, B: Drop, T: Drop, F: FnOnce(&A, &B) -> Result<T, 
     match first {
         Ok(first) => match second {
             Ok(second) => make(&first, &second),
-            Err(unready) => Err(unready),
-        },
-        Err(unready) => Err(unready),
-    }
-}
-
-/// Two inputs in one.
-pub(crate) fn both<A: Drop, B: Drop>(
-    first: Result<A, Unready>,
-    second: Result<B, Unready>,
-) -> Result<(A, B), Unready>
-    ensures { IfOk result (λ both. (first ≡ Ok both.0) × (second ≡ Ok both.1)) }
-{
-    match first {
-        Ok(first) => match second {
-            Ok(second) => Ok((first, second)),
             Err(unready) => Err(unready),
         },
         Err(unready) => Err(unready),

@@ -1,8 +1,8 @@
 //! What is asked for, a step, and why kim is not reached: a list that would lead there is not.
-use crate::inputs::{both, one};
+use crate::inputs::one;
 use crate::texts::LONG;
 use growth_answers::inputs::{address, is_address};
-use growth_answers::{Answer, Seen, Teller, Unready, call, case, judged, lent, twice};
+use growth_answers::{Answer, Seen, Teller, Unready, both, call, case, judged, lent, twice};
 use relay_explain::{
     Asked, Entry, Listed, Mention, Step, Target, Telling, put_alias_step, telling_text,
 };

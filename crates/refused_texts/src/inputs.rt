@@ -1,5 +1,4 @@
-//! Vectors and pairs that the cases share.
-use growth_answers::Unready;
+//! Vectors that the cases share.
 use relay_text::Text;
 use std::alloc::{AllocError, Global};
 
@@ -17,18 +16,4 @@ pub(crate) fn texts(alloc: Global, wanted: &[&[u8]]) -> Result<Vec<Text>, AllocE
         texts.push(Text::copy_of(alloc, text)?)?;
     }
     Ok(texts)
-}
-
-/// Two inputs in one. What is made of many parts takes them so, since a proof follows each part that is dropped to every place.
-pub(crate) fn both<A: Drop, B: Drop>(
-    first: Result<A, Unready>,
-    second: Result<B, Unready>,
-) -> Result<(A, B), Unready> {
-    match first {
-        Ok(first) => match second {
-            Ok(second) => Ok((first, second)),
-            Err(unready) => Err(unready),
-        },
-        Err(unready) => Err(unready),
-    }
 }

@@ -1,7 +1,7 @@
 //! The texts of a plan of one transaction, from `a@example.net` to joe's mailbox.
-use crate::inputs::{both, one};
+use crate::inputs::one;
 use growth_answers::inputs::{address, is_address};
-use growth_answers::{Answer, Seen, Teller, Unready, call, case, judged, lent, twice};
+use growth_answers::{Answer, Seen, Teller, Unready, both, call, case, judged, lent, twice};
 use relay_routes::{Hosts, Transport};
 use relay_text::{Address, Seq, Text};
 use relay_wire::{
