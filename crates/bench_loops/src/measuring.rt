@@ -11,7 +11,7 @@ use anyhow::{Result, ensure};
 use bench_watch::{Counted, Watch};
 use relay_aliasfile::{AliasFile, MailboxFile, parse_aliases};
 use relay_loops::{on_loops, whole_graphs};
-use relay_rounds::NoGate;
+use relay_rounds::{Crew, NoGate};
 use relay_tables::{Graph, Local, Tables, parsed_files};
 use relay_text::{Seq, Text};
 use std::alloc::{AllocError, Global};
@@ -80,8 +80,14 @@ fn find_loops<R: Clock + Print + AllocGlobal + Threads + Sync>(
 {
     for workers in [1, 4] {
         let start = watch.start()?;
-        let alloc = watch.rt.alloc();
-        let loops = on_loops(watch.rt, alloc, graph, nodes, workers, CUT, &NoGate)?;
+        let crew = Crew {
+            rt: watch.rt,
+            alloc: watch.rt.alloc(),
+            workers,
+            cut: CUT,
+            gate: &NoGate,
+        };
+        let loops = on_loops(&crew, graph, nodes)?;
         let step = if workers == 1 {
             "  on_loops, 1 worker"
         } else {

@@ -12,7 +12,7 @@ use crate::graphs::{Path, Wide};
 use crate::plain::plain;
 use anyhow::Result;
 use bench_watch::{BenchWords, Counted, Watch};
-use relay_rounds::{NoGate, Steps, reach};
+use relay_rounds::{Crew, NoGate, Steps, reach};
 use std::env;
 use std::rt::Clock;
 use std::thread::Threads;
@@ -46,9 +46,15 @@ fn search<S: Steps, R: Clock + Print + AllocGlobal + Threads + Sync>(
     requires steps { 0 < S.key_bound steps.now }
     requires workers { 1 ≤ workers }
 {
-    let alloc = watch.rt.alloc();
     let start = watch.start()?;
-    let keys = reach(watch.rt, alloc, steps, &[0], workers, CUT, LIMIT, &NoGate)?.len();
+    let crew = Crew {
+        rt: watch.rt,
+        alloc: watch.rt.alloc(),
+        workers,
+        cut: CUT,
+        gate: &NoGate,
+    };
+    let keys = reach(&crew, steps, &[0], LIMIT)?.len();
     report(watch, what, workers, keys, start)
 }
 

@@ -7,7 +7,7 @@ use crate::inputs::graph;
 use crate::lending::lent_input;
 use growth_answers::{Answer, Seen, Teller, Unready, case, twice};
 use relay_loops::{on_loops, whole_graphs};
-use relay_rounds::NoGate;
+use relay_rounds::{Crew, NoGate};
 use relay_tables::Graph;
 use std::alloc::Global;
 use std::thread::Threads;
@@ -40,7 +40,14 @@ fn are_loops<R: Threads + Sync>(
 ) -> Answer
     requires { IsClosedPart graph.now nodes.now }
 {
-    match on_loops(rt, alloc, graph, nodes, 2, 1, &NoGate) {
+    let crew = Crew {
+        rt,
+        alloc,
+        workers: 2,
+        cut: 1,
+        gate: &NoGate,
+    };
+    match on_loops(&crew, graph, nodes) {
         Ok(loops) => Answer::given(loops.as_slice() == wanted),
         Err(_) => Answer::Refused,
     }

@@ -5,7 +5,7 @@ use crate::inputs::{OWNED, graph};
 use crate::lending::lent_input;
 use growth_answers::{Answer, Seen, Teller, Unready, case, twice};
 use relay_pairs::{Reached, Search, reached_nodes, reached_pairs};
-use relay_rounds::{NoGate, ReachFault};
+use relay_rounds::{Crew, NoGate, ReachFault};
 use relay_tables::Graph;
 use std::alloc::Global;
 use std::thread::Threads;
@@ -21,7 +21,14 @@ fn are_pairs(pairs: &[Reached]) -> bool {
 }
 
 fn are_reached<R: Threads + Sync>(rt: &R, alloc: Global, graph: &Graph) -> Answer {
-    match reached_pairs(rt, alloc, graph, 2, 1, 100, &NoGate) {
+    let crew = Crew {
+        rt,
+        alloc,
+        workers: 2,
+        cut: 1,
+        gate: &NoGate,
+    };
+    match reached_pairs(&crew, graph, 100) {
         Ok(pairs) => Answer::given(are_pairs(&pairs)),
         Err(ReachFault::Memory) => Answer::Refused,
         Err(ReachFault::TooManyPairs) => Answer::Wrong,
@@ -46,15 +53,19 @@ fn are_from_list<R: Threads + Sync>(search: &Search<'_, NoGate, R>) -> Answer {
     }
 }
 
-fn are_reached_from_list<R: Threads + Sync>(rt: &R, alloc: Global, graph: &Graph) -> Seen {
-    let search = Search {
+fn are_reached_from_list<'a, R: Threads + Sync>(
+    rt: &'a R,
+    alloc: Global,
+    graph: &'a Graph,
+) -> Seen {
+    let crew = Crew {
         rt,
         alloc,
-        graph,
         workers: 2,
         cut: 1,
         gate: &NoGate,
     };
+    let search = Search { crew, graph };
     twice!(are_from_list(&search))
 }
 
@@ -78,7 +89,14 @@ fn lists_its_nodes<R: Threads + Sync>(
     alloc: Global,
     graph: &Graph,
 ) -> Result<Seen, Unready> {
-    let pairs = reached_pairs(rt, alloc, graph, 2, 1, 100, &NoGate)?;
+    let crew = Crew {
+        rt,
+        alloc,
+        workers: 2,
+        cut: 1,
+        gate: &NoGate,
+    };
+    let pairs = reached_pairs(&crew, graph, 100)?;
     Ok(twice!(are_nodes(alloc, graph, &pairs)))
 }
 

@@ -4,7 +4,7 @@ ghost use Rattle.std.proofs.Common.{rules};
 ghost use Rattle.std.proofs.lemmas.Grind.{common_steps};
 
 use growth_answers::{Answer, Teller, case, twice};
-use relay_rounds::{Key, NoGate, ReachFault, Steps, reach};
+use relay_rounds::{Crew, Key, NoGate, ReachFault, Steps, reach};
 use std::alloc::Global;
 use std::thread::Threads;
 
@@ -35,7 +35,14 @@ impl Steps for Tenths {
 fn reached<R: Threads + Sync>(rt: &R, alloc: Global, limit: usize) -> Result<Vec<Key>, ReachFault>
     requires { limit ≤ 2 ^ 32 - 2 }
 {
-    reach(rt, alloc, &Tenths, &[1, 1], 2, 1, limit, &NoGate)
+    let crew = Crew {
+        rt,
+        alloc,
+        workers: 2,
+        cut: 1,
+        gate: &NoGate,
+    };
+    reach(&crew, &Tenths, &[1, 1], limit)
 }
 
 fn reaches_all<R: Threads + Sync>(rt: &R, alloc: Global) -> Answer {

@@ -6,7 +6,7 @@ use crate::inputs::{OWNED, graph};
 use crate::lending::lent_input;
 use growth_answers::{Answer, Seen, Teller, Unready, case, twice};
 use relay_pairs::{Reached, reached_pairs};
-use relay_rounds::NoGate;
+use relay_rounds::{Crew, NoGate};
 use relay_tables::Graph;
 use relay_trails::{Found, best_trails};
 use std::alloc::Global;
@@ -44,7 +44,14 @@ fn finds_its_trails<R: Threads + Sync>(
     alloc: Global,
     graph: &Graph,
 ) -> Result<Seen, Unready> {
-    let pairs = reached_pairs(rt, alloc, graph, 2, 1, 100, &NoGate)?;
+    let crew = Crew {
+        rt,
+        alloc,
+        workers: 2,
+        cut: 1,
+        gate: &NoGate,
+    };
+    let pairs = reached_pairs(&crew, graph, 100)?;
     Ok(twice!(is_found(alloc, graph, &pairs)))
 }
 

@@ -4,11 +4,10 @@ ghost use Rattle.relay_loops.specs.declared.place.Place.TheVariants.{Left};
 ghost use Rattle.relay_loops.specs.Places.{is_left, place_at, settled, HasPlaces, IsChangedAt};
 ghost use Rattle.relay_loops.specs.Judging.{IsResting, KeepsAnswers, KeepsJudged};
 
-use crate::crew::Crew;
 use crate::direction::Direction;
 use crate::place::{Place, place_of};
 use crate::spreading::spread;
-use relay_rounds::Gate;
+use relay_rounds::{Crew, Gate};
 use relay_tables::TwoWayGraph;
 use std::alloc::{AllocError, Global};
 use std::thread::Threads;

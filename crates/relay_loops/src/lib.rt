@@ -22,7 +22,6 @@
 //! over the threads. For few nodes that takes longer, and most loops are short.
 #![tactic(auto)]
 
-mod crew;
 mod direction;
 mod dividing;
 mod laws;
@@ -39,50 +38,36 @@ ghost use Rattle.relay_loops.specs.Leading.{HasLoops};
 ghost use Rattle.relay_loops.specs.Loops.{IsClosedPart, AreLoopsOf};
 ghost use Rattle.relay_loops.specs.Places.{HasPlaces, IsChangedAt};
 
-use crew::Crew;
 pub use laws::whole_graphs;
 use leading::leading_nodes;
 use pivots::pivot_order;
 use place::Place;
-use relay_rounds::Gate;
+use relay_rounds::{Crew, Gate};
 use relay_tables::{Graph, TwoWayGraph};
 use settling::{first_places, looped, settle};
-use std::alloc::{AllocError, Global};
+use std::alloc::AllocError;
 use std::thread::Threads;
 
 /// The nodes of `reached` from which a chain of one or more children leads back to themselves, ascending.
 ///
 /// `reached` is ascending and has all children of its nodes. A node that only leads into a loop, or lies between two, is
-/// on none; one that names itself is on one. The answer doesn't depend on `workers`, the number of threads, or on `cut`,
-/// the number of nodes that a thread takes at once. The only error is that memory is refused.
+/// on none; one that names itself is on one. The only error is that memory is refused.
 pub fn on_loops<G: Gate, R: Threads + Sync>(
-    rt: &R,
-    alloc: Global,
+    crew: &Crew<G, R>,
     graph: &Graph,
     reached: &[u32],
-    workers: usize,
-    cut: usize,
-    gate: &G,
 ) -> Result<Vec<u32>, AllocError>
     requires reached { IsClosedPart graph.now reached.now }
-    requires workers { 1 ≤ workers }
-    requires cut { 1 ≤ cut }
     ensures { IfOk result (λ loops. AreLoopsOf graph.now reached.now loops.items) }
 {
+    let alloc = crew.alloc;
     let nodes = leading_nodes(alloc, graph, reached)?;
     if nodes.is_empty() {
         return Ok(nodes);
     }
-    let crew = Crew {
-        rt,
-        alloc,
-        workers,
-        cut,
-        gate,
-    };
     let graph = TwoWayGraph::of(alloc, graph)?;
     let mut places = first_places(alloc, &graph, &nodes)?;
-    loops_among(&crew, &graph, &nodes, &mut places)
+    loops_among(crew, &graph, &nodes, &mut places)
 }
 
 // Those of the nodes that are on a loop, where each is left.

@@ -4,10 +4,9 @@ ghost use Rattle.relay_loops.specs.declared.place.Place.TheVariants.{Left};
 ghost use Rattle.relay_loops.specs.Places.{is_left, is_looped, place_at, HasPlaces, IsChangedAt};
 ghost use Rattle.relay_loops.specs.Judging.{IsResting, KeepsJudged};
 
-use crate::crew::Crew;
 use crate::dividing::{Found, divide};
 use crate::place::{Place, place_of};
-use relay_rounds::Gate;
+use relay_rounds::{Crew, Gate};
 use relay_tables::TwoWayGraph;
 use std::alloc::{AllocError, Global};
 use std::thread::Threads;

@@ -7,11 +7,10 @@ ghost use Rattle.relay_rounds.specs.Closures.{IsClosureOf};
 ghost use Rattle.relay_loops.specs.Places.{HasPlaces, met_place, near_numbers, open_keys, place_at};
 ghost use Rattle.relay_loops.specs.Searches.{AreTaken, AreWithin, HasGoneOn, HasWalked, IsSpread};
 
-use crate::crew::Crew;
 use crate::direction::Direction;
 use crate::place::{Place, place_of};
 use crate::steps::NearSteps;
-use relay_rounds::{Gate, ReachFault, reach};
+use relay_rounds::{Crew, Gate, ReachFault, reach};
 use relay_tables::TwoWayGraph;
 use std::alloc::{AllocError, Global};
 use std::thread::Threads;
@@ -125,16 +124,7 @@ fn reach_open<G: Gate, R: Threads + Sync>(
         direction,
         places,
     };
-    known(reach(
-        crew.rt,
-        crew.alloc,
-        &steps,
-        &roots,
-        crew.workers,
-        crew.cut,
-        KEYS_MAX,
-        crew.gate,
-    ))
+    known(reach(crew, &steps, &roots, KEYS_MAX))
 }
 
 // Goes on from each of the nodes found that has not been passed.

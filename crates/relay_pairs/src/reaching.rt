@@ -4,7 +4,7 @@ ghost use Rattle.relay_pairs.specs.Pairs.{key_count, pair_at, ArePairs, HasMoreP
 
 use crate::reached::Reached;
 use crate::steps::PairSteps;
-use relay_rounds::{Gate, Key, ReachFault, reach};
+use relay_rounds::{Crew, Gate, Key, ReachFault, reach};
 use relay_tables::Graph;
 use std::alloc::{AllocError, Global};
 use std::thread::Threads;
@@ -12,19 +12,12 @@ use std::thread::Threads;
 /// All pairs of sender and node that some chain of steps from a root, under the envelope's sender, ends in: by sender and then
 /// by node, each once. Its length doesn't matter, and a loop ends it nowhere.
 ///
-/// `workers` threads take part, and `cut` is how many offered pairs one of them claims at once; neither changes the answer.
 /// `TooManyPairs` comes exactly where more than `limit` pairs are reached, and `Memory` only where memory was refused.
 pub fn reached_pairs<G: Gate, R: Threads + Sync>(
-    rt: &R,
-    alloc: Global,
+    crew: &Crew<G, R>,
     graph: &Graph,
-    workers: usize,
-    cut: usize,
     limit: usize,
-    gate: &G,
 ) -> Result<Vec<Reached>, ReachFault>
-    requires workers { 1 ≤ workers }
-    requires cut { 1 ≤ cut }
     requires limit { limit ≤ 2 ^ 32 - 2 }
     ensures pairs { IfOk result (λ pairs. ArePairs graph.now pairs.items) }
     ensures in_graph { IfOk result (λ pairs. All (λ p. (p.sender < length graph.now.senders) × (p.node < length graph.now.nodes)) pairs.items) }
@@ -33,18 +26,9 @@ pub fn reached_pairs<G: Gate, R: Threads + Sync>(
 {
     // For what the call says alone: steps lead to pairs of the graph.
     let _ = graph.nodes();
-    let roots = first_keys(alloc, graph)?;
-    let keys = reach(
-        rt,
-        alloc,
-        &PairSteps { graph },
-        &roots,
-        workers,
-        cut,
-        limit,
-        gate,
-    )?;
-    let pairs = pairs_of(alloc, &keys)?;
+    let roots = first_keys(crew.alloc, graph)?;
+    let keys = reach(crew, &PairSteps { graph }, &roots, limit)?;
+    let pairs = pairs_of(crew.alloc, &keys)?;
     Ok(pairs)
 }
 

@@ -5,32 +5,22 @@ ghost use Rattle.relay_pairs.specs.Pairs.{ArePairsFrom, HasMorePairsFrom};
 use crate::reached::Reached;
 use crate::reaching::pairs_of;
 use crate::steps::PairSteps;
-use relay_rounds::{Gate, ReachFault, reach};
+use relay_rounds::{Crew, Gate, ReachFault, reach};
 use relay_tables::Graph;
-use std::alloc::Global;
 use std::thread::Threads;
 
 /// A search in a graph, which starts at one of its nodes each time.
 #[derive(Drop)]
 pub struct Search<'a, G, R> {
-    pub rt: &'a R,
-    pub alloc: Global,
+    pub crew: Crew<'a, G, R>,
     pub graph: &'a Graph,
-    /// How many threads take part.
-    pub workers: usize,
-    /// How many offered pairs a thread claims at once.
-    pub cut: usize,
-    pub gate: &'a G,
-    ghost some_worker: { 1 ≤ workers },
-    ghost some_cut: { 1 ≤ cut },
 }
 
 impl<G: Gate, R: Threads + Sync> Search<'_, G, R> {
     /// All pairs of sender and node that some chain of steps from this root, under the envelope's sender, ends in: by sender and then by
     /// node, each once. It takes the time and memory of what is reached, and not of the graph.
     ///
-    /// Neither the number of workers nor the cut changes the answer. `TooManyPairs` comes exactly where more than `limit` pairs are
-    /// reached, and `Memory` only where memory was refused.
+    /// `TooManyPairs` comes exactly where more than `limit` pairs are reached, and `Memory` only where memory was refused.
     pub fn pairs_from(&self, root: u32, limit: usize) -> Result<Vec<Reached>, ReachFault>
         requires root { root < length self.now.graph.now.nodes }
         requires limit { limit ≤ 2 ^ 32 - 2 }
@@ -43,17 +33,8 @@ impl<G: Gate, R: Threads + Sync> Search<'_, G, R> {
         // For what the call says alone: steps lead to pairs of the graph.
         let _ = graph.nodes();
         let first = [u64::from(root)];
-        let keys = reach(
-            self.rt,
-            self.alloc,
-            &PairSteps { graph },
-            &first,
-            self.workers,
-            self.cut,
-            limit,
-            self.gate,
-        )?;
-        let pairs = pairs_of(self.alloc, &keys)?;
+        let keys = reach(&self.crew, &PairSteps { graph }, &first, limit)?;
+        let pairs = pairs_of(self.crew.alloc, &keys)?;
         Ok(pairs)
     }
 }

@@ -1,6 +1,7 @@
 //! All keys that can be reached, in rounds, by several threads.
 //!
-//! A [`Steps`] names for each key the list of its next keys. [`reach`] gives all keys that some chain of steps from a root ends in.
+//! A [`Steps`] names for each key the list of its next keys. [`reach`] gives all keys that some chain of steps from a root ends in, by the
+//! threads of a [`Crew`].
 //! A round offers the next keys of all keys that were new in the round before, with their repeats. Threads claim those that aren't settled
 //! yet, so that each new key is won once (`relay_claims`). New keys are settled, as bits. Where one thread would work alone, since there is
 //! one worker or one piece, it settles each key as it comes to it, and nothing is claimed.
@@ -13,6 +14,7 @@
 mod alone;
 mod bits;
 mod block;
+mod crew;
 mod expanding;
 mod fault;
 mod gate;
@@ -31,6 +33,7 @@ mod worker;
 mod workers;
 mod zeros;
 
+pub use crew::Crew;
 pub use fault::ReachFault;
 pub use gate::{Gate, NoGate};
 pub use reaching::reach;

@@ -3,6 +3,7 @@ ghost use Rattle.std.specs.Prelude.{◌≡◌, ◌<◌, ◌≤◌, ◌-◌, ◌^
 ghost use Rattle.relay_rounds.specs.Closures.{IsClosureOf, HasMoreReached};
 
 use crate::alone::Alone;
+use crate::crew::Crew;
 use crate::fault::ReachFault;
 use crate::gate::Gate;
 use crate::kept::Kept;
@@ -12,7 +13,6 @@ use crate::settling::settle;
 use crate::steps::Steps;
 use crate::winning::winners;
 use relay_chains::Key;
-use std::alloc::Global;
 use std::mem;
 use std::thread::Threads;
 
@@ -23,8 +23,8 @@ fn is_for_one(workers: usize, keys: usize, cut: usize) -> bool {
 
 /// All keys that some chain of steps from a root ends in, ascending, each once. A root is reached by a chain of no steps.
 ///
-/// `workers` threads take part, the calling one among them, but no more than a round has pieces; a piece is `cut` offered
-/// keys, which one worker claims. Neither they nor the gate change the answer. `roots` may name a key more than once.
+/// The threads of the crew take part, but no more than a round has pieces; a piece is so many offered keys as one of them takes at once.
+/// `roots` may name a key more than once.
 /// Time of a round grows with the keys that it offers, and not with the bound of the steps. 64 keys one after another take
 /// about 40 bytes once one of them is settled, and no more where all are. A round of one piece, or of one worker, takes no table
 /// and no thread.
@@ -32,23 +32,24 @@ fn is_for_one(workers: usize, keys: usize, cut: usize) -> bool {
 /// `TooManyPairs` comes exactly where more than `limit` keys are reached, however often each is offered. `Memory` comes
 /// only where a growth was refused, once all threads have ended.
 pub fn reach<S: Steps, G: Gate, R: Threads + Sync>(
-    rt: &R,
-    alloc: Global,
+    crew: &Crew<G, R>,
     steps: &S,
     roots: &[Key],
-    workers: usize,
-    cut: usize,
     limit: usize,
-    gate: &G,
 ) -> Result<Vec<Key>, ReachFault>
     requires roots { All (λ key. key < S.key_bound steps.now) roots.now }
-    requires workers { 1 ≤ workers }
-    requires cut { 1 ≤ cut }
     requires limit { limit ≤ 2 ^ 32 - 2 }
     ensures closure { IfOk result (λ keys. IsClosureOf (S.next_keys steps.now) roots.now keys.items) }
     ensures within { IfOk result (λ keys. length keys.items ≤ limit) }
     ensures refused { result ≡ Err ReachFault.TooManyPairs → HasMoreReached (S.next_keys steps.now) roots.now limit }
 {
+    let Crew {
+        rt,
+        alloc,
+        workers,
+        cut,
+        gate,
+    } = *crew;
     let mut settled = Settled::new(alloc, workers)?;
     let mut offered = Vec::from_slice(alloc, roots)?;
     let mut kept = Kept::new(alloc);
@@ -74,7 +75,7 @@ pub fn reach<S: Steps, G: Gate, R: Threads + Sync>(
         winners(rt, &offers, workers, gate, &mut kept)?;
         offered.clear();
         let new = kept.won.as_slice();
-        settled = settle(rt, alloc, steps, new, limit, settled, &mut offered)?;
+        settled = settle(crew, steps, new, limit, settled, &mut offered)?;
     }
     let keys = settled.ascending(rt)?;
     Ok(keys)

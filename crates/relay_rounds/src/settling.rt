@@ -3,6 +3,7 @@ ghost use Rattle.std.specs.Prelude.{◌≡◌, ◌≢◌, ◌<◌, ◌≤◌, �
 ghost use Rattle.relay_rounds.specs.Searches.{GoesOn, Advances, Settles, IsTooFar};
 ghost use Rattle.relay_rounds.specs.Shards.{AreBothOf};
 
+use crate::crew::Crew;
 use crate::expanding::{next_keys, next_keys_in_threads};
 use crate::fault::ReachFault;
 use crate::settled::Settled;
@@ -54,9 +55,8 @@ fn settle_many<S: Steps, R: Threads + Sync>(
 }
 
 /// Settles the new keys of a round, by several threads where there are many keys.
-pub(crate) fn settle<S: Steps, R: Threads + Sync>(
-    rt: &R,
-    alloc: Global,
+pub(crate) fn settle<S: Steps, G, R: Threads + Sync>(
+    crew: &Crew<G, R>,
     steps: &S,
     new: &[Key],
     limit: usize,
@@ -79,6 +79,6 @@ pub(crate) fn settle<S: Steps, R: Threads + Sync>(
         let now = settle_few(steps, new, settled, offered)?;
         return Ok(now);
     }
-    let now = settle_many(rt, alloc, steps, new, settled, offered)?;
+    let now = settle_many(crew.rt, crew.alloc, steps, new, settled, offered)?;
     Ok(now)
 }

@@ -3,7 +3,7 @@ ghost use Rattle.std.specs.Prelude.{◌≤◌, ◌<◌, ◌-◌, ◌^◌, length
 use crate::compared::expect;
 use crate::rounds_gates::{Counts, Meeting};
 use crate::rounds_graphs::{Arrows, Halves, Path, Tenths, Thrice, Wide};
-use relay_rounds::{Gate, Key, NoGate, ReachFault, Steps, reach};
+use relay_rounds::{Crew, Gate, Key, NoGate, ReachFault, Steps, reach};
 use std::process::Abort;
 use std::sync::atomic::{AtomicBool, AtomicUsize, Ordering};
 use std::test::Fail;
@@ -23,10 +23,15 @@ fn reach_at_last<S: Steps, R: AllocGlobal + Threads + Sync>(
     requires cut { 1 ≤ cut }
     requires limit { limit ≤ 2 ^ 32 - 2 }
 {
-    match reach(rt, rt.alloc(), steps, roots, workers, cut, limit, &NoGate) {
-        Err(ReachFault::Memory) => {
-            reach(rt, rt.alloc(), steps, roots, workers, cut, limit, &NoGate)
-        }
+    let crew = Crew {
+        rt,
+        alloc: rt.alloc(),
+        workers,
+        cut,
+        gate: &NoGate,
+    };
+    match reach(&crew, steps, roots, limit) {
+        Err(ReachFault::Memory) => reach(&crew, steps, roots, limit),
         answer => answer,
     }
 }
@@ -157,7 +162,14 @@ fn comes_through<S: Steps, G: Gate, R: Abort + AllocGlobal + Threads + Sync>(
     requires roots { All (λ key. key < S.key_bound steps.now) roots.now }
     requires keys { length keys.now ≤ 1000 }
 {
-    match reach(rt, rt.alloc(), steps, roots, 2, 1, keys.len(), gate) {
+    let crew = Crew {
+        rt,
+        alloc: rt.alloc(),
+        workers: 2,
+        cut: 1,
+        gate,
+    };
+    match reach(&crew, steps, roots, keys.len()) {
         Err(ReachFault::Memory) => Ok(false),
         answer => {
             expect(rt, answer?.as_slice(), keys);
