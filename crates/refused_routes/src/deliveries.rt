@@ -1,7 +1,7 @@
 //! The transactions of what goes out.
 use growth_answers::inputs::{address, is_address};
 use growth_answers::{Answer, Teller, Unready, call, judged, lent};
-use relay_delivery::{BatchLimits, Routed, Stop, transactions};
+use relay_delivery::{BatchLimits, Delivery, Routed, transactions};
 use relay_routes::{Hosts, Route, Transport};
 use relay_text::{Address, Text};
 use relay_wire::Planned;
@@ -16,20 +16,20 @@ const LIMITS: BatchLimits = BatchLimits {
 
 /// Under the second sender, the null sender, the first recipient goes out, who stands there again as the third, and the second; under
 /// the first sender the first alone.
-const STOPS: [Stop; 4] = [
-    Stop {
+const STOPS: [Delivery; 4] = [
+    Delivery {
         sender: 0,
         recipient: 0,
     },
-    Stop {
+    Delivery {
         sender: 1,
         recipient: 0,
     },
-    Stop {
+    Delivery {
         sender: 1,
         recipient: 1,
     },
-    Stop {
+    Delivery {
         sender: 1,
         recipient: 2,
     },
@@ -86,7 +86,7 @@ fn answered(alloc: Global, message: &[Address], route: &Route) -> Result<Answer,
     let [sender, first, last] = message else {
         return Err(Unready::Wrong);
     };
-    let stops = Vec::from_array(alloc, STOPS)?;
+    let deliveries = Vec::from_array(alloc, STOPS)?;
     let routes = slice::from_ref(route);
     let to_first = Routed {
         route: 0,
@@ -98,7 +98,7 @@ fn answered(alloc: Global, message: &[Address], route: &Route) -> Result<Answer,
     };
     let recipients = [to_last, to_first, to_last];
     let senders = [Some(sender), None];
-    match transactions(alloc, &senders, routes, &recipients, stops, LIMITS) {
+    match transactions(alloc, &senders, routes, &recipients, deliveries, LIMITS) {
         Ok(planned) => Ok(judged(planned, |planned| are_planned(planned, first, last))),
         Err(_) => Ok(Answer::Refused),
     }

@@ -12,7 +12,7 @@ use Rattle.relay_rings.specs.Sound as cuts
 use Rattle.relay_wire.specs.declared.plan.Planned.{Planned}
 use Rattle.relay_delivery.specs.declared.group_numbers.GroupNumbers.{GroupNumbers}
 use Rattle.relay_delivery.specs.declared.routed.Routed.{Routed}
-use Rattle.relay_delivery.specs.declared.stop.Stop.{Stop}
+use Rattle.relay_delivery.specs.declared.delivery.Delivery.{Delivery}
 use Rattle.relay_delivery.specs.Cuts.{route_at, address_at, group_of}
 use Rattle.relay_delivery.specs.Groups.{Group, Sender, DeliveryKey, key_of, IsPlacedAt, IsSoundFor, IsFewest}
 use Rattle.relay_delivery.specs.Keyed.{numbers_at, AreKeyed}
@@ -22,10 +22,10 @@ use Rattle.relay_delivery.proofs.Order.{never_less, group_key, groups_tied, one_
 use Rattle.relay_delivery.proofs.Grouping.{placed_at, within, under_route, groups_apart, key_route, placed_under, under_key, limit_is}
 use Rattle.relay_delivery.proofs.SoundLists.{same_key}
 
-module _ (senders : List Sender) (routes : List Route) (recipients : List Routed) (stops : List Stop) (order : IsInOrder senders routes recipients stops)
-    (groups : List GroupNumbers) (placed : List Placed) (keyed : AreKeyed recipients stops groups placed) (range : All (λ (g : GroupNumbers). (g.sender < length senders) × (g.route < length routes)) groups) where
+module _ (senders : List Sender) (routes : List Route) (recipients : List Routed) (deliveries : List Delivery) (order : IsInOrder senders routes recipients deliveries)
+    (groups : List GroupNumbers) (placed : List Placed) (keyed : AreKeyed recipients deliveries groups placed) (range : All (λ (g : GroupNumbers). (g.sender < length senders) × (g.route < length routes)) groups) where
   abbrev Is_placed : Sender → Route → AddressParts → Type 0
-  Is_placed = IsPlacedBy senders routes recipients stops
+  Is_placed = IsPlacedBy senders routes recipients deliveries
 
   abbrev group_by : ℕ → Group
   group_by key = group_of senders routes recipients (numbers_at groups key) []
@@ -37,7 +37,7 @@ module _ (senders : List Sender) (routes : List Route) (recipients : List Routed
   -- no two keys deliver by one thing
   one_key : (j k : ℕ) → j < length groups → k < length groups → delivers_by j ≡ delivers_by k → j ≡ k
   one_key j k b c e =
-      let apart = groups_apart senders routes recipients stops order groups placed keyed range in
+      let apart = groups_apart senders routes recipients deliveries order groups placed keyed range in
       elim (cases_order j k) [
         | inl same ↦ same
         | inr differ ↦
@@ -48,10 +48,10 @@ module _ (senders : List Sender) (routes : List Route) (recipients : List Routed
       ]
 
   key_low : (key item : ℕ) → Contains placed (placed_at key item) → key < length groups
-  key_low key item c = (under_route senders routes recipients stops order groups placed keyed range (placed_at key item) c).0
+  key_low key item c = (under_route senders routes recipients deliveries order groups placed keyed range (placed_at key item) c).0
 
   item_low : (key item : ℕ) → Contains placed (placed_at key item) → item < length recipients
-  item_low key item c = (within senders routes recipients stops order groups placed keyed range (placed_at key item) c).1
+  item_low key item c = (within senders routes recipients deliveries order groups placed keyed range (placed_at key item) c).1
 
   -- a recipient's number stands under a key for an address that is delivered by this
   record StandsFor (key : DeliveryKey) (a : AddressParts) (k x : ℕ) : Type 0 where
@@ -62,7 +62,7 @@ module _ (senders : List Sender) (routes : List Route) (recipients : List Routed
   module _ (limit : Transport → ℕ) where
     number_of : (key : DeliveryKey) (a : AddressParts) → IsPlacedAt limit Is_placed key a → (k : ℕ) × (x : ℕ) × StandsFor key a k x
     number_of key a at =
-        let w = under_key senders routes recipients stops order groups placed keyed range key.sender at.0 a at.1 in
+        let w = under_key senders routes recipients deliveries order groups placed keyed range key.sender at.0 a at.1 in
         (w.key, w.item, record { is_placed = w.is_placed; key_is = same_key (group_by w.key) key at.0 w.sender_is w.route_is at.2 at.3; address_is = w.address_is })
 
     -- all addresses of a transaction are under one key
@@ -111,7 +111,7 @@ module _ (senders : List Sender) (routes : List Route) (recipients : List Routed
           elim (cases_lt 0 (length u.items)) [
             | inl some ↦
                 let x = r.2.back (get_or u.items 0 0) (Contains-get_or u.items 0 0 some) in
-                let is = limit_is senders routes recipients stops order groups placed keyed range limit limits limits_are u.key (key_low u.key (get_or u.items 0 0) x.1.is_placed) in
+                let is = limit_is senders routes recipients deliveries order groups placed keyed range limit limits limits_are u.key (key_low u.key (get_or u.items 0 0) x.1.is_placed) in
                 let by : limit (group_by u.key).route.transport ≡ limit t.transport = ap (λ (k : DeliveryKey). limit k.transport) x.1.key_is in
                 let low : length t.to ≤ limit t.transport = sound.within t r.1 in
                 omega arith
@@ -120,15 +120,15 @@ module _ (senders : List Sender) (routes : List Route) (recipients : List Routed
 
       others_complete : (k x : ℕ) → Contains placed (placed_at k x) → (u : Transaction) × Contains others.list u × (u.key ≡ k) × Contains u.items x
       others_complete k x c =
-          let by = placed_under senders routes recipients stops order groups placed keyed range k x c in
+          let by = placed_under senders routes recipients deliveries order groups placed keyed range k x c in
           let found = sound.complete (delivers_by k) (address_at recipients x) ((group_by k).route, by, refl, refl) in
           let w = others.there found.0 found.1 in
           let u = w.0 in
           let y = w.2.there (address_at recipients x) found.3 in
           let same : u.key ≡ k = one_key u.key k (key_low u.key y.0 y.2.is_placed) (key_low k x c) (y.2.key_is ∙ found.2) in
           let under : Contains placed (placed_at k y.0) = subst (λ j. Contains placed (placed_at j y.0)) same y.2.is_placed in
-          let route = key_route senders routes recipients stops order groups placed keyed range k in
-          let one : y.0 ≡ x = one_recipient senders routes recipients stops order y.0 x (item_low k y.0 under) (item_low k x c) (sym (route y.0 under) ∙ route x c) y.2.address_is in
+          let route = key_route senders routes recipients deliveries order groups placed keyed range k in
+          let one : y.0 ≡ x = one_recipient senders routes recipients deliveries order y.0 x (item_low k y.0 under) (item_low k x c) (sym (route y.0 under) ∙ route x c) y.2.address_is in
           (u, w.1, same, subst (λ z. Contains u.items z) one y.1)
 
       others_sound : cuts.IsSoundFor limits placed others.list

@@ -22,11 +22,11 @@ use Rattle.relay_rings.proofs.Members.{Contains-map, Contains-from_map, Contains
 use Rattle.relay_wire.specs.declared.plan.Planned.{Planned}
 use Rattle.relay_delivery.specs.declared.group_numbers.GroupNumbers.{GroupNumbers}
 use Rattle.relay_delivery.specs.declared.routed.Routed.{Routed}
-use Rattle.relay_delivery.specs.declared.stop.Stop.{Stop}
+use Rattle.relay_delivery.specs.declared.delivery.Delivery.{Delivery}
 use Rattle.relay_delivery.specs.Cuts.{no_route, no_address, sender_at, route_at, address_at, group_of, planned_of}
 use Rattle.relay_delivery.specs.Groups.{Group, Sender, group_cmp, path_cmp, planned, IsGrouped, IsGrouping, batches_of, AreTransactionsOf}
-use Rattle.relay_delivery.specs.Keyed.{numbers_at, route_by, stop_of, IsUnderRoute, AreKeyed}
-use Rattle.relay_delivery.specs.Placings.{IsInOrder, IsPlacedBy, stop_below}
+use Rattle.relay_delivery.specs.Keyed.{numbers_at, route_by, delivery_of, IsUnderRoute, AreKeyed}
+use Rattle.relay_delivery.specs.Placings.{IsInOrder, IsPlacedBy, delivery_below}
 use Rattle.relay_delivery.proofs.Lists.{none_in, parts_of-map, map_twice, map-flat_map, flat_map_agree}
 use Rattle.relay_delivery.proofs.Order.{pairs_map, routes_rise, paths_rise, groups_rise}
 
@@ -66,32 +66,32 @@ placed_of_key placed key c = Contains-from_map (λ (q : Placed). q.key) placed k
 nonempty : {X : Type 0} (xs : List X) (x : X) → Contains xs x → xs ≢ []
 nonempty xs x c e = none_in x (subst (λ ys. Contains ys x) e c)
 
-module _ (senders : List Sender) (routes : List Route) (recipients : List Routed) (stops : List Stop) (order : IsInOrder senders routes recipients stops)
-    (groups : List GroupNumbers) (placed : List Placed) (keyed : AreKeyed recipients stops groups placed) (range : All (λ (g : GroupNumbers). (g.sender < length senders) × (g.route < length routes)) groups) where
-  -- the stop of what is placed
-  pub has_stop : (p : Placed) → Contains placed p → Contains stops (stop_of groups p)
-  has_stop p c = subst (λ ss. Contains ss (stop_of groups p)) keyed.in_turn (Contains-map (stop_of groups) placed p c)
+module _ (senders : List Sender) (routes : List Route) (recipients : List Routed) (deliveries : List Delivery) (order : IsInOrder senders routes recipients deliveries)
+    (groups : List GroupNumbers) (placed : List Placed) (keyed : AreKeyed recipients deliveries groups placed) (range : All (λ (g : GroupNumbers). (g.sender < length senders) × (g.route < length routes)) groups) where
+  -- the delivery of what is placed
+  pub has_delivery : (p : Placed) → Contains placed p → Contains deliveries (delivery_of groups p)
+  has_delivery p c = subst (λ ss. Contains ss (delivery_of groups p)) keyed.in_turn (Contains-map (delivery_of groups) placed p c)
 
-  pub of_stop : (s : Stop) → Contains stops s → (p : Placed) × Contains placed p × (stop_of groups p ≡ s)
-  of_stop s c = Contains-from_map (stop_of groups) placed s (subst (λ ss. Contains ss s) (sym keyed.in_turn) c)
+  pub of_delivery : (s : Delivery) → Contains deliveries s → (p : Placed) × Contains placed p × (delivery_of groups p ≡ s)
+  of_delivery s c = Contains-from_map (delivery_of groups) placed s (subst (λ ss. Contains ss s) (sym keyed.in_turn) c)
 
   pub under_route : (p : Placed) → Contains placed p → IsUnderRoute recipients groups p
   under_route p c = All-contains (IsUnderRoute recipients groups) placed p keyed.under_routes c
 
-  pub within : (p : Placed) → Contains placed p → (((stop_of groups p).sender < length senders) × (p.item < length recipients))
-  within p c = All-contains (λ (s : Stop). (s.sender < length senders) × (s.recipient < length recipients)) stops (stop_of groups p) order.range.to_both (has_stop p c)
+  pub within : (p : Placed) → Contains placed p → (((delivery_of groups p).sender < length senders) × (p.item < length recipients))
+  within p c = All-contains (λ (s : Delivery). (s.sender < length senders) × (s.recipient < length recipients)) deliveries (delivery_of groups p) order.range.to_both (has_delivery p c)
 
   pub keys_small : All (λ (p : Placed). p.key < length groups) placed
   keys_small = All-weaker (IsUnderRoute recipients groups) (λ p. p.key < length groups) (λ p u. u.0) placed keyed.under_routes
 
-  stops_apart : (i j : ℕ) (d : Placed) → i < j → j < length placed → stop_below (stop_of groups (get_or placed i d)) (stop_of groups (get_or placed j d))
-  stops_apart i j d below inside =
-      let f = stop_of groups in
+  deliveries_apart : (i j : ℕ) (d : Placed) → i < j → j < length placed → delivery_below (delivery_of groups (get_or placed i d)) (delivery_of groups (get_or placed j d))
+  deliveries_apart i j d below inside =
+      let f = delivery_of groups in
       let long = length-map placed f in
-      let ordered : AllPairs stop_below (map f placed) = subst (λ ss. AllPairs stop_below ss) (sym keyed.in_turn) order.stops_ascending in
+      let ordered : AllPairs delivery_below (map f placed) = subst (λ ss. AllPairs delivery_below ss) (sym keyed.in_turn) order.deliveries_ascending in
       let pair = ordered i j (f d) below (omega arith) in
-      let first = subst (λ s. stop_below s (get_or (map f placed) j (f d))) (get_or-map f placed i d (f d) (omega arith)) pair in
-      subst (λ s. stop_below (f (get_or placed i d)) s) (get_or-map f placed j d (f d) inside) first
+      let first = subst (λ s. delivery_below s (get_or (map f placed) j (f d))) (get_or-map f placed i d (f d) (omega arith)) pair in
+      subst (λ s. delivery_below (f (get_or placed i d)) s) (get_or-map f placed j d (f d) inside) first
 
   pub placed_ascends : IsAscendingPlaced placed
   placed_ascends i j d below inside =
@@ -106,7 +106,7 @@ module _ (senders : List Sender) (routes : List Route) (recipients : List Routed
       let small : q.item < length recipients = (within q has_q).1 in
       let route_p : g.route ≡ route_by recipients p.item = u.1 in
       let route_q : h.route ≡ route_by recipients q.item = v.1 in
-      let pair : (g.sender < h.sender) ⊎ ((g.sender ≡ h.sender) × (p.item < q.item)) = stops_apart i j d below inside in
+      let pair : (g.sender < h.sender) ⊎ ((g.sender ≡ h.sender) × (p.item < q.item)) = deliveries_apart i j d below inside in
       elim (cases_order p.key q.key) [
         | inl e ↦
             let same : g.sender ≡ h.sender = ap (λ k. (numbers_at groups k).sender) e in
@@ -121,7 +121,7 @@ module _ (senders : List Sender) (routes : List Route) (recipients : List Routed
                         elim pair [
                           | inl m ↦ absurd (omega (arith, back.0))
                           | inr m ↦
-                              let rise = routes_rise senders routes recipients stops order p.item q.item m.1 small in
+                              let rise = routes_rise senders routes recipients deliveries order p.item q.item m.1 small in
                               let fall : h.route < g.route = back.1 in
                               absurd (omega arith)
                         ]
@@ -144,7 +144,7 @@ module _ (senders : List Sender) (routes : List Route) (recipients : List Routed
 
   pub groups_apart : (j k : ℕ) → j < k → k < length groups → (xs ys : List ℕ) → group_cmp (group_of senders routes recipients (numbers_at groups j) xs) (group_of senders routes recipients (numbers_at groups k) ys) ≡ Less
   groups_apart j k l b xs ys =
-      groups_rise senders routes recipients stops order (numbers_at groups j) (numbers_at groups k) xs ys (in_lists k b) (keyed.ascending j k (record { sender = 0; route = 0 }) l b)
+      groups_rise senders routes recipients deliveries order (numbers_at groups j) (numbers_at groups k) xs ys (in_lists k b) (keyed.ascending j k (record { sender = 0; route = 0 }) l b)
 
   groups_ascend : IsAscendingBy group_cmp all_groups
   groups_ascend =
@@ -173,12 +173,12 @@ module _ (senders : List Sender) (routes : List Route) (recipients : List Routed
       let n = get_or items j d in
       let has_m = item_placed placed key m (Contains-get_or items i d (omega arith)) in
       let has_n = item_placed placed key n (Contains-get_or items j d inside) in
-      paths_rise senders routes recipients stops order m n (items_ascending placed key placed_ascends i j d below inside) (within (placed_at key n) has_n).1
+      paths_rise senders routes recipients deliveries order m n (items_ascending placed key placed_ascends i j d below inside) (within (placed_at key n) has_n).1
       (sym (key_route key m has_m) ∙ key_route key n has_n))
 
   -- ---- what the groups have
   abbrev pub Placed_by : Sender → Route → AddressParts → Type 0
-  Placed_by = IsPlacedBy senders routes recipients stops
+  Placed_by = IsPlacedBy senders routes recipients deliveries
 
   recipient_known : (n : ℕ) → n < length recipients → (r : Routed) × (slice_get recipients n ≡ Some r) × (r.route ≡ route_by recipients n) × (r.address.now ≡ address_at recipients n)
   recipient_known n b = known recipients b where
@@ -198,8 +198,8 @@ module _ (senders : List Sender) (routes : List Route) (recipients : List Routed
       let lists = in_lists key u.0 in
       let route : r.0.route ≡ (numbers_at groups key).route = r.2 ∙ sym u.1 in
       record {
-        stop = stop_of groups p;
-        in_stops = has_stop p c;
+        delivery = delivery_of groups p;
+        in_deliveries = has_delivery p c;
         sender_is = slice_get-get_or senders (numbers_at groups key).sender None lists.0;
         recipient = r.0;
         recipient_is = r.1;
@@ -218,10 +218,10 @@ module _ (senders : List Sender) (routes : List Route) (recipients : List Routed
 
   pub under_key : (sender : Sender) (route : Route) (a : AddressParts) → Placed_by sender route a → IsUnderKey sender route a
   under_key sender route a by =
-      let p = of_stop by.stop by.in_stops in
+      let p = of_delivery by.delivery by.in_deliveries in
       let key = p.0.key in
       let item = p.0.item in
-      let item_is : item ≡ by.stop.recipient = ap (λ (s : Stop). s.recipient) p.2 in
+      let item_is : item ≡ by.delivery.recipient = ap (λ (s : Delivery). s.recipient) p.2 in
       let u = under_route p.0 p.1 in
       let r = recipient_known item (within p.0 p.1).1 in
       let same : Some r.0 ≡ Some by.recipient = sym r.1 ∙ ap (slice_get recipients) item_is ∙ by.recipient_is in
@@ -230,7 +230,7 @@ module _ (senders : List Sender) (routes : List Route) (recipients : List Routed
         key = key;
         item = item;
         is_placed = p.1;
-        sender_is = ap (λ (s : Stop). sender_at senders s.sender) p.2 ∙ get_or_from_slice_get senders by.stop.sender sender None by.sender_is;
+        sender_is = ap (λ (s : Delivery). sender_at senders s.sender) p.2 ∙ get_or_from_slice_get senders by.delivery.sender sender None by.sender_is;
         route_is = ap (route_at routes) (u.1 ∙ sym r.2 ∙ ap (λ (x : Routed). x.route) one) ∙ get_or_from_slice_get routes by.recipient.route route no_route by.route_is;
         address_is = sym r.3 ∙ ap (λ (x : Routed). x.address.now) one ∙ by.address_is;
       }

@@ -8,7 +8,7 @@ pub mod RecipientFacts
 pub mod RouteFacts
 pub mod SenderFacts
 pub mod CountFacts
-pub mod StopFacts
+pub mod DeliveryFacts
 pub mod Steps
 pub mod Lists
 pub mod KeyedSteps

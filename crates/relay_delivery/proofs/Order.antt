@@ -14,7 +14,7 @@ use Rattle.relay_routes.specs.declared.route.Route.{Route}
 use Rattle.relay_routes.specs.Transports.{transport_name}
 use Rattle.relay_delivery.specs.declared.group_numbers.GroupNumbers.{GroupNumbers}
 use Rattle.relay_delivery.specs.declared.routed.Routed.{Routed}
-use Rattle.relay_delivery.specs.declared.stop.Stop.{Stop}
+use Rattle.relay_delivery.specs.declared.delivery.Delivery.{Delivery}
 use Rattle.relay_delivery.specs.Cuts.{no_route, sender_at, route_at, address_at, group_of}
 use Rattle.relay_delivery.specs.Groups.{Group, Sender, DeliveryKey, route_cmp, group_cmp, path_cmp}
 use Rattle.relay_delivery.specs.Keyed.{group_below, route_by}
@@ -52,7 +52,7 @@ groups_tied g h e =
     ∙ ap (λ o. ordering_then o by_nexthop) (tied_texts (transport_name g.route.transport) (transport_name h.route.transport) (ap (λ (k : DeliveryKey). transport_name k.transport) e))
     ∙ tied_texts g.route.nexthop h.route.nexthop (ap (λ (k : DeliveryKey). k.nexthop) e)
 
-module _ (senders : List Sender) (routes : List Route) (recipients : List Routed) (stops : List Stop) (order : IsInOrder senders routes recipients stops) where
+module _ (senders : List Sender) (routes : List Route) (recipients : List Routed) (deliveries : List Delivery) (order : IsInOrder senders routes recipients deliveries) where
   abbrev pub InLists : GroupNumbers → Type 0
   InLists g = (g.sender < length senders) × (g.route < length routes)
 

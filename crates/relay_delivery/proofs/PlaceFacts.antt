@@ -7,10 +7,10 @@ use Rattle.std.proofs.lemmas.Option.{slice_get-map, slice_get-get_or, slice_get_
 use Rattle.relay_text.specs.AddressParts.{AddressParts}
 use Rattle.relay_routes.specs.declared.route.Route.{Route}
 use Rattle.relay_delivery.specs.declared.routed.Routed.{Routed}
-use Rattle.relay_delivery.specs.declared.stop.Stop.{Stop}
+use Rattle.relay_delivery.specs.declared.delivery.Delivery.{Delivery}
 use Rattle.relay_delivery.specs.Groups.{Sender}
-use Rattle.relay_delivery.specs.Placings.{AreInRange, IsPlacedBy, IsInOrder, stop_below}
-use Rattle.relay_delivery.specs.Orders.{HaveMoved, AreSendersInOrder, AreRoutesInOrder, AreRecipientsInOrder, RoutedParts, routed_parts, moved_to, stop_at}
+use Rattle.relay_delivery.specs.Placings.{AreInRange, IsPlacedBy, IsInOrder, delivery_below}
+use Rattle.relay_delivery.specs.Orders.{HaveMoved, AreSendersInOrder, AreRoutesInOrder, AreRecipientsInOrder, RoutedParts, routed_parts, moved_to, delivery_at}
 use Rattle.relay_delivery.proofs.PickFacts.{element}
 
 within : {X : Type 0} (xs : List X) (k : ℕ) (x : X) → get_or xs k x ≡ x → k < length xs → slice_get xs k ≡ Some x
@@ -37,18 +37,18 @@ from_map f xs y has =
     (x.0, (has.0, inside, x.1), ap f (sym x.1) ∙ sym (get_or-map f xs has.0 x.0 y inside) ∙ has.2)
 
 module _
-    (senders new_senders : List Sender) (routes new_routes : List Route) (recipients new_recipients : List Routed) (stops new_stops : List Stop) (sender_places route_places recipient_places : List ℕ)
+    (senders new_senders : List Sender) (routes new_routes : List Route) (recipients new_recipients : List Routed) (deliveries new_deliveries : List Delivery) (sender_places route_places recipient_places : List ℕ)
     (s : AreSendersInOrder senders new_senders sender_places) (r : AreRoutesInOrder routes new_routes route_places) (t : AreRecipientsInOrder (map (moved_to route_places) recipients) new_recipients recipient_places)
-    (same : (x : Stop) → Contains new_stops x ↔ Contains (map (stop_at sender_places recipient_places) stops) x) (range : AreInRange senders routes recipients stops) where
+    (same : (x : Delivery) → Contains new_deliveries x ↔ Contains (map (delivery_at sender_places recipient_places) deliveries) x) (range : AreInRange senders routes recipients deliveries) where
   abbrev moved : List Routed
   moved = map (moved_to route_places) recipients
 
-  -- the old stop of a new one
-  old_stop : (x : Stop) → Contains new_stops x → (y : Stop) × Contains stops y × (stop_at sender_places recipient_places y ≡ x)
-  old_stop x has = from_map (stop_at sender_places recipient_places) stops x ((same x).0 has)
+  -- the old delivery of a new one
+  old_delivery : (x : Delivery) → Contains new_deliveries x → (y : Delivery) × Contains deliveries y × (delivery_at sender_places recipient_places y ≡ x)
+  old_delivery x has = from_map (delivery_at sender_places recipient_places) deliveries x ((same x).0 has)
 
-  in_range : (y : Stop) → Contains stops y → (y.sender < length senders) × (y.recipient < length recipients)
-  in_range y has = All-contains (λ (z : Stop). (z.sender < length senders) × (z.recipient < length recipients)) stops y range.to_both has
+  in_range : (y : Delivery) → Contains deliveries y → (y.sender < length senders) × (y.recipient < length recipients)
+  in_range y has = All-contains (λ (z : Delivery). (z.sender < length senders) × (z.recipient < length recipients)) deliveries y range.to_both has
 
   new_sender : (k : ℕ) → k < length senders → get_or sender_places k 0 < length new_senders
   new_sender k inside = place_within senders new_senders sender_places s.moved k inside
@@ -64,20 +64,20 @@ module _
       t.routes (length new_routes)
       (All-map (λ q. q.route < length new_routes) (moved_to route_places) recipients (λ k d inside. place_within routes new_routes route_places r.moved (get_or recipients k d).route (range.to_routes k d inside)))
 
-  stop_within : (x : Stop) → Contains new_stops x → (x.sender < length new_senders) × (x.recipient < length new_recipients)
-  stop_within x has =
-      let old = old_stop x has in
+  delivery_within : (x : Delivery) → Contains new_deliveries x → (x.sender < length new_senders) × (x.recipient < length new_recipients)
+  delivery_within x has =
+      let old = old_delivery x has in
       let y = old.0 in
       let inside = in_range y old.1 in
-      (subst (λ (z : Stop). z.sender < length new_senders) old.2 (new_sender y.sender inside.0), subst (λ (z : Stop). z.recipient < length new_recipients) old.2 (new_recipient y.recipient inside.1))
+      (subst (λ (z : Delivery). z.sender < length new_senders) old.2 (new_sender y.sender inside.0), subst (λ (z : Delivery). z.recipient < length new_recipients) old.2 (new_recipient y.recipient inside.1))
 
-  pub in_order : AllPairs stop_below new_stops → IsInOrder new_senders new_routes new_recipients new_stops
+  pub in_order : AllPairs delivery_below new_deliveries → IsInOrder new_senders new_routes new_recipients new_deliveries
   in_order ascending = record {
-    range = record { to_routes = routes_within; to_both = λ k d inside. stop_within (get_or new_stops k d) (Contains-get_or new_stops k d inside) };
+    range = record { to_routes = routes_within; to_both = λ k d inside. delivery_within (get_or new_deliveries k d) (Contains-get_or new_deliveries k d inside) };
     senders_ascending = s.ascending;
     routes_ascending = r.ascending;
     recipients_ascending = t.ascending;
-    stops_ascending = ascending;
+    deliveries_ascending = ascending;
   }
 
   -- a recipient, and what stands at its place
@@ -94,34 +94,34 @@ module _
   route_in : (k : ℕ) (old : Routed) → slice_get recipients k ≡ Some old → old.route < length routes
   route_in k old is = All-contains (λ (q : Routed). q.route < length routes) recipients old range.to_routes (k, slice_get_within recipients k old is, get_or_from_slice_get recipients k old old is)
 
-  from_new : (sender : Sender) (route : Route) (a : AddressParts) → IsPlacedBy new_senders new_routes new_recipients new_stops sender route a → IsPlacedBy senders routes recipients stops sender route a
+  from_new : (sender : Sender) (route : Route) (a : AddressParts) → IsPlacedBy new_senders new_routes new_recipients new_deliveries sender route a → IsPlacedBy senders routes recipients deliveries sender route a
   from_new sender route a p =
-      let old = old_stop p.stop p.in_stops in
+      let old = old_delivery p.delivery p.in_deliveries in
       let y = old.0 in
       let inside = in_range y old.1 in
       let q = element recipients y.recipient inside.1 in
       let is_q : slice_get recipients y.recipient ≡ Some q.0 = within recipients y.recipient q.0 q.1 inside.1 in
-      let parts = twin y.recipient q.0 p.recipient is_q (ap (λ (z : Stop). slice_get new_recipients z.recipient) old.2 ∙ p.recipient_is) in
+      let parts = twin y.recipient q.0 p.recipient is_q (ap (λ (z : Delivery). slice_get new_recipients z.recipient) old.2 ∙ p.recipient_is) in
       record {
-        stop = y;
-        in_stops = old.1;
-        sender_is = sym (s.moved.moved y.sender inside.0) ∙ ap (λ (z : Stop). slice_get new_senders z.sender) old.2 ∙ p.sender_is;
+        delivery = y;
+        in_deliveries = old.1;
+        sender_is = sym (s.moved.moved y.sender inside.0) ∙ ap (λ (z : Delivery). slice_get new_senders z.sender) old.2 ∙ p.sender_is;
         recipient = q.0;
         recipient_is = is_q;
         route_is = sym (r.moved.moved q.0.route (route_in y.recipient q.0 is_q)) ∙ ap (λ (h : RoutedParts). slice_get new_routes h.route) (sym parts) ∙ p.route_is;
         address_is = ap (λ (h : RoutedParts). h.address) (sym parts) ∙ p.address_is;
       }
 
-  to_new : (sender : Sender) (route : Route) (a : AddressParts) → IsPlacedBy senders routes recipients stops sender route a → IsPlacedBy new_senders new_routes new_recipients new_stops sender route a
+  to_new : (sender : Sender) (route : Route) (a : AddressParts) → IsPlacedBy senders routes recipients deliveries sender route a → IsPlacedBy new_senders new_routes new_recipients new_deliveries sender route a
   to_new sender route a p =
-      let y = p.stop in
+      let y = p.delivery in
       let inside = slice_get_within recipients y.recipient p.recipient p.recipient_is in
       let q = element new_recipients (get_or recipient_places y.recipient 0) (new_recipient y.recipient inside) in
       let is_q : slice_get new_recipients (get_or recipient_places y.recipient 0) ≡ Some q.0 = within new_recipients (get_or recipient_places y.recipient 0) q.0 q.1 (new_recipient y.recipient inside) in
       let parts = twin y.recipient p.recipient q.0 p.recipient_is is_q in
       record {
-        stop = stop_at sender_places recipient_places y;
-        in_stops = (same (stop_at sender_places recipient_places y)).1 (contains_map (stop_at sender_places recipient_places) stops y p.in_stops);
+        delivery = delivery_at sender_places recipient_places y;
+        in_deliveries = (same (delivery_at sender_places recipient_places y)).1 (contains_map (delivery_at sender_places recipient_places) deliveries y p.in_deliveries);
         sender_is = s.moved.moved y.sender (slice_get_within senders y.sender sender p.sender_is) ∙ p.sender_is;
         recipient = q.0;
         recipient_is = is_q;
@@ -129,5 +129,5 @@ module _
         address_is = ap (λ (h : RoutedParts). h.address) parts ∙ p.address_is;
       }
 
-  pub placed : (sender : Sender) (route : Route) (a : AddressParts) → IsPlacedBy new_senders new_routes new_recipients new_stops sender route a ↔ IsPlacedBy senders routes recipients stops sender route a
+  pub placed : (sender : Sender) (route : Route) (a : AddressParts) → IsPlacedBy new_senders new_routes new_recipients new_deliveries sender route a ↔ IsPlacedBy senders routes recipients deliveries sender route a
   placed sender route a = (from_new sender route a, to_new sender route a)

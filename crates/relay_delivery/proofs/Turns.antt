@@ -1,4 +1,4 @@
--- A turn over the stops: whether the next stop's group is the last one, and what is keyed then.
+-- A turn over the deliveries: whether the next delivery's group is the last one, and what is keyed then.
 use Rattle.std.proofs.Common.{◌≡◌, ℕ, ◌+◌, ◌-◌, ◌<◌, ◌&&◌, Bool, true, false, not, eqb, Option, Some, None, List, [], ◌∷◌, ◌++◌, length, get_or, refl, sym, ap, ◌∙◌, subst, arith, inl, inr}
 use Rattle.std.specs.List.{All, slice_get}
 use Rattle.std.specs.Option.{option_eq}
@@ -10,11 +10,11 @@ use Rattle.relay_routes.specs.declared.route.Route.{Route}
 use Rattle.relay_rings.specs.declared.batching.Placed.{Placed}
 use Rattle.relay_delivery.specs.declared.group_numbers.GroupNumbers.{GroupNumbers}
 use Rattle.relay_delivery.specs.declared.routed.Routed.{Routed}
-use Rattle.relay_delivery.specs.declared.stop.Stop.{Stop}
+use Rattle.relay_delivery.specs.declared.delivery.Delivery.{Delivery}
 use Rattle.relay_delivery.specs.Groups.{Sender}
 use Rattle.relay_delivery.specs.Keyed.{numbers_at, route_by}
 use Rattle.relay_delivery.specs.Placings.{IsInOrder}
-use Rattle.relay_delivery.proofs.KeyedSteps.{no_stop, no_numbers, numbers_of, IsKeyedUpTo, same_group, new_group}
+use Rattle.relay_delivery.proofs.KeyedSteps.{no_delivery, no_numbers, numbers_of, IsKeyedUpTo, same_group, new_group}
 use Rattle.relay_delivery.proofs.Order.{routes_rise}
 
 -- ---- the last group
@@ -54,51 +54,51 @@ route_read : (recipients : List Routed) (n : ℕ) (r : Routed) → slice_get rec
 route_read recipients n r is =
     get_or-map (λ (x : Routed). x.route) recipients n r 0 (slice_get_within recipients n r is) ∙ ap (λ (x : Routed). x.route) (get_or_from_slice_get recipients n r r is)
 
--- ---- the turn of stop `i`, of stops as they are `read`
-module _ (senders : List Sender) (routes : List Route) (recipients : List Routed) (stops : List Stop) (order : IsInOrder senders routes recipients stops)
-    (i : ℕ) (groups : List GroupNumbers) (placed : List Placed) (keyed : IsKeyedUpTo recipients stops i groups placed)
-    (read : List Stop) (read_is : read ≡ stops) (b : i < length read)
-    (recipient : Routed) (recipient_is : recipient ≡ get_or recipients (get_or read i no_stop).recipient recipient)
+-- ---- the turn of delivery `i`, of deliveries as they are `read`
+module _ (senders : List Sender) (routes : List Route) (recipients : List Routed) (deliveries : List Delivery) (order : IsInOrder senders routes recipients deliveries)
+    (i : ℕ) (groups : List GroupNumbers) (placed : List Placed) (keyed : IsKeyedUpTo recipients deliveries i groups placed)
+    (read : List Delivery) (read_is : read ≡ deliveries) (b : i < length read)
+    (recipient : Routed) (recipient_is : recipient ≡ get_or recipients (get_or read i no_delivery).recipient recipient)
     (after : List GroupNumbers) where
   abbrev pub next : GroupNumbers
-  next = record { sender = (get_or read i no_stop).sender; route = recipient.route }
+  next = record { sender = (get_or read i no_delivery).sender; route = recipient.route }
 
-  here : i < length stops
-  here = subst (λ (ss : List Stop). i < length ss) read_is b
+  here : i < length deliveries
+  here = subst (λ (ss : List Delivery). i < length ss) read_is b
 
-  stop_is : get_or read i no_stop ≡ get_or stops i no_stop
-  stop_is = ap (λ ss. get_or ss i no_stop) read_is
+  delivery_is : get_or read i no_delivery ≡ get_or deliveries i no_delivery
+  delivery_is = ap (λ ss. get_or ss i no_delivery) read_is
 
-  in_recipients : All (λ (s : Stop). s.recipient < length recipients) stops
-  in_recipients = All-weaker (λ (s : Stop). (s.sender < length senders) × (s.recipient < length recipients)) (λ s. s.recipient < length recipients) (λ s in_both. in_both.1) stops order.range.to_both
+  in_recipients : All (λ (s : Delivery). s.recipient < length recipients) deliveries
+  in_recipients = All-weaker (λ (s : Delivery). (s.sender < length senders) × (s.recipient < length recipients)) (λ s. s.recipient < length recipients) (λ s in_both. in_both.1) deliveries order.range.to_both
 
-  found : slice_get recipients (get_or read i no_stop).recipient ≡ Some recipient
+  found : slice_get recipients (get_or read i no_delivery).recipient ≡ Some recipient
   found =
-      let inside = subst (λ (s : Stop). s.recipient < length recipients) (sym stop_is) (in_recipients i no_stop here) in
-      slice_get_read recipients (length recipients) (get_or read i no_stop).recipient recipient refl inside recipient_is
+      let inside = subst (λ (s : Delivery). s.recipient < length recipients) (sym delivery_is) (in_recipients i no_delivery here) in
+      slice_get_read recipients (length recipients) (get_or read i no_delivery).recipient recipient refl inside recipient_is
 
-  next_is : next ≡ numbers_of recipients (get_or stops i no_stop)
+  next_is : next ≡ numbers_of recipients (get_or deliveries i no_delivery)
   next_is =
       let numbers : ℕ → ℕ → GroupNumbers = λ s r. record { sender = s; route = r } in
-      let route_is : recipient.route ≡ route_by recipients (get_or stops i no_stop).recipient = sym (route_read recipients (get_or read i no_stop).recipient recipient found) ∙ ap (λ (s : Stop). route_by recipients s.recipient) stop_is in
-      ap (λ (s : Stop). numbers s.sender recipient.route) stop_is ∙ ap (numbers (get_or stops i no_stop).sender) route_is
+      let route_is : recipient.route ≡ route_by recipients (get_or deliveries i no_delivery).recipient = sym (route_read recipients (get_or read i no_delivery).recipient recipient found) ∙ ap (λ (s : Delivery). route_by recipients s.recipient) delivery_is in
+      ap (λ (s : Delivery). numbers s.sender recipient.route) delivery_is ∙ ap (numbers (get_or deliveries i no_delivery).sender) route_is
 
-  module _ (last : Option GroupNumbers) (last_is : last ≡ slice_get groups (length groups - 1)) (more : List Placed) (more_is : more ≡ placed ++ record { key = length after - 1; item = (get_or read i no_stop).recipient } ∷ []) where
-    over : (made : List GroupNumbers) → after ≡ made → IsKeyedUpTo recipients stops (i + 1) made (placed ++ record { key = length made - 1; item = (get_or stops i no_stop).recipient } ∷ []) → IsKeyedUpTo recipients stops (i + 1) after more
+  module _ (last : Option GroupNumbers) (last_is : last ≡ slice_get groups (length groups - 1)) (more : List Placed) (more_is : more ≡ placed ++ record { key = length after - 1; item = (get_or read i no_delivery).recipient } ∷ []) where
+    over : (made : List GroupNumbers) → after ≡ made → IsKeyedUpTo recipients deliveries (i + 1) made (placed ++ record { key = length made - 1; item = (get_or deliveries i no_delivery).recipient } ∷ []) → IsKeyedUpTo recipients deliveries (i + 1) after more
     over made is k =
-        let with : List GroupNumbers → Stop → List Placed = λ gs s. placed ++ record { key = length gs - 1; item = s.recipient } ∷ [] in
-        let same : more ≡ with made (get_or stops i no_stop) = more_is ∙ ap (λ gs. with gs (get_or read i no_stop)) is ∙ ap (with made) stop_is in
-        subst (λ gs. IsKeyedUpTo recipients stops (i + 1) gs more) (sym is) (subst (λ ps. IsKeyedUpTo recipients stops (i + 1) made ps) (sym same) k)
+        let with : List GroupNumbers → Delivery → List Placed = λ gs s. placed ++ record { key = length gs - 1; item = s.recipient } ∷ [] in
+        let same : more ≡ with made (get_or deliveries i no_delivery) = more_is ∙ ap (λ gs. with gs (get_or read i no_delivery)) is ∙ ap (with made) delivery_is in
+        subst (λ gs. IsKeyedUpTo recipients deliveries (i + 1) gs more) (sym is) (subst (λ ps. IsKeyedUpTo recipients deliveries (i + 1) made ps) (sym same) k)
 
-    pub turn_same : not (option_eq same_numbers last (Some next)) ≡ false → after ≡ groups → IsKeyedUpTo recipients stops (i + 1) after more
+    pub turn_same : not (option_eq same_numbers last (Some next)) ≡ false → after ≡ groups → IsKeyedUpTo recipients deliveries (i + 1) after more
     turn_same same is =
         let s = same_last groups last next last_is same in
-        over groups is (same_group recipients stops order.stops_ascending in_recipients (routes_rise senders routes recipients stops order) i groups placed keyed here s.0 (s.1 ∙ next_is))
+        over groups is (same_group recipients deliveries order.deliveries_ascending in_recipients (routes_rise senders routes recipients deliveries order) i groups placed keyed here s.0 (s.1 ∙ next_is))
 
-    pub turn_new : not (option_eq same_numbers last (Some next)) ≡ true → after ≡ groups ++ next ∷ [] → IsKeyedUpTo recipients stops (i + 1) after more
+    pub turn_new : not (option_eq same_numbers last (Some next)) ≡ true → after ≡ groups ++ next ∷ [] → IsKeyedUpTo recipients deliveries (i + 1) after more
     turn_new differs is =
-        over (groups ++ numbers_of recipients (get_or stops i no_stop) ∷ []) (is ∙ ap (λ g. groups ++ g ∷ []) next_is)
-        (new_group recipients stops order.stops_ascending in_recipients (routes_rise senders routes recipients stops order) i groups placed keyed here
+        over (groups ++ numbers_of recipients (get_or deliveries i no_delivery) ∷ []) (is ∙ ap (λ g. groups ++ g ∷ []) next_is)
+        (new_group recipients deliveries order.deliveries_ascending in_recipients (routes_rise senders routes recipients deliveries order) i groups placed keyed here
         (λ some e. other_last groups last next last_is differs some (e ∙ sym next_is)))
 
   -- the next group is in range where the others are
@@ -108,10 +108,10 @@ module _ (senders : List Sender) (routes : List Route) (recipients : List Routed
 
     pub range_new : after ≡ groups ++ next ∷ [] → All (λ (g : GroupNumbers). (g.sender < m) × (g.route < n)) after
     range_new is =
-        let number = (get_or read i no_stop).recipient in
-        let both = order.range.to_both i no_stop here in
-        let sender : (get_or stops i no_stop).sender < length senders = both.0 in
-        let same : (get_or read i no_stop).sender ≡ (get_or stops i no_stop).sender = ap (λ (s : Stop). s.sender) stop_is in
+        let number = (get_or read i no_delivery).recipient in
+        let both = order.range.to_both i no_delivery here in
+        let sender : (get_or deliveries i no_delivery).sender < length senders = both.0 in
+        let same : (get_or read i no_delivery).sender ≡ (get_or deliveries i no_delivery).sender = ap (λ (s : Delivery). s.sender) delivery_is in
         let route : (get_or recipients number recipient).route < length routes = order.range.to_routes number recipient (slice_get_within recipients number recipient found) in
         let read_route : (get_or recipients number recipient).route ≡ recipient.route = ap (λ (r : Routed). r.route) (sym recipient_is) in
         subst (λ gs. All (λ (g : GroupNumbers). (g.sender < m) × (g.route < n)) gs) (sym is)

@@ -1,4 +1,4 @@
--- What stops under their keys are cut into, and what is written of the cuts.
+-- What deliveries under their keys are cut into, and what is written of the cuts.
 use Rattle.std.proofs.Common.{◌≡◌, ℕ, ◌+◌, ◌<◌, ◌≤◌, List, [], ◌∷◌, ◌++◌, length, get_or, map, take, sym, ap, ◌∙◌, subst, arith, slice_index}
 use Rattle.std.specs.Prelude.{option_copied}
 use Rattle.std.specs.Borrow.{Bor}
@@ -46,7 +46,7 @@ pub limits_read : (limits : BatchLimits) (routes read_routes : List (Bor Route))
 limits_read limits routes read_routes groups read_groups by_key read routes_are groups_are by_key_is read_is =
     read_is ∙ by_key_is ∙ ap (λ rs. limits_of limits rs read_groups) routes_are ∙ ap (limits_of limits routes) groups_are
 
-module _ (p : Placing) (order : IsOrdered p) (groups : List GroupNumbers) (placed : List Placed) (keyed : AreKeyed p.recipients.items p.stops.items groups placed)
+module _ (p : Placing) (order : IsOrdered p) (groups : List GroupNumbers) (placed : List Placed) (keyed : AreKeyed p.recipients.items p.deliveries.items groups placed)
     (range : All (λ (g : GroupNumbers). (g.sender < length p.senders.items) × (g.route < length p.routes.items)) groups) where
   in_lists : All (λ (g : GroupNumbers). (g.sender < length (senders_of p.senders.items)) × (g.route < length (routes_of p.routes.items))) groups
   in_lists =
@@ -60,7 +60,7 @@ module _ (p : Placing) (order : IsOrdered p) (groups : List GroupNumbers) (place
       groups range
 
   pub placed_rises : IsAscendingPlaced placed
-  placed_rises = placed_ascends (senders_of p.senders.items) (routes_of p.routes.items) p.recipients.items p.stops.items order groups placed keyed in_lists
+  placed_rises = placed_ascends (senders_of p.senders.items) (routes_of p.routes.items) p.recipients.items p.deliveries.items order groups placed keyed in_lists
 
   -- a batch is of a group, and of recipients
   pub batch_key : (limits : List ℕ) (t : Transaction) → Contains (cuts.batches_of limits placed) t → t.key < length groups
@@ -68,12 +68,12 @@ module _ (p : Placing) (order : IsOrdered p) (groups : List GroupNumbers) (place
       let k = Contains-from_flat_map (batches_at limits placed) (keys_of placed) t c in
       let of_key : List ℕ → Transaction = λ part. record { key = k.0; items = part } in
       let part = Contains-from_map of_key (parts_of (slice_index limits k.0) (items_at placed k.0)) t k.2 in
-      subst (λ (u : Transaction). u.key < length groups) part.2 (key_small (senders_of p.senders.items) (routes_of p.routes.items) p.recipients.items p.stops.items order groups placed keyed in_lists k.0 k.1)
+      subst (λ (u : Transaction). u.key < length groups) part.2 (key_small (senders_of p.senders.items) (routes_of p.routes.items) p.recipients.items p.deliveries.items order groups placed keyed in_lists k.0 k.1)
 
   pub batch_items : (limits : List ℕ) (ts : List Transaction) → sound.IsSoundFor limits placed ts → (t : Transaction) → Contains ts t → All (λ n. n < length p.recipients.items) t.items
   batch_items limits ts is t c i d b =
       let item = get_or t.items i d in
-      (within (senders_of p.senders.items) (routes_of p.routes.items) p.recipients.items p.stops.items order groups placed keyed in_lists (placed_at t.key item) (is.placed t item c (Contains-get_or t.items i d b))).1
+      (within (senders_of p.senders.items) (routes_of p.routes.items) p.recipients.items p.deliveries.items order groups placed keyed in_lists (placed_at t.key item) (is.placed t item c (Contains-get_or t.items i d b))).1
 
   module _ (limits : BatchLimits) (pos : (t : Transport) → 0 < limit_at limits t) (by_key : List ℕ)
       (by_key_is : by_key ≡ limits_of limits p.routes.items groups) where
@@ -88,15 +88,15 @@ module _ (p : Placing) (order : IsOrdered p) (groups : List GroupNumbers) (place
     -- the transactions that stand for the batches
     module _ (ts : List Planned) (made : List Transaction) (made_is : made ≡ cuts.batches_of by_key placed)
         (ts_are : ts ≡ map (λ (t : Transaction). planned_of (senders_of p.senders.items) (routes_of p.routes.items) p.recipients.items (numbers_at groups t.key) t.items) made) where
-      pub written_are : AreTransactionsOf (limit_at limits) (IsPlacedBy (senders_of p.senders.items) (routes_of p.routes.items) p.recipients.items p.stops.items) ts
+      pub written_are : AreTransactionsOf (limit_at limits) (IsPlacedBy (senders_of p.senders.items) (routes_of p.routes.items) p.recipients.items p.deliveries.items) ts
       written_are =
           let write : Transaction → Planned = λ t. planned_of (senders_of p.senders.items) (routes_of p.routes.items) p.recipients.items (numbers_at groups t.key) t.items in
-          transactions_are (senders_of p.senders.items) (routes_of p.routes.items) p.recipients.items p.stops.items order groups placed keyed in_lists (limit_at limits) by_key by_key_is ts (ts_are ∙ ap (map write) made_is)
+          transactions_are (senders_of p.senders.items) (routes_of p.routes.items) p.recipients.items p.deliveries.items order groups placed keyed in_lists (limit_at limits) by_key by_key_is ts (ts_are ∙ ap (map write) made_is)
 
-      pub written_sound : IsSoundFor (limit_at limits) (IsPlacedBy (senders_of p.senders.items) (routes_of p.routes.items) p.recipients.items p.stops.items) ts
-      written_sound = transactions_sound (limit_at limits) (IsPlacedBy (senders_of p.senders.items) (routes_of p.routes.items) p.recipients.items p.stops.items) pos ts written_are
+      pub written_sound : IsSoundFor (limit_at limits) (IsPlacedBy (senders_of p.senders.items) (routes_of p.routes.items) p.recipients.items p.deliveries.items) ts
+      written_sound = transactions_sound (limit_at limits) (IsPlacedBy (senders_of p.senders.items) (routes_of p.routes.items) p.recipients.items p.deliveries.items) pos ts written_are
 
-      pub written_fewest : ((other : List Transaction) → sound.IsSoundFor by_key placed other → length made ≤ length other) → IsFewest (limit_at limits) (IsPlacedBy (senders_of p.senders.items) (routes_of p.routes.items) p.recipients.items p.stops.items) ts
+      pub written_fewest : ((other : List Transaction) → sound.IsSoundFor by_key placed other → length made ≤ length other) → IsFewest (limit_at limits) (IsPlacedBy (senders_of p.senders.items) (routes_of p.routes.items) p.recipients.items p.deliveries.items) ts
       written_fewest fewest =
           let write : Transaction → Planned = λ t. planned_of (senders_of p.senders.items) (routes_of p.routes.items) p.recipients.items (numbers_at groups t.key) t.items in
-          none_shorter (senders_of p.senders.items) (routes_of p.routes.items) p.recipients.items p.stops.items order groups placed keyed in_lists (limit_at limits) by_key by_key_is ts made (ap length ts_are ∙ length-map made write) fewest
+          none_shorter (senders_of p.senders.items) (routes_of p.routes.items) p.recipients.items p.deliveries.items order groups placed keyed in_lists (limit_at limits) by_key by_key_is ts made (ap length ts_are ∙ length-map made write) fewest

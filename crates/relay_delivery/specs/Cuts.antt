@@ -36,4 +36,4 @@ planned_of senders routes recipients g items = planned (group_of senders routes 
 
 -- all is in range and in the order of a plan
 abbrev pub IsOrdered : Placing → Type 0
-IsOrdered p = IsInOrder (senders_of p.senders.items) (routes_of p.routes.items) p.recipients.items p.stops.items
+IsOrdered p = IsInOrder (senders_of p.senders.items) (routes_of p.routes.items) p.recipients.items p.deliveries.items

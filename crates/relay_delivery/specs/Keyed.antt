@@ -1,9 +1,9 @@
--- Keys: the numbers of the groups that stops fall into, in order.
+-- Keys: the numbers of the groups that deliveries fall into, in order.
 use Rattle.std.specs.Prelude.{◌≡◌, ◌⊎◌, ℕ, ◌<◌, List, length, map, All, AllPairs, slice_index, slice_index_or}
 use Rattle.relay_rings.specs.declared.batching.Placed.{Placed}
 use Rattle.relay_delivery.specs.declared.group_numbers.GroupNumbers.{GroupNumbers}
 use Rattle.relay_delivery.specs.declared.routed.Routed.{Routed}
-use Rattle.relay_delivery.specs.declared.stop.Stop.{Stop}
+use Rattle.relay_delivery.specs.declared.delivery.Delivery.{Delivery}
 
 -- by sender, and then by route
 abbrev pub group_below : GroupNumbers → GroupNumbers → Type 0
@@ -17,16 +17,16 @@ numbers_at groups key = slice_index_or groups key (record { sender = 0; route = 
 abbrev pub route_by : List Routed → ℕ → ℕ
 route_by recipients n = slice_index (map (λ (r : Routed). r.route) recipients) n
 
--- a recipient under a key is a stop of the key's sender
-abbrev pub stop_of : List GroupNumbers → Placed → Stop
-stop_of groups p = record { sender = (numbers_at groups p.key).sender; recipient = p.item }
+-- a recipient under a key is a delivery of the key's sender
+abbrev pub delivery_of : List GroupNumbers → Placed → Delivery
+delivery_of groups p = record { sender = (numbers_at groups p.key).sender; recipient = p.item }
 
 -- a recipient is under the key of a group of its own route
 abbrev pub IsUnderRoute : List Routed → List GroupNumbers → Placed → Type 0
 IsUnderRoute recipients groups p = (p.key < length groups) × ((numbers_at groups p.key).route ≡ route_by recipients p.item)
 
--- The groups are distinct and in order, and each stop, in order, is under the key of its sender and of its recipient's route.
-pub record AreKeyed (recipients : List Routed) (stops : List Stop) (groups : List GroupNumbers) (placed : List Placed) : Type 0 where
+-- The groups are distinct and in order, and each delivery, in order, is under the key of its sender and of its recipient's route.
+pub record AreKeyed (recipients : List Routed) (deliveries : List Delivery) (groups : List GroupNumbers) (placed : List Placed) : Type 0 where
   pub ascending : AllPairs group_below groups
   pub under_routes : All (IsUnderRoute recipients groups) placed
-  pub in_turn : map (stop_of groups) placed ≡ stops
+  pub in_turn : map (delivery_of groups) placed ≡ deliveries

@@ -7,7 +7,7 @@ use Rattle.relay_text.specs.Addresses.{is_address}
 use Rattle.relay_text.specs.TextSets.{IsAscendingBy}
 use Rattle.relay_routes.specs.declared.route.Route.{Route}
 use Rattle.relay_delivery.specs.declared.routed.Routed.{Routed}
-use Rattle.relay_delivery.specs.declared.stop.Stop.{Stop}
+use Rattle.relay_delivery.specs.declared.delivery.Delivery.{Delivery}
 use Rattle.relay_delivery.specs.Groups.{Sender, sender_cmp, route_cmp, path_cmp}
 
 -- the senders behind references
@@ -23,9 +23,9 @@ abbrev pub IsSender : Sender → Type 0
 IsSender sender = IfSome sender (λ a. IsTrue (is_address a))
 
 -- the numbers of routes, senders and recipients are in their lists
-pub record AreInRange (senders : List Sender) (routes : List Route) (recipients : List Routed) (stops : List Stop) : Type 0 where
+pub record AreInRange (senders : List Sender) (routes : List Route) (recipients : List Routed) (deliveries : List Delivery) : Type 0 where
   pub to_routes : All (λ r. r.route < length routes) recipients
-  pub to_both : All (λ s. (s.sender < length senders) × (s.recipient < length recipients)) stops
+  pub to_both : All (λ s. (s.sender < length senders) × (s.recipient < length recipients)) deliveries
 
 -- no two routes have both transport and nexthop in common
 abbrev pub AreRoutesApart : List Route → Type 0
@@ -36,13 +36,13 @@ pub record AreApart (senders : List Sender) (routes : List Route) : Type 0 where
   pub senders_apart : AllPairs (λ s t. s ≢ t) senders
   pub routes_apart : AreRoutesApart routes
 
--- an address goes out under a sender and a route: some stop has the sender, and its recipient the route and the address
-pub record IsPlacedBy (senders : List Sender) (routes : List Route) (recipients : List Routed) (stops : List Stop) (sender : Sender) (route : Route) (a : AddressParts) : Type 0 where
-  pub stop : Stop
-  pub in_stops : Contains stops stop
-  pub sender_is : slice_get senders stop.sender ≡ Some sender
+-- an address goes out under a sender and a route: some delivery has the sender, and its recipient the route and the address
+pub record IsPlacedBy (senders : List Sender) (routes : List Route) (recipients : List Routed) (deliveries : List Delivery) (sender : Sender) (route : Route) (a : AddressParts) : Type 0 where
+  pub delivery : Delivery
+  pub in_deliveries : Contains deliveries delivery
+  pub sender_is : slice_get senders delivery.sender ≡ Some sender
   pub recipient : Routed
-  pub recipient_is : slice_get recipients stop.recipient ≡ Some recipient
+  pub recipient_is : slice_get recipients delivery.recipient ≡ Some recipient
   pub route_is : slice_get routes recipient.route ≡ Some route
   pub address_is : recipient.address.now ≡ a
 
@@ -50,13 +50,13 @@ pub record IsPlacedBy (senders : List Sender) (routes : List Route) (recipients 
 abbrev pub recipient_below : Routed → Routed → Type 0
 recipient_below x y = (x.route < y.route) ⊎ ((x.route ≡ y.route) × (path_cmp x.address.now y.address.now ≡ Less))
 
-abbrev pub stop_below : Stop → Stop → Type 0
-stop_below x y = (x.sender < y.sender) ⊎ ((x.sender ≡ y.sender) × (x.recipient < y.recipient))
+abbrev pub delivery_below : Delivery → Delivery → Type 0
+delivery_below x y = (x.sender < y.sender) ⊎ ((x.sender ≡ y.sender) × (x.recipient < y.recipient))
 
 -- All is in range and in the order of a plan.
-pub record IsInOrder (senders : List Sender) (routes : List Route) (recipients : List Routed) (stops : List Stop) : Type 0 where
-  pub range : AreInRange senders routes recipients stops
+pub record IsInOrder (senders : List Sender) (routes : List Route) (recipients : List Routed) (deliveries : List Delivery) : Type 0 where
+  pub range : AreInRange senders routes recipients deliveries
   pub senders_ascending : IsAscendingBy sender_cmp senders
   pub routes_ascending : IsAscendingBy route_cmp routes
   pub recipients_ascending : AllPairs recipient_below recipients
-  pub stops_ascending : AllPairs stop_below stops
+  pub deliveries_ascending : AllPairs delivery_below deliveries

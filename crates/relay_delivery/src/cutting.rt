@@ -41,10 +41,10 @@ pub(crate) fn cut(
 ) -> Result<Vec<Planned>, AllocError>
     requires order { IsOrdered placing.now }
     requires limits { (t : names.Transport) → 0 < limit_at limits t }
-    requires count { length placing.now.stops.items ≤ 2 ^ 32 - 2 }
-    ensures transactions { IfOk result (λ ts. AreTransactionsOf (limit_at limits) (IsPlacedBy (senders_of placing.now.senders.items) (routes_of placing.now.routes.items) placing.now.recipients.items placing.now.stops.items) ts.items) }
-    ensures sound { IfOk result (λ ts. IsSoundFor (limit_at limits) (IsPlacedBy (senders_of placing.now.senders.items) (routes_of placing.now.routes.items) placing.now.recipients.items placing.now.stops.items) ts.items) }
-    ensures fewest { IfOk result (λ ts. IsFewest (limit_at limits) (IsPlacedBy (senders_of placing.now.senders.items) (routes_of placing.now.routes.items) placing.now.recipients.items placing.now.stops.items) ts.items) }
+    requires count { length placing.now.deliveries.items ≤ 2 ^ 32 - 2 }
+    ensures transactions { IfOk result (λ ts. AreTransactionsOf (limit_at limits) (IsPlacedBy (senders_of placing.now.senders.items) (routes_of placing.now.routes.items) placing.now.recipients.items placing.now.deliveries.items) ts.items) }
+    ensures sound { IfOk result (λ ts. IsSoundFor (limit_at limits) (IsPlacedBy (senders_of placing.now.senders.items) (routes_of placing.now.routes.items) placing.now.recipients.items placing.now.deliveries.items) ts.items) }
+    ensures fewest { IfOk result (λ ts. IsFewest (limit_at limits) (IsPlacedBy (senders_of placing.now.senders.items) (routes_of placing.now.routes.items) placing.now.recipients.items placing.now.deliveries.items) ts.items) }
 {
     let Keyed { groups, placed } = Keyed::of(alloc, placing)?;
     let by_key = limits_by_key(alloc, &placing.routes, &groups, limits)?;

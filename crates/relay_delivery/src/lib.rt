@@ -9,7 +9,9 @@
 mod by;
 mod counting;
 mod cutting;
+mod delivering;
 mod delivery;
+mod delivery_order;
 mod group_numbers;
 mod key_groups;
 mod keyed;
@@ -25,11 +27,9 @@ mod route_order;
 mod routed;
 mod sender_order;
 mod sort_key;
-mod stop;
-mod stop_order;
 mod written_path;
 
-pub use delivery::transactions;
+pub use delivering::transactions;
+pub use delivery::Delivery;
 pub use limits::BatchLimits;
 pub use routed::Routed;
-pub use stop::Stop;

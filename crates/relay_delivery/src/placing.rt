@@ -5,12 +5,12 @@ ghost use Rattle.relay_routes.specs.declared.route.Route as parts;
 ghost use Rattle.relay_delivery.specs.Groups.{Sender};
 ghost use Rattle.relay_delivery.specs.Placings.{senders_of, routes_of, AreApart, AreInRange, IsInOrder, IsPlacedBy};
 
+use crate::delivery::Delivery;
+use crate::delivery_order::deliveries_in_order;
 use crate::recipient_order::{RecipientOrder, with_routes};
 use crate::route_order::RouteOrder;
 use crate::routed::Routed;
 use crate::sender_order::SenderOrder;
-use crate::stop::Stop;
-use crate::stop_order::stops_in_order;
 use relay_routes::Route;
 use relay_text::Address;
 use std::alloc::{AllocError, Global};
@@ -25,7 +25,7 @@ pub struct Placing<'a> {
     /// By their routes, and then by the bytes of their written paths; each once.
     pub recipients: Vec<Routed<'a>>,
     /// By their senders, and then by their recipients; each once.
-    pub stops: Vec<Stop>,
+    pub deliveries: Vec<Delivery>,
 }
 
 impl<'a> Placing<'a> {
@@ -35,21 +35,21 @@ impl<'a> Placing<'a> {
         senders: &[Option<&'a Address>],
         routes: &'a [Route],
         recipients: &[Routed<'a>],
-        stops: Vec<Stop>,
+        deliveries: Vec<Delivery>,
     ) -> Result<Placing<'a>, AllocError>
         requires apart { AreApart (senders_of senders.now) routes.now }
-        requires range { AreInRange (senders_of senders.now) routes.now recipients.now stops.items }
-        ensures order { IfOk result (λ placing. IsInOrder (senders_of placing.senders.items) (routes_of placing.routes.items) placing.recipients.items placing.stops.items) }
-        ensures placed { IfOk result (λ placing. (s : Sender) (r : parts.Route) (a : AddressParts) → IsPlacedBy (senders_of placing.senders.items) (routes_of placing.routes.items) placing.recipients.items placing.stops.items s r a ↔ IsPlacedBy (senders_of senders.now) routes.now recipients.now stops.items s r a) }
-        ensures few { IfOk result (λ placing. length placing.stops.items ≤ length stops.items) }
+        requires range { AreInRange (senders_of senders.now) routes.now recipients.now deliveries.items }
+        ensures order { IfOk result (λ placing. IsInOrder (senders_of placing.senders.items) (routes_of placing.routes.items) placing.recipients.items placing.deliveries.items) }
+        ensures placed { IfOk result (λ placing. (s : Sender) (r : parts.Route) (a : AddressParts) → IsPlacedBy (senders_of placing.senders.items) (routes_of placing.routes.items) placing.recipients.items placing.deliveries.items s r a ↔ IsPlacedBy (senders_of senders.now) routes.now recipients.now deliveries.items s r a) }
+        ensures few { IfOk result (λ placing. length placing.deliveries.items ≤ length deliveries.items) }
     {
         let sender_order = SenderOrder::of(alloc, senders)?;
         let route_order = RouteOrder::of(alloc, routes)?;
         let moved = with_routes(alloc, recipients, route_order.place_of.as_slice())?;
         let recipient_order = RecipientOrder::of(alloc, moved.as_slice())?;
-        let stops = stops_in_order(
+        let deliveries = deliveries_in_order(
             alloc,
-            stops,
+            deliveries,
             sender_order.place_of.as_slice(),
             recipient_order.place_of.as_slice(),
             recipient_order.recipients.len(),
@@ -58,7 +58,7 @@ impl<'a> Placing<'a> {
             senders: sender_order.senders,
             routes: route_order.routes,
             recipients: recipient_order.recipients,
-            stops,
+            deliveries,
         })
     }
 }

@@ -4,9 +4,9 @@ use Rattle.relay_delivery.specs.declared.group_numbers.GroupNumbers.{GroupNumber
 use Rattle.relay_delivery.proofs.KeyedSteps.{IsKeyedUpTo}
 use Rattle.relay_delivery.proofs.keyed.Keyed.of.Given as goal
 
-abbrev pub invariant-loop-stop : goal.invariant-loop-stop
-invariant-loop-stop l = record {
-  keyed : IsKeyedUpTo l.placing.recipients.items l.placing.stops.items l.stop-index l.groups.items l.placed.items;
+abbrev pub invariant-loop-delivery : goal.invariant-loop-delivery
+invariant-loop-delivery l = record {
+  keyed : IsKeyedUpTo l.placing.recipients.items l.placing.deliveries.items l.delivery-index l.groups.items l.placed.items;
   range : All (λ (g : GroupNumbers). (g.sender < length l.placing.senders.items) × (g.route < length l.placing.routes.items)) l.groups.items;
-  room : vec_len l.placed + (length l.placing.stops.items - l.stop-index) ≤ vec_capacity l.placed;
+  room : vec_len l.placed + (length l.placing.deliveries.items - l.delivery-index) ≤ vec_capacity l.placed;
 }

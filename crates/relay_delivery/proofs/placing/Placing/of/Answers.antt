@@ -1,14 +1,14 @@
 use Rattle.std.proofs.Common.{◌≡◌, ◌<◌, ◌∙◌, List, ℕ, length, map, sym, ap, subst}
 use Rattle.std.specs.Prelude.{◌↔◌, All, Contains}
 use Rattle.relay_delivery.specs.declared.routed.Routed.{Routed}
-use Rattle.relay_delivery.specs.declared.stop.Stop.{Stop}
+use Rattle.relay_delivery.specs.declared.delivery.Delivery.{Delivery}
 use Rattle.relay_delivery.specs.Placings.{senders_of, routes_of}
-use Rattle.relay_delivery.specs.Orders.{AreRecipientsInOrder, moved_to, stop_at}
+use Rattle.relay_delivery.specs.Orders.{AreRecipientsInOrder, moved_to, delivery_at}
 use Rattle.relay_delivery.proofs.PlaceFacts.{places_within, in_order, placed}
 use Rattle.relay_delivery.proofs.placing.Placing.of.Goals as goal
 
-pub stops_in_order-requires-clause-places : goal.stops_in_order-requires-clause-places
-stops_in_order-requires-clause-places c =
+pub deliveries_in_order-requires-clause-places : goal.deliveries_in_order-requires-clause-places
+deliveries_in_order-requires-clause-places c =
     let recipients = c.in_ok-recipient_order.recipient_order.recipients.items in
     let places = c.in_ok-recipient_order.recipient_order.place_of.items in
     let within : All (λ p. p < length recipients) places = places_within c.as_slice-2.result.now recipients places c.in_ok-recipient_order.ensures in
@@ -25,16 +25,16 @@ returns-clause-order c =
     let recipients = c.args.recipients.now in
     let new_recipients = c.in_ok-recipient_order.recipient_order.recipients.items in
     let recipient_places = c.in_ok-recipient_order.recipient_order.place_of.items in
-    let stops = c.args.stops.items in
-    let new_stops = c.in_ok-stops.stops.items in
+    let deliveries = c.args.deliveries.items in
+    let new_deliveries = c.in_ok-deliveries.deliveries.items in
     let is_moved : c.as_slice-2.result.now ≡ map (moved_to route_places) recipients =
     c.as_slice-2.ensures.value ∙ c.in_ok-moved.ensures ∙ ap (λ places. map (moved_to places) recipients) c.as_slice.ensures.value in
     let IsOrdered : List Routed → Type 0 = λ moved. AreRecipientsInOrder moved new_recipients recipient_places in
     let ordered : IsOrdered (map (moved_to route_places) recipients) = subst IsOrdered is_moved c.in_ok-recipient_order.ensures in
-    let IsSame : List ℕ → List ℕ → Type 0 = λ ss rs. (x : Stop) → Contains new_stops x ↔ Contains (map (stop_at ss rs) stops) x in
+    let IsSame : List ℕ → List ℕ → Type 0 = λ ss rs. (x : Delivery) → Contains new_deliveries x ↔ Contains (map (delivery_at ss rs) deliveries) x in
     let same : IsSame sender_places recipient_places =
-    subst (λ ss. IsSame ss recipient_places) c.as_slice-3.ensures.value (subst (λ rs. IsSame c.as_slice-3.result.now rs) c.as_slice-4.ensures.value c.in_ok-stops.ensures.same) in
-    in_order senders new_senders routes new_routes recipients new_recipients stops new_stops sender_places route_places recipient_places c.in_ok-sender_order.ensures c.in_ok-route_order.ensures ordered same c.requires.range c.in_ok-stops.ensures.ascending
+    subst (λ ss. IsSame ss recipient_places) c.as_slice-3.ensures.value (subst (λ rs. IsSame c.as_slice-3.result.now rs) c.as_slice-4.ensures.value c.in_ok-deliveries.ensures.same) in
+    in_order senders new_senders routes new_routes recipients new_recipients deliveries new_deliveries sender_places route_places recipient_places c.in_ok-sender_order.ensures c.in_ok-route_order.ensures ordered same c.requires.range c.in_ok-deliveries.ensures.ascending
 
 pub returns-clause-placed : goal.returns-clause-placed
 returns-clause-placed c =
@@ -47,13 +47,13 @@ returns-clause-placed c =
     let recipients = c.args.recipients.now in
     let new_recipients = c.in_ok-recipient_order.recipient_order.recipients.items in
     let recipient_places = c.in_ok-recipient_order.recipient_order.place_of.items in
-    let stops = c.args.stops.items in
-    let new_stops = c.in_ok-stops.stops.items in
+    let deliveries = c.args.deliveries.items in
+    let new_deliveries = c.in_ok-deliveries.deliveries.items in
     let is_moved : c.as_slice-2.result.now ≡ map (moved_to route_places) recipients =
     c.as_slice-2.ensures.value ∙ c.in_ok-moved.ensures ∙ ap (λ places. map (moved_to places) recipients) c.as_slice.ensures.value in
     let IsOrdered : List Routed → Type 0 = λ moved. AreRecipientsInOrder moved new_recipients recipient_places in
     let ordered : IsOrdered (map (moved_to route_places) recipients) = subst IsOrdered is_moved c.in_ok-recipient_order.ensures in
-    let IsSame : List ℕ → List ℕ → Type 0 = λ ss rs. (x : Stop) → Contains new_stops x ↔ Contains (map (stop_at ss rs) stops) x in
+    let IsSame : List ℕ → List ℕ → Type 0 = λ ss rs. (x : Delivery) → Contains new_deliveries x ↔ Contains (map (delivery_at ss rs) deliveries) x in
     let same : IsSame sender_places recipient_places =
-    subst (λ ss. IsSame ss recipient_places) c.as_slice-3.ensures.value (subst (λ rs. IsSame c.as_slice-3.result.now rs) c.as_slice-4.ensures.value c.in_ok-stops.ensures.same) in
-    placed senders new_senders routes new_routes recipients new_recipients stops new_stops sender_places route_places recipient_places c.in_ok-sender_order.ensures c.in_ok-route_order.ensures ordered same c.requires.range
+    subst (λ ss. IsSame ss recipient_places) c.as_slice-3.ensures.value (subst (λ rs. IsSame c.as_slice-3.result.now rs) c.as_slice-4.ensures.value c.in_ok-deliveries.ensures.same) in
+    placed senders new_senders routes new_routes recipients new_recipients deliveries new_deliveries sender_places route_places recipient_places c.in_ok-sender_order.ensures c.in_ok-route_order.ensures ordered same c.requires.range
