@@ -12,8 +12,8 @@ use Rattle.relay_tables.specs.declared.node.Node.{Node}
 use Rattle.relay_tables.specs.GraphParts.{GraphParts}
 use Rattle.relay_delivery.specs.declared.routed.Routed.{Routed}
 use Rattle.relay_job.specs.declared.job.Job.{Job}
-use Rattle.relay_planning.specs.declared.gathering.Known.{Known}
-use Rattle.relay_planning.specs.declared.gathering.Known.TheVariants.{Unseen, Unrouted as NoRoute, Recipient}
+use Rattle.relay_planning.specs.declared.outgoing.Known.{Known}
+use Rattle.relay_planning.specs.declared.outgoing.Known.TheVariants.{Unseen, Unrouted as NoRoute, Recipient}
 use Rattle.relay_planning.specs.Routes.{IsLineOfNode, IsRecipient, IsWhatIsKnown, AreKnown, StayKnown}
 
 pub get_set_same : {X : Type 0} (xs : List X) (i : ℕ) (x : X) → i < length xs → slice_get (set xs i x) i ≡ Some x

@@ -18,11 +18,11 @@ use Rattle.relay_wire.specs.declared.finding.Finding.TheVariants.{Missing, NoInc
 use Rattle.relay_wire.specs.Findings.{finding_text_of}
 use Rattle.relay_job.specs.declared.job.Job.{Job}
 use Rattle.relay_job.specs.declared.job.JobInclude.{JobInclude}
-use Rattle.relay_planning.specs.declared.source.Source.TheVariants as sources
+use Rattle.relay_planning.specs.declared.job_file.JobFile.TheVariants as lookup
 use Rattle.relay_planning.specs.declared.table.Table.TheVariants as tables
 use Rattle.relay_planning.specs.Report.{word_of, table_word_of, file_words, table_words, texts, part_of, IsFinding, IsLineOf}
 use Rattle.relay_planning.specs.Texts.{table_line}
-use Rattle.relay_planning.specs.Texts.{source_line, has_include_line, has_fault_line}
+use Rattle.relay_planning.specs.Texts.{file_line, has_include_line, has_fault_line}
 use Rattle.relay_planning.proofs.Members.{In, in_from, contains_in}
 
 -- faults by their numbers and words, and the lines that report them
@@ -74,10 +74,10 @@ passes_some p (y ∷ ys) h =
 
 module _ (job : Job) (q : List ℕ) where
   abbrev in_aliases : Bool
-  in_aliases = list_any (λ fault. bytes_eq q (source_line sources.Aliases fault)) (alias_file_of job.aliases).faults
+  in_aliases = list_any (λ fault. bytes_eq q (file_line lookup.Aliases fault)) (alias_file_of job.aliases).faults
 
   abbrev in_mailboxes : Bool
-  in_mailboxes = list_any (λ fault. bytes_eq q (source_line sources.Mailboxes fault)) (mailbox_file_of job.mailboxes).faults
+  in_mailboxes = list_any (λ fault. bytes_eq q (file_line lookup.Mailboxes fault)) (mailbox_file_of job.mailboxes).faults
 
   abbrev in_transports : Bool
   in_transports = list_any (λ fault. bytes_eq q (table_line tables.Transport fault)) (transport_table_of job.transport).faults

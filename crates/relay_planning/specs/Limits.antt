@@ -1,6 +1,8 @@
 -- How much a job may have, and why it isn't planned.
 use Rattle.std.specs.Prelude.{ℕ, ◌<◌, ◌≤◌, length, ⊤}
 use Rattle.relay_tables.specs.Graphs.{nodes_of, owner_count}
+use Rattle.relay_tables.specs.declared.fault.TableFault.{TableFault}
+use Rattle.relay_tables.specs.declared.fault.TableFault.TheVariants as faults
 use Rattle.relay_job.specs.declared.job.Job.{Job}
 use Rattle.relay_job.specs.declared.fault.RunFault.{RunFault}
 use Rattle.relay_job.specs.declared.fault.RunFault.TheVariants.{Read, TooLong, BadJob, BadSetting, BadEnvelope, TooManyNames, TooManyOwners, TooManyPairs, Write, Memory}
@@ -32,6 +34,12 @@ pub record IsWithin (limits : Limits) (job : Job) : Type 0 where
   pub names : name_count job ≤ limits.names
   pub owners : owned_count job ≤ limits.owners
   pub pairs : HasAtMostPairs job limits.pairs
+
+-- what a fault of the tables is to a run
+abbrev pub run_fault_of : TableFault → RunFault
+run_fault_of faults.TooManyNames = TooManyNames
+run_fault_of faults.TooManyOwners = TooManyOwners
+run_fault_of faults.Memory = Memory
 
 -- Why a job isn't planned: too many names, else too many owners, else too many pairs. Memory may run out at any moment.
 abbrev pub IsRefused : Limits → Job → RunFault → Type 0

@@ -16,10 +16,10 @@ use Rattle.relay_destinations.specs.declared.way.Way.{Way}
 use Rattle.relay_destinations.specs.declared.way.Way.TheVariants.{To, Nowhere}
 use Rattle.relay_destinations.specs.RoutesFound.{RoutesFound}
 use Rattle.relay_delivery.specs.declared.routed.Routed.{Routed}
-use Rattle.relay_delivery.specs.declared.stop.Stop.{Stop}
+use Rattle.relay_delivery.specs.declared.delivery.Delivery.{Delivery}
 use Rattle.relay_job.specs.declared.job.Job.{Job}
-use Rattle.relay_planning.specs.declared.gathering.Known.{Known}
-use Rattle.relay_planning.specs.declared.gathering.Known.TheVariants.{Unseen, Unrouted as NoRoute, Recipient}
+use Rattle.relay_planning.specs.declared.outgoing.Known.{Known}
+use Rattle.relay_planning.specs.declared.outgoing.Known.TheVariants.{Unseen, Unrouted as NoRoute, Recipient}
 use Rattle.relay_planning.specs.Delivery.{routing_of, final_route, final_address}
 use Rattle.relay_planning.specs.Report.{reason_of}
 
@@ -89,15 +89,15 @@ module _ (job : Job) where
       pub reported : (n : ℕ) (k : Known) (node : Node) (q : List ℕ) → slice_get known n ≡ Some k → (k ≡ Unseen → ⊥) → slice_get g.nodes n ≡ Some node → IsLineOfNode node q → IsTrue (has_text lines q)
       pub in_routes : All (λ r. r.route < length routes) recipients
 
-    -- the stop of a pair, by what is known of its node
-    pub record IsStopOfPair (known : List Known) (stop : Stop) (pair : Reached) : Type 0 where
-      pub under : pair.sender ≡ stop.sender
-      pub goes : slice_get known pair.node ≡ Some (Recipient stop.recipient)
+    -- the delivery of a pair, by what is known of its node
+    pub record IsDeliveryOfPair (known : List Known) (delivery : Delivery) (pair : Reached) : Type 0 where
+      pub under : pair.sender ≡ delivery.sender
+      pub goes : slice_get known pair.node ≡ Some (Recipient delivery.recipient)
 
-    -- what is known where these pairs were looked at, and their stops
-    pub record AreGathered (pairs : List Reached) (known : List Known) (stops : List Stop) : Type 0 where
+    -- what is known where these pairs were looked at, and their deliveries
+    pub record AreOutgoing (pairs : List Reached) (known : List Known) (deliveries : List Delivery) : Type 0 where
       pub seen : (p : Reached) → Contains pairs p → (k : Known) × (slice_get known p.node ≡ Some k) × (k ≡ Unseen → ⊥)
-      pub stops_are : (stop : Stop) → Contains stops stop ↔ ((p : Reached) × Contains pairs p × IsStopOfPair known stop p)
+      pub deliveries_are : (delivery : Delivery) → Contains deliveries delivery ↔ ((p : Reached) × Contains pairs p × IsDeliveryOfPair known delivery p)
 
 -- what was known of nodes stays
 abbrev pub StayKnown : List Known → List Known → Type 0

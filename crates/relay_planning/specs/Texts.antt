@@ -14,19 +14,19 @@ use Rattle.relay_wire.specs.declared.finding.Finding.TheVariants as findings
 use Rattle.relay_wire.specs.Findings.{finding_text_of}
 use Rattle.relay_job.specs.declared.job.Job.{Job}
 use Rattle.relay_job.specs.declared.job.JobInclude.{JobInclude}
-use Rattle.relay_planning.specs.declared.source.Source.{Source}
-use Rattle.relay_planning.specs.declared.source.Source.TheVariants.{Aliases, Include, Mailboxes}
+use Rattle.relay_planning.specs.declared.job_file.JobFile.{JobFile}
+use Rattle.relay_planning.specs.declared.job_file.JobFile.TheVariants.{Aliases, Include, Mailboxes}
 use Rattle.relay_planning.specs.declared.table.Table.{Table}
 use Rattle.relay_planning.specs.declared.table.Table.TheVariants as tables
 use Rattle.relay_planning.specs.Report.{word_of, table_word_of}
 
-abbrev pub source_finding : Source → LineFault → Finding
-source_finding Aliases fault = findings.Aliases fault.line (word_of fault.kind)
-source_finding (Include path) fault = findings.Include path.now fault.line (word_of fault.kind)
-source_finding Mailboxes fault = findings.Mailboxes fault.line (word_of fault.kind)
+abbrev pub file_finding : JobFile → LineFault → Finding
+file_finding Aliases fault = findings.Aliases fault.line (word_of fault.kind)
+file_finding (Include path) fault = findings.Include path.now fault.line (word_of fault.kind)
+file_finding Mailboxes fault = findings.Mailboxes fault.line (word_of fault.kind)
 
-abbrev pub source_line : Source → LineFault → List ℕ
-source_line source fault = finding_text_of (source_finding source fault)
+abbrev pub file_line : JobFile → LineFault → List ℕ
+file_line job_file fault = finding_text_of (file_finding job_file fault)
 
 abbrev pub table_finding : Table → TableLineFault → Finding
 table_finding tables.Transport fault = findings.Transport fault.line (table_word_of fault.kind)
@@ -45,8 +45,8 @@ has_include_line q i = list_any (λ fault. bytes_eq q (include_line i.path fault
 -- one of the lines at fault of an alias file, a mailbox file or include files
 abbrev pub is_name_line : List LineFault → List LineFault → List JobInclude → List ℕ → Bool
 is_name_line aliases mailboxes includes q =
-    list_any (λ fault. bytes_eq q (source_line Aliases fault)) aliases
-    || (list_any (λ fault. bytes_eq q (source_line Mailboxes fault)) mailboxes
+    list_any (λ fault. bytes_eq q (file_line Aliases fault)) aliases
+    || (list_any (λ fault. bytes_eq q (file_line Mailboxes fault)) mailboxes
     || list_any (has_include_line q) includes)
 
 -- one of the lines at fault of a transport table or a table of exchangers

@@ -12,9 +12,9 @@ ghost use Rattle.relay_planning.specs.Plans.{AreTransactionsOf, IsFewest, IsSoun
 ghost use Rattle.relay_planning.specs.Reaching.{AreReachedPairs};
 ghost use Rattle.relay_planning.specs.Report.{routes, IsLineOf};
 
-use crate::gathering::{Gathering, gather_pairs};
 use crate::job_view::JobView;
-use relay_delivery::{BatchLimits, Routed, Stop, transactions};
+use crate::outgoing::{Outgoing, outgoing_of};
+use relay_delivery::{BatchLimits, Delivery, Routed, transactions};
 use relay_destinations::Destinations;
 use relay_job::Settings;
 use relay_pairs::Reached;
@@ -48,19 +48,19 @@ fn senders_of<'a>(alloc: Global, graph: &'a Graph) -> Result<Vec<Option<&'a Addr
     Ok(senders)
 }
 
-/// The transactions of these stops, which place what the job places.
+/// The transactions of these deliveries, which place what the job places.
 fn transactions_of<'a>(
     alloc: Global,
     job: &JobView<'_>,
     graph: &'a Graph,
     routes: &'a [Route],
     recipients: &[Routed<'a>],
-    stops: Vec<Stop>,
+    deliveries: Vec<Delivery>,
 ) -> Result<Vec<Planned>, AllocError>
     requires apart { AreApart graph.now.senders routes.now }
-    requires range { AreInRange graph.now.senders routes.now recipients.now stops.items }
-    requires few { length stops.items ≤ 16777216 }
-    requires placed { (s : Sender) (r : ways.Route) (a : AddressParts) → IsPlacedBy graph.now.senders routes.now recipients.now stops.items s r a ↔ IsPlaced job.now s r a }
+    requires range { AreInRange graph.now.senders routes.now recipients.now deliveries.items }
+    requires few { length deliveries.items ≤ 16777216 }
+    requires placed { (s : Sender) (r : ways.Route) (a : AddressParts) → IsPlacedBy graph.now.senders routes.now recipients.now deliveries.items s r a ↔ IsPlaced job.now s r a }
     ensures transactions { IfOk result (λ transactions. AreTransactionsOf job.now transactions.items) }
     ensures sound { IfOk result (λ transactions. IsSoundFor job.now transactions.items) }
     ensures fewest { IfOk result (λ transactions. IsFewest job.now transactions.items) }
@@ -71,13 +71,13 @@ fn transactions_of<'a>(
         senders.as_slice(),
         routes,
         recipients,
-        stops,
+        deliveries,
         limits_of(job.settings()),
     )
 }
 
-/// The same as `plan_addresses`, where it is lent what finds routes.
-fn plan_by<'a>(
+/// The transactions of what the pairs lead to, by what finds routes, and a line for each address that has no route.
+fn outgoing_transactions<'a>(
     alloc: Global,
     job: &JobView<'_>,
     destinations: &mut Destinations<'a>,
@@ -95,13 +95,13 @@ fn plan_by<'a>(
     ensures fewest { IfOk result (λ transactions. IsFewest job.now transactions.items) }
     ensures lines { OnOk result (Reports lines.old lines.new (IsLineOf job.now routes)) }
 {
-    let gathering = gather_pairs(alloc, job, graph, destinations, pairs, lines)?;
-    let Gathering {
+    let outgoing = outgoing_of(alloc, job, graph, destinations, pairs, lines)?;
+    let Outgoing {
         recipients,
-        stops,
+        deliveries,
         known,
         ..
-    } = gathering;
+    } = outgoing;
     // Its room is given back before the transactions need theirs.
     drop(known);
     transactions_of(
@@ -110,7 +110,7 @@ fn plan_by<'a>(
         graph,
         destinations.routes(),
         recipients.as_slice(),
-        stops,
+        deliveries,
     )
 }
 
@@ -134,5 +134,5 @@ pub fn plan_addresses<'a>(
     ensures fewest { IfOk result (λ transactions. IsFewest job.now transactions.items) }
     ensures lines { OnOk result (Reports lines.old lines.new (IsLineOf job.now routes)) }
 {
-    plan_by(alloc, job, &mut destinations, graph, pairs, lines)
+    outgoing_transactions(alloc, job, &mut destinations, graph, pairs, lines)
 }

@@ -1,4 +1,5 @@
 //! What all parts of a call are handed.
+ghost use Rattle.std.specs.Prelude.{◌≡◌};
 ghost use Rattle.relay_planning.specs.Limits.{AreOptions, AreLimits};
 
 use crate::options::{Limits, Options};
@@ -14,4 +15,20 @@ pub struct Crew<'a, G, R> {
     pub gate: &'a G,
     ghost asked: { AreOptions options },
     ghost limited: { AreLimits limits },
+}
+
+impl<'a, G, R> Crew<'a, G, R> {
+    /// What a search of the call is handed.
+    pub fn of_search(&self) -> relay_rounds::Crew<'a, G, R>
+        ensures workers { result.workers ≡ self.now.options.workers }
+        ensures cut { result.cut ≡ self.now.options.cut }
+    {
+        relay_rounds::Crew {
+            rt: self.rt,
+            alloc: self.alloc,
+            workers: self.options.workers,
+            cut: self.options.cut,
+            gate: self.gate,
+        }
+    }
 }

@@ -27,5 +27,8 @@ pub fn reason_for(unrouted: Unrouted) -> Option<Reason>
 pub(crate) fn add_line(finding: Finding, lines: &mut FindingLines) -> Result<(), AllocError>
     ensures { OnOk result (ReportsWhere lines.old lines.new (λ q. bytes_eq q (finding_text_of finding))) }
 {
-    lines.add(&finding)
+    let added = lines.add(&finding);
+    // Here and not at the end: a finding may be any of many kinds, and what becomes of them is followed in `drop` then.
+    drop(finding);
+    added
 }

@@ -11,7 +11,7 @@ pub(crate) struct Parsed {
     pub(crate) exchanges: MxTable,
 }
 
-ghost use Rattle.std.specs.Prelude.{◌≡◌, IfOk};
+ghost use Rattle.std.specs.Prelude.{◌≡◌, Ok, IfOk};
 ghost use Rattle.std.specs.Thread.{IsSync};
 ghost use Rattle.relay_aliasfile.specs.AliasFiles.{alias_file_of};
 ghost use Rattle.relay_aliasfile.specs.MailboxFiles.{mailbox_file_of};
@@ -19,6 +19,7 @@ ghost use Rattle.relay_routes.specs.Transports.{transport_table_of};
 ghost use Rattle.relay_routes.specs.Exchanges.{mx_table_of};
 ghost use Rattle.relay_planning.specs.Parsed.{AreParsed};
 
+use crate::both::{beside, both_of};
 use relay_aliasfile::{parse_aliases, parse_aliases_by, parse_mailboxes, parse_mailboxes_by};
 use relay_job::Job;
 use relay_text::Text;
@@ -51,8 +52,31 @@ fn name_files<R: Threads + Sync>(
     ensures { IfOk result (λ files. (files.0 ≡ alias_file_of aliases.now) × (files.1 ≡ mailbox_file_of mailboxes.now)) }
 {
     let aliases = parse_aliases_by(rt, alloc, workers, aliases)?;
-    let mailboxes = parse_mailboxes_by(rt, alloc, workers, mailboxes)?;
-    Ok((aliases, mailboxes))
+    beside(aliases, parse_mailboxes_by(rt, alloc, workers, mailboxes))
+}
+
+/// Both files of names, one after the other.
+fn name_files_in_turn(
+    alloc: Global,
+    aliases: &[u8],
+    mailboxes: &[u8],
+) -> Result<(AliasFile, MailboxFile), AllocError>
+    ensures { IfOk result (λ files. (files.0 ≡ alias_file_of aliases.now) × (files.1 ≡ mailbox_file_of mailboxes.now)) }
+{
+    let aliases = parse_aliases(alloc, aliases)?;
+    beside(aliases, parse_mailboxes(alloc, mailboxes))
+}
+
+/// Both tables of routes, one after the other.
+fn route_tables_in_turn(
+    alloc: Global,
+    transport: &[u8],
+    mx: &[u8],
+) -> Result<(TransportTable, MxTable), AllocError>
+    ensures { IfOk result (λ tables. (tables.0 ≡ transport_table_of transport.now) × (tables.1 ≡ mx_table_of mx.now)) }
+{
+    let transports = TransportTable::parse(alloc, transport)?;
+    beside(transports, MxTable::parse(alloc, mx))
 }
 
 /// Both tables of routes; the table of exchangers in a new thread.
@@ -73,20 +97,35 @@ fn route_tables<R: Threads + Sync>(
             ensures { IfOk result (λ table. table ≡ transport_table_of transport.entry.now) }
         { TransportTable::parse(alloc, transport) },
     );
-    Ok((here?, there?))
+    both_of(here, there)
 }
 
 impl Parsed {
+    /// What was parsed of a job's files and tables.
+    fn of_both(
+        both: Result<((AliasFile, MailboxFile), (TransportTable, MxTable)), AllocError>,
+    ) -> Result<Parsed, AllocError>
+        ensures { IfOk result (λ parsed. both ≡ Ok ((parsed.aliases, parsed.mailboxes), (parsed.transports, parsed.exchanges))) }
+    {
+        let ((aliases, mailboxes), (transports, exchanges)) = both?;
+        Ok(Parsed {
+            aliases,
+            mailboxes,
+            transports,
+            exchanges,
+        })
+    }
+
     /// Parses one text after another. `Err` where memory runs out.
     pub(crate) fn one_by_one(alloc: Global, job: &Job) -> Result<Parsed, AllocError>
         ensures { IfOk result (AreParsed job.now) }
     {
-        Ok(Parsed {
-            aliases: parse_aliases(alloc, job.aliases.as_bytes())?,
-            mailboxes: parse_mailboxes(alloc, job.mailboxes.as_bytes())?,
-            transports: TransportTable::parse(alloc, job.transport.as_bytes())?,
-            exchanges: MxTable::parse(alloc, job.mx.as_bytes())?,
-        })
+        let aliases = job.aliases.as_bytes();
+        let mailboxes = job.mailboxes.as_bytes();
+        let mx = job.mx.as_bytes();
+        let files = name_files_in_turn(alloc, aliases, mailboxes)?;
+        let tables = route_tables_in_turn(alloc, job.transport.as_bytes(), mx);
+        Parsed::of_both(beside(files, tables))
     }
 
     /// Parses one text after another, the files of names by so many workers, and both tables beside them where they are worth it. `Err`
@@ -100,17 +139,27 @@ impl Parsed {
         ensures { IfOk result (AreParsed job.now) }
     {
         if is_worth_threads(job, workers) {
-            return Parsed::side_by_side(rt, alloc, workers, job);
+            Parsed::side_by_side(rt, alloc, workers, job)
+        } else {
+            Parsed::files_by_workers(rt, alloc, workers, job)
         }
+    }
+
+    /// Parses one text after another, the files of names by so many workers.
+    fn files_by_workers<R: Threads + Sync>(
+        rt: &R,
+        alloc: Global,
+        workers: usize,
+        job: &Job,
+    ) -> Result<Parsed, AllocError>
+        ensures { IfOk result (AreParsed job.now) }
+    {
         let aliases = job.aliases.as_bytes();
         let mailboxes = job.mailboxes.as_bytes();
-        let (aliases, mailboxes) = name_files(rt, alloc, workers, aliases, mailboxes)?;
-        Ok(Parsed {
-            aliases,
-            mailboxes,
-            transports: TransportTable::parse(alloc, job.transport.as_bytes())?,
-            exchanges: MxTable::parse(alloc, job.mx.as_bytes())?,
-        })
+        let mx = job.mx.as_bytes();
+        let files = name_files(rt, alloc, workers, aliases, mailboxes)?;
+        let tables = route_tables_in_turn(alloc, job.transport.as_bytes(), mx);
+        Parsed::of_both(beside(files, tables))
     }
 
     /// Parses each table in a thread of its own, and meanwhile the files of names by the other workers.
@@ -138,13 +187,6 @@ impl Parsed {
                 ensures { IfOk result (λ files. (files.0 ≡ alias_file_of aliases.entry.now) × (files.1 ≡ mailbox_file_of mailboxes.entry.now)) }
             { name_files(rt, alloc, others, aliases, mailboxes) },
         );
-        let (aliases, mailboxes) = here?;
-        let (transports, exchanges) = there?;
-        Ok(Parsed {
-            aliases,
-            mailboxes,
-            transports,
-            exchanges,
-        })
+        Parsed::of_both(both_of(here, there))
     }
 }

@@ -6,7 +6,7 @@ ghost use Rattle.relay_loops.specs.Loops.{AreLoopsOf, IsClosedPart};
 ghost use Rattle.relay_pairs.specs.Pairs.{ArePairs};
 ghost use Rattle.relay_planning.specs.Delivery.{directory_of, routing_of, HasAtMostPairs, IsJobGraph, IsJobPart};
 ghost use Rattle.relay_planning.specs.Findings.{Reports};
-ghost use Rattle.relay_planning.specs.Limits.{name_count, owned_count, AreOptions, AreLimits, IsWithin, IsRefused};
+ghost use Rattle.relay_planning.specs.Limits.{name_count, owned_count, run_fault_of, AreOptions, AreLimits, IsWithin, IsRefused};
 ghost use Rattle.relay_planning.specs.Plans.{AreTransactionsOf, IsFewest, IsPlanOf, IsPlanWith, IsSoundFor};
 ghost use Rattle.relay_planning.specs.Report.{entries, routes, IsLineOf, IsOwnFindingLine};
 ghost use Rattle.relay_planning.specs.Texts.{has_fault_line};
@@ -17,9 +17,9 @@ use crate::crew::Crew;
 use crate::entries::report_entries;
 use crate::job_view::JobView;
 use crate::laws::parsed_is_readable;
+use crate::lookup::Lookup;
 use crate::options::{Limits, Options};
 use crate::reach::Reach;
-use crate::sources::Sources;
 use relay_destinations::Destinations;
 use relay_job::{Job, RunFault};
 use relay_loops::on_loops;
@@ -31,6 +31,17 @@ use relay_text::{Seq, Text};
 use relay_wire::{FindingLines, Plan, Planned};
 use std::alloc::{AllocError, Global};
 use std::thread::Threads;
+
+/// What a fault of the tables is to a run.
+fn run_fault_of(fault: TableFault) -> RunFault
+    ensures { result ≡ run_fault_of fault }
+{
+    match fault {
+        TableFault::TooManyNames => RunFault::TooManyNames,
+        TableFault::TooManyOwners => RunFault::TooManyOwners,
+        TableFault::Memory => RunFault::Memory,
+    }
+}
 
 /// The graph of a job's tables and envelope: its names with their targets, and the senders, by numbers.
 ///
@@ -58,9 +69,7 @@ pub fn graph_of<G: Gate, R: Threads + Sync>(
     let looked_up = LookedUp::of(rt, alloc, workers, tables, job.recipients())?;
     match Graph::of(alloc, looked_up, job.sender(), limits.names, limits.owners) {
         Ok(graph) => Ok(graph),
-        Err(TableFault::TooManyNames) => Err(RunFault::TooManyNames),
-        Err(TableFault::TooManyOwners) => Err(RunFault::TooManyOwners),
-        Err(TableFault::Memory) => Err(RunFault::Memory),
+        Err(fault) => Err(run_fault_of(fault)),
     }
 }
 
@@ -84,15 +93,7 @@ pub fn pairs_of<G: Gate, R: Threads + Sync>(
     pairs_by_numbers();
     pairs_are_counted();
     let _ = job;
-    match reached_pairs(
-        crew.rt,
-        crew.alloc,
-        graph,
-        crew.options.workers,
-        crew.options.cut,
-        crew.limits.pairs,
-        crew.gate,
-    ) {
+    match reached_pairs(&crew.of_search(), graph, crew.limits.pairs) {
         Ok(pairs) => Ok(pairs),
         Err(ReachFault::TooManyPairs) => Err(RunFault::TooManyPairs),
         Err(ReachFault::Memory) => Err(RunFault::Memory),
@@ -132,15 +133,7 @@ fn report_reached<G: Gate, R: Threads + Sync>(
 {
     let alloc = crew.alloc;
     let nodes = nodes_of(alloc, job, graph, pairs)?;
-    let loops = on_loops(
-        crew.rt,
-        alloc,
-        graph,
-        &nodes,
-        crew.options.workers,
-        crew.options.cut,
-        crew.gate,
-    )?;
+    let loops = on_loops(&crew.of_search(), graph, &nodes)?;
     let reach = Reach {
         nodes: &nodes,
         loops: &loops,
@@ -197,13 +190,13 @@ fn plan_pairs<'a>(
 pub fn plan_reached<G: Gate, R: Threads + Sync>(
     crew: &Crew<G, R>,
     job: &JobView<'_>,
-    sources: &Sources,
+    lookup: &Lookup,
     graph: &Graph,
     pairs: &[Reached],
     lines: FindingLines,
 ) -> Result<Plan, AllocError>
-    requires tables { sources.now.tables ≡ directory_of job.now }
-    requires router { sources.now.router ≡ routing_of job.now }
+    requires tables { lookup.now.tables ≡ directory_of job.now }
+    requires router { lookup.now.router ≡ routing_of job.now }
     requires graph { IsJobPart job.now graph.now }
     requires pairs { ArePairs graph.now pairs.now }
     requires reached { AreReachedPairs job.now graph.now pairs.now }
@@ -214,9 +207,9 @@ pub fn plan_reached<G: Gate, R: Threads + Sync>(
 {
     let alloc = crew.alloc;
     let mut lines = lines;
-    report_reached(crew, job, &sources.tables, graph, pairs, &mut lines)?;
+    report_reached(crew, job, &lookup.tables, graph, pairs, &mut lines)?;
     let via = &job.settings().mailbox_transport;
-    let destinations = Destinations::new(alloc, &sources.router, via, sources.key)?;
+    let destinations = Destinations::new(alloc, &lookup.router, via, lookup.key)?;
     plan_pairs(alloc, job, destinations, graph, pairs, lines)
 }
 
@@ -243,24 +236,31 @@ fn pairs_reported<G: Gate, R: Threads + Sync>(
     Ok(pairs)
 }
 
+/// The graph of a job, and the pairs that it reaches there, by their numbers.
+#[derive(Drop)]
+struct ReachedGraph {
+    graph: Graph,
+    pairs: Vec<Reached>,
+}
+
 /// The graph of a job, and the pairs that it reaches there. Adds the lines of what is reached.
 fn graph_reported<G: Gate, R: Threads + Sync>(
     crew: &Crew<G, R>,
     job: &JobView<'_>,
     tables: &Tables,
     lines: &mut FindingLines,
-) -> Result<(Graph, Vec<Reached>), RunFault>
+) -> Result<ReachedGraph, RunFault>
     requires tables { tables.now ≡ directory_of job.now }
-    ensures graph { IfOk result (λ both. IsJobPart job.now both.0) }
-    ensures reached { IfOk result (λ both. AreReachedPairs job.now both.0 both.1.items) }
-    ensures few { IfOk result (λ both. length both.1.items ≤ 16777216) }
+    ensures graph { IfOk result (λ reached. IsJobPart job.now reached.graph) }
+    ensures reached { IfOk result (λ reached. AreReachedPairs job.now reached.graph reached.pairs.items) }
+    ensures few { IfOk result (λ reached. length reached.pairs.items ≤ 16777216) }
     ensures lines { OnOk result (Reports lines.old lines.new (IsLineOf job.now entries)) }
     ensures within { OnOk result (IsWithin crew.now.limits job.now) }
     ensures refused { IfErr result (IsRefused crew.now.limits job.now) }
 {
     let graph = graph_of(crew, job, tables)?;
     let pairs = pairs_reported(crew, job, tables, &graph, lines)?;
-    Ok((graph, pairs))
+    Ok(ReachedGraph { graph, pairs })
 }
 
 /// The plan of a job that reaches these pairs of its graph, by what routes its addresses, with the lines that are given and those of
@@ -270,21 +270,27 @@ fn plan_routes(
     job: &JobView<'_>,
     router: &Router,
     key: u64,
-    reached: &(Graph, Vec<Reached>),
+    reached: &ReachedGraph,
     lines: FindingLines,
 ) -> Result<Plan, AllocError>
     requires router { router.now ≡ routing_of job.now }
-    requires graph { IsJobPart job.now reached.now.0 }
-    requires reached { AreReachedPairs job.now reached.now.0 reached.now.1.items }
-    requires few { length reached.now.1.items ≤ 16777216 }
+    requires graph { IsJobPart job.now reached.now.graph }
+    requires reached { AreReachedPairs job.now reached.now.graph reached.now.pairs.items }
+    requires few { length reached.now.pairs.items ≤ 16777216 }
     ensures plan { IfOk result (IsPlanWith job.now (λ q. IsTrue (has_text lines q) ⊎ IsLineOf job.now routes q)) }
     ensures sound { IfOk result (λ plan. IsSoundFor job.now plan.transactions) }
     ensures fewest { IfOk result (λ plan. IsFewest job.now plan.transactions) }
 {
-    let (graph, pairs) = reached;
     let via = &job.settings().mailbox_transport;
     let destinations = Destinations::new(alloc, router, via, key)?;
-    plan_pairs(alloc, job, destinations, graph, pairs, lines)
+    plan_pairs(
+        alloc,
+        job,
+        destinations,
+        &reached.graph,
+        &reached.pairs,
+        lines,
+    )
 }
 
 /// The plan of a job of these tables, by what routes its addresses. The lines of files and tables that are at fault are given. The key is
@@ -320,14 +326,14 @@ fn plan_tables<G: Gate, R: Threads + Sync>(
 /// The plan of a job whose files and tables are read. Their lines that are at fault are given.
 ///
 /// The errors are those of [`plan_job`], in the same order.
-pub fn plan_sources<G: Gate, R: Threads + Sync>(
+pub fn plan_by_lookup<G: Gate, R: Threads + Sync>(
     crew: &Crew<G, R>,
     job: &JobView<'_>,
-    sources: Sources,
+    lookup: Lookup,
     lines: FindingLines,
 ) -> Result<Plan, RunFault>
-    requires tables { sources.tables ≡ directory_of job.now }
-    requires router { sources.router ≡ routing_of job.now }
+    requires tables { lookup.tables ≡ directory_of job.now }
+    requires router { lookup.router ≡ routing_of job.now }
     requires lines { (q : List ℕ) → has_text lines q ≡ has_fault_line job.now q }
     ensures plan { IfOk result (IsPlanOf job.now) }
     ensures sound { IfOk result (λ plan. IsSoundFor job.now plan.transactions) }
@@ -335,12 +341,14 @@ pub fn plan_sources<G: Gate, R: Threads + Sync>(
     ensures within { OnOk result (IsWithin crew.now.limits job.now) }
     ensures refused { IfErr result (IsRefused crew.now.limits job.now) }
 {
-    let Sources {
+    let Lookup {
         tables,
         router,
         key,
-    } = sources;
-    plan_tables(crew, job, tables, &router, key, lines)
+    } = lookup;
+    let plan = plan_tables(crew, job, tables, &router, key, lines);
+    drop(router);
+    plan
 }
 
 /// The plan of a job: each address that an entry or recipient leads to, once under each sender that a chain of entries gives it, in
@@ -375,8 +383,8 @@ pub fn plan_job<G: Gate, R: Threads + Sync>(
         gate,
     };
     let mut lines = FindingLines::new(alloc);
-    let Ok(sources) = Sources::read_by(&crew, job, &mut lines) else {
+    let Ok(lookup) = Lookup::read_by(&crew, job, &mut lines) else {
         return Err(RunFault::Memory);
     };
-    plan_sources(&crew, &JobView::of(job), sources, lines)
+    plan_by_lookup(&crew, &JobView::of(job), lookup, lines)
 }

@@ -1,11 +1,9 @@
-//! The router of a job.
+//! What a job's settings say of routes.
 ghost use Rattle.std.specs.Prelude.{◌≡◌, ◌∷◌, ◌++◌, IfOk, OnOk};
-ghost use Rattle.relay_routes.specs.Transports.{transport_table_of};
-ghost use Rattle.relay_routes.specs.Exchanges.{mx_table_of};
 ghost use Rattle.relay_planning.specs.Delivery.{routing_of};
 
 use relay_job::{Job, Settings};
-use relay_routes::{MxTable, RouteSettings, Router, TransportTable};
+use relay_routes::RouteSettings;
 use relay_text::{Seq, Text};
 use std::alloc::{AllocError, Global};
 
@@ -31,22 +29,14 @@ pub fn own_names(alloc: Global, settings: &Settings) -> Result<Seq<Text>, AllocE
     Ok(Seq::of(names))
 }
 
-/// What routes a job's addresses.
-pub fn router_of(
-    alloc: Global,
-    job: &Job,
-    transports: TransportTable,
-    exchanges: MxTable,
-) -> Result<Router, AllocError>
-    requires transports { transports ≡ transport_table_of job.now.transport }
-    requires exchanges { exchanges ≡ mx_table_of job.now.mx }
-    ensures { IfOk result (λ router. router ≡ routing_of job.now) }
+/// What a job's settings say of routes. `Err` where memory runs out.
+pub fn route_settings_of(alloc: Global, job: &Job) -> Result<RouteSettings, AllocError>
+    ensures { IfOk result (λ settings. settings ≡ (routing_of job.now).settings) }
 {
-    let settings = RouteSettings {
+    Ok(RouteSettings {
         own_names: own_names(alloc, &job.settings)?,
         delimiter: job.settings.delimiter,
         default_transport: job.settings.default_transport,
         seed: job.settings.seed,
-    };
-    Router::new(alloc, settings, transports, exchanges)
+    })
 }

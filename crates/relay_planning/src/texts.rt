@@ -2,15 +2,17 @@
 ghost use Rattle.std.specs.Prelude.{◌≡◌, map, IfOk, OnOk};
 ghost use Rattle.std.specs.List.{list_any};
 ghost use Rattle.std.specs.Str.{bytes_eq};
+ghost use Rattle.relay_aliasfile.specs.IncludeFiles.{include_file_of};
 ghost use Rattle.relay_planning.specs.Delivery.{entry_of_include};
 ghost use Rattle.relay_planning.specs.Findings.{ReportsWhere};
 ghost use Rattle.relay_planning.specs.Texts.{table_line};
-ghost use Rattle.relay_planning.specs.Texts.{source_line, has_include_line};
+ghost use Rattle.relay_planning.specs.Texts.{file_line, has_include_line};
 
+use crate::both::beside;
 use crate::findings::add_line;
-use crate::source::Source;
+use crate::job_file::JobFile;
 use crate::table::Table;
-use relay_aliasfile::{LineFault, parse_include};
+use relay_aliasfile::{IncludeFile, LineFault, parse_include};
 use relay_job::JobInclude;
 use relay_tables::IncludeEntry;
 use relay_text::Text;
@@ -20,27 +22,27 @@ use std::alloc::{AllocError, Global};
 /// Adds the line of a file's fault.
 fn report_file_fault(
     alloc: Global,
-    source: Source<'_>,
+    job_file: JobFile<'_>,
     fault: LineFault,
     lines: &mut FindingLines,
 ) -> Result<(), AllocError>
-    ensures { OnOk result (ReportsWhere lines.old lines.new (λ q. bytes_eq q (source_line source.entry fault))) }
+    ensures { OnOk result (ReportsWhere lines.old lines.new (λ q. bytes_eq q (file_line job_file.entry fault))) }
 {
-    let finding = source.finding(alloc, fault)?;
+    let finding = job_file.finding(alloc, fault)?;
     add_line(finding, lines)
 }
 
 /// Adds the lines of a file that are at fault.
 pub fn report_file(
     alloc: Global,
-    source: Source<'_>,
+    job_file: JobFile<'_>,
     faults: &[LineFault],
     lines: &mut FindingLines,
 ) -> Result<(), AllocError>
-    ensures { OnOk result (ReportsWhere lines.old lines.new (λ q. list_any (λ fault. bytes_eq q (source_line source.entry fault)) faults.now)) }
+    ensures { OnOk result (ReportsWhere lines.old lines.new (λ q. list_any (λ fault. bytes_eq q (file_line job_file.entry fault)) faults.now)) }
 {
     for fault in faults {
-        report_file_fault(alloc, source, *fault, lines)?;
+        report_file_fault(alloc, job_file, *fault, lines)?;
     }
     Ok(())
 }
@@ -73,6 +75,22 @@ pub fn report_table(
     Ok(())
 }
 
+/// The path of an include file, which is parsed. Adds the lines that are at fault.
+fn reported_path(
+    alloc: Global,
+    include: &JobInclude,
+    file: &IncludeFile,
+    lines: &mut FindingLines,
+) -> Result<Text, AllocError>
+    requires file { file.now ≡ include_file_of include.now.bytes }
+    ensures path { IfOk result (λ path. path ≡ include.now.path) }
+    ensures lines { OnOk result (ReportsWhere lines.old lines.new (λ q. has_include_line q include.now)) }
+{
+    let job_file = JobFile::Include(include.path.as_bytes());
+    report_file(alloc, job_file, file.faults.as_slice(), lines)?;
+    Text::copy_of(alloc, include.path.as_bytes())
+}
+
 /// The items of an include file under its path. Adds the lines that are at fault.
 fn read_include(
     alloc: Global,
@@ -83,13 +101,11 @@ fn read_include(
     ensures lines { OnOk result (ReportsWhere lines.old lines.new (λ q. has_include_line q include.now)) }
 {
     let file = parse_include(alloc, include.bytes.as_bytes())?;
-    let source = Source::Include(include.path.as_bytes());
-    report_file(alloc, source, file.faults.as_slice(), lines)?;
-    let path = Text::copy_of(alloc, include.path.as_bytes())?;
-    Ok(IncludeEntry {
-        path,
-        items: file.items,
-    })
+    let path = reported_path(alloc, include, &file, lines);
+    let IncludeFile { items, faults } = file;
+    drop(faults);
+    let (items, path) = beside(items, path)?;
+    Ok(IncludeEntry { path, items })
 }
 
 /// The include files of a job. Adds the lines that are at fault.

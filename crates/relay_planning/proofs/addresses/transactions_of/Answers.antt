@@ -23,7 +23,7 @@ pub returns : goal.returns
 returns c =
     let job = c.args.job.now in
     let limit : Transport → ℕ = limit_of job.settings in
-    let P : Sender → Route → AddressParts → Type 0 = IsPlacedBy (senders_of c.as_slice.result.now) c.args.routes.now c.args.recipients.now c.args.stops.items in
+    let P : Sender → Route → AddressParts → Type 0 = IsPlacedBy (senders_of c.as_slice.result.now) c.args.routes.now c.args.recipients.now c.args.deliveries.items in
     let placed : (s : Sender) (r : Route) (a : AddressParts) → P s r a ↔ IsPlaced job s r a = λ s r a. rw (c.as_slice.ensures.value, c.in_ok-senders.ensures) (c.requires.placed s r a) in
     let same_limit : limit_at c.limits_of.result ≡ limit = fun_ext c.limits_of.ensures ∙ ap limit_of c.settings.ensures.settings in
     record {

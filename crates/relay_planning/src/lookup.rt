@@ -1,0 +1,253 @@
+//! What a job's names and addresses are looked up in, by what its files and tables say.
+use relay_routes::Router;
+use relay_tables::Tables;
+
+/// What names stand for, and what routes addresses.
+#[derive(Drop)]
+pub struct Lookup {
+    pub tables: Tables,
+    pub router: Router,
+    /// A key for the hashes of domains and nexthops, in which all files and tables have a part. Who writes some of them doesn't know
+    /// which names have one hash under it.
+    pub key: u64,
+}
+
+ghost use Rattle.std.specs.Prelude.{◌≡◌, map, IfOk, OnOk};
+ghost use Rattle.relay_aliasfile.specs.AliasFiles.{alias_file_of};
+ghost use Rattle.relay_aliasfile.specs.MailboxFiles.{mailbox_file_of};
+ghost use Rattle.relay_routes.specs.Transports.{transport_table_of};
+ghost use Rattle.relay_routes.specs.Exchanges.{mx_table_of};
+ghost use Rattle.relay_planning.specs.Delivery.{directory_of, entry_of_include, local_of, routing_of};
+ghost use Rattle.relay_planning.specs.Findings.{ReportsWhere};
+ghost use Rattle.relay_planning.specs.Parsed.{AreParsed};
+ghost use Rattle.relay_planning.specs.Readable.{IsReadable};
+ghost use Rattle.relay_planning.specs.Texts.{is_name_line, is_route_line, has_fault_line};
+
+use crate::both::{beside, both_of};
+use crate::crew::Crew;
+use crate::job_file::JobFile;
+use crate::parsed::Parsed;
+use crate::routing::{push_copies, route_settings_of};
+use crate::table::Table;
+use crate::texts::{read_includes, report_file, report_table};
+use relay_aliasfile::{AliasFile, MailboxFile};
+use relay_chains::hash_text;
+use relay_job::{Job, Settings};
+use relay_rounds::Gate;
+use relay_routes::{MxTable, RouteSettings, TransportTable};
+use relay_tables::{IncludeEntry, Local, parsed_files};
+use relay_text::{Seq, Text};
+use relay_wire::FindingLines;
+use std::alloc::{AllocError, Global};
+use std::thread::Threads;
+
+// An odd number whose bits look drawn at random: the first 64 bits of the root of 5.
+const MULTIPLIER: u64 = 0x3c6e_f372_fe94_f82b;
+
+/// The key of a job's files and tables.
+fn key_of(job: &Job) -> u64 {
+    let mut key = job.settings.seed;
+    for table in [&job.aliases, &job.mailboxes, &job.transport, &job.mx] {
+        key = key.wrapping_mul(MULTIPLIER) ^ u64::from(hash_text(key, table.as_bytes()));
+    }
+    key
+}
+
+/// Which domains are local, and how a local name is read.
+fn local_of(alloc: Global, settings: &Settings) -> Result<Local, AllocError>
+    ensures { IfOk result (λ local. local ≡ local_of settings.now) }
+{
+    let mut domains = Vec::with_capacity(alloc, settings.destinations.as_slice().len())?;
+    push_copies(alloc, settings.destinations.as_slice(), &mut domains)?;
+    Ok(Local {
+        origin: Text::copy_of(alloc, settings.origin.as_bytes())?,
+        domains: Seq::of(domains),
+        delimiter: settings.delimiter,
+        expand: settings.expand,
+    })
+}
+
+/// The include files of a job. Adds the lines of the files of names that are at fault.
+fn report_names(
+    alloc: Global,
+    job: &Job,
+    aliases: &AliasFile,
+    mailboxes: &MailboxFile,
+    lines: &mut FindingLines,
+) -> Result<Vec<IncludeEntry>, AllocError>
+    ensures includes { IfOk result (λ includes. includes.items ≡ map entry_of_include job.now.includes) }
+    ensures lines { OnOk result (ReportsWhere lines.old lines.new (is_name_line aliases.now.faults mailboxes.now.faults job.now.includes)) }
+{
+    report_file(alloc, JobFile::Aliases, aliases.faults.as_slice(), lines)?;
+    report_file(
+        alloc,
+        JobFile::Mailboxes,
+        mailboxes.faults.as_slice(),
+        lines,
+    )?;
+    read_includes(alloc, job.includes.as_slice(), lines)
+}
+
+/// Adds the lines of the tables that are at fault.
+fn report_routes(
+    alloc: Global,
+    transports: &TransportTable,
+    exchanges: &MxTable,
+    lines: &mut FindingLines,
+) -> Result<(), AllocError>
+    ensures { OnOk result (ReportsWhere lines.old lines.new (is_route_line transports.now.faults exchanges.now.faults)) }
+{
+    report_table(alloc, Table::Transport, transports.faults(), lines)?;
+    report_table(alloc, Table::Mx, exchanges.faults(), lines)
+}
+
+/// The include files of a job. Adds the lines of all its files and tables that are at fault, of which the others are parsed.
+fn report_parsed(
+    alloc: Global,
+    job: &Job,
+    parsed: &Parsed,
+    lines: &mut FindingLines,
+) -> Result<Vec<IncludeEntry>, AllocError>
+    requires parsed { AreParsed job.now parsed.now }
+    ensures includes { IfOk result (λ includes. includes.items ≡ map entry_of_include job.now.includes) }
+    ensures lines { OnOk result (ReportsWhere lines.old lines.new (has_fault_line job.now)) }
+{
+    let includes = report_names(alloc, job, &parsed.aliases, &parsed.mailboxes, lines)?;
+    report_routes(alloc, &parsed.transports, &parsed.exchanges, lines)?;
+    Ok(includes)
+}
+
+/// What a job's settings say of names and of routes.
+#[derive(Drop)]
+struct TableSettings {
+    local: Local,
+    routes: RouteSettings,
+}
+
+/// What the settings of a job say of these. `Err` where memory runs out.
+fn table_settings_of(alloc: Global, job: &Job) -> Result<TableSettings, AllocError>
+    ensures local { IfOk result (λ settings. settings.local ≡ local_of job.now.settings) }
+    ensures routes { IfOk result (λ settings. settings.routes ≡ (routing_of job.now).settings) }
+{
+    let local = local_of(alloc, &job.settings)?;
+    let (local, routes) = beside(local, route_settings_of(alloc, job))?;
+    Ok(TableSettings { local, routes })
+}
+
+/// What a job says beside the parsed files and tables: its settings, and its include files. Adds the lines of all files and tables that
+/// are at fault.
+fn read_others(
+    alloc: Global,
+    job: &Job,
+    parsed: &Parsed,
+    lines: &mut FindingLines,
+) -> Result<(TableSettings, Vec<IncludeEntry>), AllocError>
+    requires parsed { AreParsed job.now parsed.now }
+    ensures local { IfOk result (λ others. others.0.local ≡ local_of job.now.settings) }
+    ensures routes { IfOk result (λ others. others.0.routes ≡ (routing_of job.now).settings) }
+    ensures includes { IfOk result (λ others. others.1.items ≡ map entry_of_include job.now.includes) }
+    ensures lines { OnOk result (ReportsWhere lines.old lines.new (has_fault_line job.now)) }
+{
+    let settings = table_settings_of(alloc, job)?;
+    beside(settings, report_parsed(alloc, job, parsed, lines))
+}
+
+/// What names stand for.
+fn tables_of(
+    alloc: Global,
+    job: &Job,
+    local: Local,
+    aliases: AliasFile,
+    includes: Vec<IncludeEntry>,
+    mailboxes: MailboxFile,
+) -> Result<Tables, AllocError>
+    requires job { IsReadable job.now }
+    requires local { local ≡ local_of job.now.settings }
+    requires aliases { aliases ≡ alias_file_of job.now.aliases }
+    requires includes { includes.items ≡ map entry_of_include job.now.includes }
+    requires mailboxes { mailboxes ≡ mailbox_file_of job.now.mailboxes }
+    ensures { IfOk result (λ tables. tables ≡ directory_of job.now) }
+{
+    parsed_files();
+    let _ = job;
+    Tables::build(alloc, local, aliases, includes, mailboxes)
+}
+
+impl Lookup {
+    /// What names stand for, and what routes addresses, by what is parsed and what a job says beside it.
+    fn joined(
+        alloc: Global,
+        job: &Job,
+        parsed: Parsed,
+        settings: TableSettings,
+        includes: Vec<IncludeEntry>,
+    ) -> Result<Lookup, AllocError>
+        requires job { IsReadable job.now }
+        requires parsed { AreParsed job.now parsed }
+        requires local { settings.local ≡ local_of job.now.settings }
+        requires routes { settings.routes ≡ (routing_of job.now).settings }
+        requires includes { includes.items ≡ map entry_of_include job.now.includes }
+        ensures tables { IfOk result (λ lookup. lookup.tables ≡ directory_of job.now) }
+        ensures router { IfOk result (λ lookup. lookup.router ≡ routing_of job.now) }
+    {
+        let Parsed {
+            aliases,
+            mailboxes,
+            transports,
+            exchanges,
+        } = parsed;
+        let TableSettings { local, routes } = settings;
+        let tables = tables_of(alloc, job, local, aliases, includes, mailboxes);
+        let router = Router::new(alloc, routes, transports, exchanges);
+        let (tables, router) = both_of(tables, router)?;
+        Ok(Lookup {
+            tables,
+            router,
+            key: key_of(job),
+        })
+    }
+
+    /// What the files and tables of a job say, which are parsed. Adds the lines of those that are at fault. `Err` where memory runs out.
+    pub(crate) fn of(
+        alloc: Global,
+        job: &Job,
+        parsed: Parsed,
+        lines: &mut FindingLines,
+    ) -> Result<Lookup, AllocError>
+        requires job { IsReadable job.now }
+        requires parsed { AreParsed job.now parsed }
+        ensures tables { IfOk result (λ lookup. lookup.tables ≡ directory_of job.now) }
+        ensures router { IfOk result (λ lookup. lookup.router ≡ routing_of job.now) }
+        ensures lines { OnOk result (ReportsWhere lines.old lines.new (has_fault_line job.now)) }
+    {
+        let others = read_others(alloc, job, &parsed, lines);
+        let (parsed, (settings, includes)) = beside(parsed, others)?;
+        Lookup::joined(alloc, job, parsed, settings, includes)
+    }
+
+    /// What the files and tables of a job say. Adds the lines of those that are at fault. `Err` where memory runs out.
+    pub fn read(alloc: Global, job: &Job, lines: &mut FindingLines) -> Result<Lookup, AllocError>
+        requires job { IsReadable job.now }
+        ensures tables { IfOk result (λ lookup. lookup.tables ≡ directory_of job.now) }
+        ensures router { IfOk result (λ lookup. lookup.router ≡ routing_of job.now) }
+        ensures lines { OnOk result (ReportsWhere lines.old lines.new (has_fault_line job.now)) }
+    {
+        let parsed = Parsed::one_by_one(alloc, job)?;
+        Lookup::of(alloc, job, parsed, lines)
+    }
+
+    /// The same by a crew, several of which parse files and tables that are long.
+    pub fn read_by<G: Gate, R: Threads + Sync>(
+        crew: &Crew<G, R>,
+        job: &Job,
+        lines: &mut FindingLines,
+    ) -> Result<Lookup, AllocError>
+        requires job { IsReadable job.now }
+        ensures tables { IfOk result (λ lookup. lookup.tables ≡ directory_of job.now) }
+        ensures router { IfOk result (λ lookup. lookup.router ≡ routing_of job.now) }
+        ensures lines { OnOk result (ReportsWhere lines.old lines.new (has_fault_line job.now)) }
+    {
+        let parsed = Parsed::by_workers(crew.rt, crew.alloc, crew.options.workers, job)?;
+        Lookup::of(crew.alloc, job, parsed, lines)
+    }
+}
