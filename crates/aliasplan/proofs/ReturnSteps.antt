@@ -23,7 +23,7 @@ use Rattle.relay_returns.proofs.LineFacts.{line_is}
 use Rattle.relay_planning.specs.Entries.{IsLineIn, IsTargetLine}
 use Rattle.relay_planning.specs.Listing.{target_finding}
 use Rattle.aliasplan.specs.ReturnLines.{AreCounted, AreFindings, HavePairLine, IsLineBefore, IsLineFor, IsLineFrom, IsPairLine, IsRootLine, ReportsEach, lines_at}
-use Rattle.relay_planning.proofs.GatherFacts.{Some_has, some_more}
+use Rattle.relay_planning.proofs.OutgoingFacts.{Some_has, some_more}
 use Rattle.relay_planning.proofs.SetFacts.{Contains-has_text, has_text-Contains}
 
 -- ---- one more finding

@@ -1,5 +1,5 @@
 //! What becomes of a job's bytes.
-ghost use Rattle.std.specs.Prelude.{◌≡◌, ◌≤◌, length, IfOk, IfErr};
+ghost use Rattle.std.specs.Prelude.{◌≡◌, ◌≤◌, length, IfOk, IfErr, IfSome};
 ghost use Rattle.relay_job.specs.JobAnswers.{IsJobWithin};
 ghost use Rattle.relay_wire.specs.declared.plan.Plan as plans;
 ghost use Rattle.relay_planning.specs.Limits.{AreOptions, AreLimits, IsRefused, IsWithin};
@@ -49,13 +49,25 @@ fn answer_job<G: Gate, R: Threads + Sync>(
     ensures refused { IfErr result (IsRefused limits job.now) }
 {
     let plan = plan_job(rt, alloc, job, options, limits, gate)?;
-    answer_of(alloc, options.form, &plan)
+    let answer = answer_of(alloc, options.form, &plan);
+    drop(plan);
+    answer
 }
 
 /// A job has copies of its sections, so the room of an input of more bytes is given back before its plan needs room. A smaller one's is
 /// kept to the end: glibc takes blocks of the size of one that was freed, up to 32 MiB, from its heap, where vectors that grow leave
 /// holes (mallopt(3), M_MMAP_THRESHOLD), and that would take more than it gives.
 const LARGE: usize = 16 << 20;
+
+/// A text, unless it is large: then its room is given back.
+fn kept_of(text: Text) -> Option<Text>
+    ensures { IfSome result (λ kept. kept ≡ text) }
+{
+    if text.len() > LARGE {
+        return None;
+    }
+    Some(text)
+}
 
 /// What is written for a job's bytes.
 pub fn answer_input<G: Gate, R: Threads + Sync>(
@@ -73,8 +85,9 @@ pub fn answer_input<G: Gate, R: Threads + Sync>(
     ensures refused { IfErr result (RefusesBytes limits input) }
 {
     let job = parse_job_by(rt, alloc, options.workers, input.as_bytes())?;
-    if input.len() > LARGE {
-        drop(input);
-    }
-    answer_job(rt, alloc, &job, options, limits, gate)
+    let kept = kept_of(input);
+    let answer = answer_job(rt, alloc, &job, options, limits, gate);
+    drop(job);
+    drop(kept);
+    answer
 }

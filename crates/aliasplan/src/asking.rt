@@ -2,6 +2,7 @@
 ghost use Rattle.std.specs.Prelude.{◌≡◌, ◌<◌, ◌≤◌, [], Some, Err, length, All, IfOk, IfErr, OnOk};
 ghost use Rattle.relay_job.specs.JobAnswers.{IsJobWithin};
 ghost use Rattle.relay_pairs.specs.Pairs.{ArePairs};
+ghost use Rattle.relay_routes.specs.Destinations.{looked_up_name};
 ghost use Rattle.relay_planning.specs.Delivery.{directory_of, routing_of, IsJobPart};
 ghost use Rattle.aliasplan.specs.Domains.{domain_of_found, AreAskedDomains, AsksFor};
 ghost use Rattle.relay_planning.specs.Entries.{HaveLine};
@@ -10,7 +11,7 @@ ghost use Rattle.relay_planning.specs.Limits.{name_count, owned_count, IsWithin,
 
 use relay_job::{Job, RunFault};
 use relay_pairs::Reached;
-use relay_planning::{Crew, JobView, Sources, graph_of, nodes_of, pairs_of, parsed_is_readable};
+use relay_planning::{Crew, JobView, Lookup, graph_of, nodes_of, pairs_of, parsed_is_readable};
 use relay_rounds::Gate;
 use relay_routes::{Destination, Router, Unrouted};
 use relay_tables::{Graph, Node};
@@ -18,6 +19,16 @@ use relay_text::{Seq, Text, TextSet};
 use relay_wire::FindingLines;
 use std::alloc::{AllocError, Global};
 use std::thread::Threads;
+
+/// Adds the domain that a destination asks for.
+fn add_destination(alloc: Global, to: &Destination, domains: &mut TextSet) -> Result<(), AllocError>
+    ensures { OnOk result (Reports domains.old domains.new (λ q. looked_up_name to.now ≡ Some q)) }
+{
+    if let Some(name) = to.looked_up_name(alloc)? {
+        domains.insert(name.into_bytes(alloc)?)?;
+    }
+    Ok(())
+}
 
 /// Adds the domain that the way to a destination asks for. `Err` where memory ran out, then or when the destination was looked for.
 fn add_found(
@@ -30,10 +41,9 @@ fn add_found(
 {
     match found {
         Ok(to) => {
-            if let Some(name) = to.looked_up_name(alloc)? {
-                domains.insert(name.into_bytes(alloc)?)?;
-            }
-            Ok(())
+            let added = add_destination(alloc, &to, domains);
+            drop(to);
+            added
         }
         Err(Unrouted::Memory) => Err(AllocError),
         Err(_) => Ok(()),
@@ -128,19 +138,21 @@ fn domains_of_graph<G: Gate, R: Threads + Sync>(
 }
 
 /// The domains that a job asks for whose files and tables are read.
-fn domains_of_sources<G: Gate, R: Threads + Sync>(
+fn domains_by_lookup<G: Gate, R: Threads + Sync>(
     crew: &Crew<G, R>,
     job: &JobView<'_>,
-    sources: &Sources,
+    lookup: &Lookup,
 ) -> Result<Seq<Text>, RunFault>
-    requires tables { sources.now.tables ≡ directory_of job.now }
-    requires router { sources.now.router ≡ routing_of job.now }
+    requires tables { lookup.now.tables ≡ directory_of job.now }
+    requires router { lookup.now.router ≡ routing_of job.now }
     ensures domains { IfOk result (AreAskedDomains job.now) }
     ensures within { OnOk result (IsWithin crew.now.limits job.now) }
     ensures refused { IfErr result (IsRefused crew.now.limits job.now) }
 {
-    let graph = graph_of(crew, job, &sources.tables)?;
-    domains_of_graph(crew, job, &sources.router, &graph)
+    let graph = graph_of(crew, job, &lookup.tables)?;
+    let domains = domains_of_graph(crew, job, &lookup.router, &graph);
+    drop(graph);
+    domains
 }
 
 /// The domains whose mail exchangers a plan of the job looks up, in lower case, each once, in the order of their bytes: of each mailbox
@@ -160,8 +172,15 @@ pub fn domains<G: Gate, R: Threads + Sync>(
 {
     parsed_is_readable();
     let mut lines = FindingLines::new(crew.alloc);
-    let Ok(sources) = Sources::read_by(crew, job, &mut lines) else {
-        return Err(RunFault::Memory);
-    };
-    domains_of_sources(crew, &JobView::of(job), &sources)
+    let read = Lookup::read_by(crew, job, &mut lines);
+    // No line is asked for: their room is given back before the graph needs its own.
+    drop(lines);
+    match read {
+        Ok(lookup) => {
+            let domains = domains_by_lookup(crew, &JobView::of(job), &lookup);
+            drop(lookup);
+            domains
+        }
+        Err(_) => Err(RunFault::Memory),
+    }
 }

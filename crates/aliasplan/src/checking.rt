@@ -14,7 +14,7 @@ ghost use Rattle.relay_planning.specs.Report.{texts, IsFindingLine, IsLineOf};
 ghost use Rattle.relay_planning.specs.Texts.{has_fault_line};
 
 use relay_job::{Job, RunFault, Settings};
-use relay_planning::{Crew, JobView, Limits, Sources, parsed_is_readable, plan_sources};
+use relay_planning::{Crew, JobView, Limits, Lookup, parsed_is_readable, plan_by_lookup};
 use relay_rounds::Gate;
 use relay_tables::Tables;
 use relay_text::{Seq, Text, same_bytes};
@@ -43,27 +43,32 @@ pub fn check_texts(alloc: Global, tables: &Job, limits: Limits) -> Result<Seq<Te
     parsed_is_readable();
     let _ = limits;
     let mut lines = FindingLines::new(alloc);
-    let _ = Sources::read(alloc, tables, &mut lines)?;
-    let lines = lines.into_seq(alloc)?;
-    Ok(lines)
+    match Lookup::read(alloc, tables, &mut lines) {
+        Ok(lookup) => {
+            // The lines alone are asked for.
+            drop(lookup);
+            lines.into_seq(alloc)
+        }
+        Err(error) => Err(error),
+    }
 }
 
 /// The lines of all that is found in a job whose files and tables are read. Their lines that are at fault are given.
 fn findings_of<G: Gate, R: Threads + Sync>(
     crew: &Crew<G, R>,
     job: &Job,
-    sources: Sources,
+    lookup: Lookup,
     lines: FindingLines,
 ) -> Result<Seq<Text>, RunFault>
     requires batches { (t : names.Transport) → 0 < limit_of job.now.settings t }
-    requires tables { sources.tables ≡ directory_of job.now }
-    requires router { sources.router ≡ routing_of job.now }
+    requires tables { lookup.tables ≡ directory_of job.now }
+    requires router { lookup.router ≡ routing_of job.now }
     requires lines { (q : List ℕ) → has_text lines q ≡ has_fault_line job.now q }
     ensures lines { IfOk result (AreLines (IsFindingLine job.now)) }
     ensures within { OnOk result (IsWithin crew.now.limits job.now) }
     ensures refused { IfErr result (IsRefused crew.now.limits job.now) }
 {
-    match plan_sources(crew, &JobView::of(job), sources, lines) {
+    match plan_by_lookup(crew, &JobView::of(job), lookup, lines) {
         Ok(plan) => Ok(plan.findings),
         Err(fault) => Err(fault),
     }
@@ -73,19 +78,40 @@ fn findings_of<G: Gate, R: Threads + Sync>(
 fn findings_of_aliases<G: Gate, R: Threads + Sync>(
     crew: &Crew<G, R>,
     tables: &mut Job,
-    sources: Sources,
+    lookup: Lookup,
     lines: FindingLines,
 ) -> Result<Seq<Text>, RunFault>
     requires batches { (t : names.Transport) → 0 < limit_of tables.old.settings t }
-    requires tables { sources.tables ≡ directory_of tables.old }
-    requires router { sources.router ≡ routing_of tables.old }
+    requires tables { lookup.tables ≡ directory_of tables.old }
+    requires router { lookup.router ≡ routing_of tables.old }
     requires lines { (q : List ℕ) → has_text lines q ≡ has_fault_line tables.old q }
     ensures lines { IfOk result (AreLines (IsFindingLine (to_each_alias tables.old))) }
     ensures within { OnOk result (IsWithin crew.now.limits (to_each_alias tables.old)) }
     ensures refused { IfErr result (IsRefused crew.now.limits (to_each_alias tables.old)) }
 {
-    match write_to_each_alias(crew.alloc, tables, &sources.tables) {
-        Ok(()) => findings_of(crew, &*tables, sources, lines),
+    match write_to_each_alias(crew.alloc, tables, &lookup.tables) {
+        Ok(()) => findings_of(crew, &*tables, lookup, lines),
+        Err(_) => {
+            drop(lookup);
+            Err(RunFault::Memory)
+        }
+    }
+}
+
+/// The lines of all that is found where the null sender writes to every alias of these files and tables.
+fn findings_of_tables<G: Gate, R: Threads + Sync>(
+    crew: &Crew<G, R>,
+    tables: &mut Job,
+) -> Result<Seq<Text>, RunFault>
+    requires { AreTablesWithin crew.now.limits.bytes tables.old }
+    ensures lines { IfOk result (AreLines (IsFindingLine (to_each_alias tables.old))) }
+    ensures within { OnOk result (IsWithin crew.now.limits (to_each_alias tables.old)) }
+    ensures refused { IfErr result (IsRefused crew.now.limits (to_each_alias tables.old)) }
+{
+    parsed_is_readable();
+    let mut lines = FindingLines::new(crew.alloc);
+    match Lookup::read_by(crew, &*tables, &mut lines) {
+        Ok(lookup) => findings_of_aliases(crew, tables, lookup, lines),
         Err(_) => Err(RunFault::Memory),
     }
 }
@@ -104,13 +130,10 @@ pub fn check_aliases<G: Gate, R: Threads + Sync>(
     ensures within { OnOk result (IsWithin crew.now.limits (to_each_alias tables)) }
     ensures refused { IfErr result (IsRefused crew.now.limits (to_each_alias tables)) }
 {
-    parsed_is_readable();
     let mut tables = tables;
-    let mut lines = FindingLines::new(crew.alloc);
-    match Sources::read_by(crew, &tables, &mut lines) {
-        Ok(sources) => findings_of_aliases(crew, &mut tables, sources, lines),
-        Err(_) => Err(RunFault::Memory),
-    }
+    let findings = findings_of_tables(crew, &mut tables);
+    drop(tables);
+    findings
 }
 
 /// Whether mydestination has myorigin.

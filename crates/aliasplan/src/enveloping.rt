@@ -7,7 +7,7 @@ ghost use Rattle.aliasplan.specs.Planners.{AreRead};
 ghost use Rattle.relay_planning.specs.Plans.{IsFewest, IsOwnPlanOf, IsSoundFor};
 
 use relay_job::RunFault;
-use relay_planning::{Crew, JobView, Limits, Sources, graph_of, pairs_of, plan_reached};
+use relay_planning::{Crew, JobView, Limits, Lookup, graph_of, pairs_of, plan_reached};
 use relay_rounds::Gate;
 use relay_tables::{Graph, TableCounts, TableFault, Tables, names_are_counted};
 use relay_wire::{FindingLines, Plan};
@@ -50,10 +50,10 @@ fn reached_graph(
 fn part_of<G: Gate, R: Threads + Sync>(
     crew: &Crew<G, R>,
     job: &JobView<'_>,
-    sources: &Sources,
+    lookup: &Lookup,
     counts: TableCounts,
 ) -> Result<Graph, RunFault>
-    requires read { AreRead (without_envelope job.now) sources.now counts }
+    requires read { AreRead (without_envelope job.now) lookup.now counts }
     ensures graph { IfOk result (IsJobPart job.now) }
     ensures names { OnOk result (name_count job.now ≤ crew.now.limits.names) }
     ensures owners { OnOk result (owned_count job.now ≤ crew.now.limits.owners) }
@@ -61,9 +61,9 @@ fn part_of<G: Gate, R: Threads + Sync>(
 {
     names_are_counted();
     if are_surely_within(counts, job.recipients().len(), crew.limits) {
-        reached_graph(crew.alloc, job, &sources.tables, crew.limits)
+        reached_graph(crew.alloc, job, &lookup.tables, crew.limits)
     } else {
-        graph_of(crew, job, &sources.tables)
+        graph_of(crew, job, &lookup.tables)
     }
 }
 
@@ -71,20 +71,20 @@ fn part_of<G: Gate, R: Threads + Sync>(
 pub fn plan_envelope<G: Gate, R: Threads + Sync>(
     crew: &Crew<G, R>,
     job: &JobView<'_>,
-    sources: &Sources,
+    lookup: &Lookup,
     counts: TableCounts,
 ) -> Result<Plan, RunFault>
-    requires read { AreRead (without_envelope job.now) sources.now counts }
+    requires read { AreRead (without_envelope job.now) lookup.now counts }
     ensures plan { IfOk result (IsOwnPlanOf job.now) }
     ensures sound { IfOk result (λ plan. IsSoundFor job.now plan.transactions) }
     ensures fewest { IfOk result (λ plan. IsFewest job.now plan.transactions) }
     ensures within { OnOk result (IsWithin crew.now.limits job.now) }
     ensures refused { IfErr result (IsRefused crew.now.limits job.now) }
 {
-    let graph = part_of(crew, job, sources, counts)?;
+    let graph = part_of(crew, job, lookup, counts)?;
     let pairs = pairs_of(crew, job, &graph)?;
     let lines = FindingLines::new(crew.alloc);
-    match plan_reached(crew, job, sources, &graph, &pairs, lines) {
+    match plan_reached(crew, job, lookup, &graph, &pairs, lines) {
         Ok(plan) => Ok(plan),
         Err(_) => Err(RunFault::Memory),
     }

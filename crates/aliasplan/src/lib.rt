@@ -5,14 +5,17 @@
 //! [`check_aliases`]), a [`Planner`] that keeps tables for many envelopes, and the calls that read a job from a device and write what it
 //! answers on another: [`run`] by way of `reading`, `answering` and `writing`, and likewise [`run_returns`] and [`run_domains`]; [`gather`]
 //! writes the text of a job whose files lie apart.
+//!
+//! Where a function ends, a value of many parts is given back by a call of `drop`: the proof of that call is made once for its type, and
+//! the end of a scope would be followed part by part in each function and for each way out.
 #![tactic(auto)]
 
 mod answering;
 pub mod asking;
 pub mod checking;
-mod collecting;
 pub mod device;
 mod enveloping;
+mod gathering;
 mod listing_domains;
 pub mod planner;
 pub mod reading;
@@ -27,8 +30,8 @@ pub mod writing;
 
 pub use asking::domains;
 pub use checking::{check_aliases, check_texts, notes};
-pub use collecting::gather;
 pub use device::{Device, Failed, Feed, Sink};
+pub use gathering::gather;
 pub use listing_domains::run_domains;
 pub use planner::Planner;
 pub use reading::read_job;
@@ -38,6 +41,7 @@ pub use relay_job::{
 };
 pub use relay_planning::{Crew, Form, Limits, Options, Summary, own_names, plan_job, reason_for};
 pub use relay_rounds::{Gate, NoGate};
+pub use relay_wire::{Finding, LineWord, Place, Plan, Planned, Reason, plan_text, wire_text};
 pub use returned::Returned;
 pub use returning::returns;
 pub use running::run;

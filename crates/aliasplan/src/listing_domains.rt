@@ -56,7 +56,9 @@ fn domain_text<G: Gate, R: Threads + Sync>(
     ensures refused { IfErr result (RefusesBytes crew.now.limits input.now) }
 {
     let job = parse_job_by(crew.rt, crew.alloc, crew.options.workers, input)?;
-    domain_lines(crew, &job)
+    let text = domain_lines(crew, &job);
+    drop(job);
+    text
 }
 
 /// Reads a job, and writes the domains whose mail exchangers it asks for, each on a line that ends with LF, and nothing else. All of the

@@ -1,6 +1,6 @@
 //! Settings, files and tables, read once for many envelopes.
 use relay_job::Job;
-use relay_planning::{Crew, JobView, Limits, Sources, parsed_is_readable};
+use relay_planning::{Crew, JobView, Limits, Lookup, parsed_is_readable};
 use relay_tables::TableCounts;
 use relay_text::{Seq, Text};
 use std::marker::Model;
@@ -19,7 +19,7 @@ pub struct Planner {
 /// What files and tables say.
 #[derive(Drop)]
 struct TablesRead {
-    sources: Sources,
+    lookup: Lookup,
     counts: TableCounts,
     /// The lines that are at fault.
     findings: Seq<Text>,
@@ -34,21 +34,25 @@ impl Model for Planner {
 
     ghost view = { λ a. without_envelope a.tables };
 
-    ghost invariant = { λ a. IsReady (without_envelope a.tables) a.read.sources a.read.counts a.read.findings };
+    ghost invariant = { λ a. IsReady (without_envelope a.tables) a.read.lookup a.read.counts a.read.findings };
 }
 
-ghost use Rattle.std.specs.Prelude.{◌≡◌, [], length, IsTrue, IfOk, IfErr, OnOk};
+ghost use Rattle.std.specs.Prelude.{◌≡◌, ◌<◌, ℕ, List, [], length, IsTrue, IfOk, IfErr, OnOk};
 ghost use Rattle.relay_text.specs.Addresses.{is_origin};
+ghost use Rattle.relay_text.specs.Bytes.{has_text};
+ghost use Rattle.relay_routes.specs.declared.transport.Transport as names;
 ghost use Rattle.relay_tables.specs.Graphs.{nodes_of};
 ghost use Rattle.relay_job.specs.Envelopes.{with_envelope};
+ghost use Rattle.relay_job.specs.Settings.{limit_of};
 ghost use Rattle.relay_job.specs.Tables.{without_envelope, AreTablesWithin};
 ghost use Rattle.aliasplan.specs.Checks.{AreLines};
-ghost use Rattle.relay_planning.specs.Delivery.{directory_of};
+ghost use Rattle.relay_planning.specs.Delivery.{directory_of, routing_of};
 ghost use Rattle.relay_planning.specs.Limits.{owned_count, AreLimits, IsRefused, IsWithin};
 ghost use Rattle.aliasplan.specs.Outcomes.{AreTableCountsWithin, HasRefusedTables};
 ghost use Rattle.aliasplan.specs.Planners.{AreRead};
 ghost use Rattle.relay_planning.specs.Plans.{IsFewest, IsOwnPlanOf, IsSoundFor};
 ghost use Rattle.relay_planning.specs.Report.{texts, IsLineOf};
+ghost use Rattle.relay_planning.specs.Texts.{has_fault_line};
 
 use crate::enveloping::plan_envelope;
 use relay_job::{Envelope, RunFault, Settings, parsed_tables};
@@ -81,31 +85,78 @@ fn counts_of(
     }
 }
 
+/// How many names and owners the tables of a job have, and the lines that are at fault, which are given.
+fn counted_and_found(
+    alloc: Global,
+    job: &Job,
+    tables: &Tables,
+    lines: FindingLines,
+    limits: Limits,
+) -> Result<(TableCounts, Seq<Text>), RunFault>
+    requires tables { tables.now ≡ directory_of job.now }
+    requires lines { (q : List ℕ) → has_text lines q ≡ has_fault_line job.now q }
+    requires limits { AreLimits limits }
+    ensures names { IfOk result (λ both. both.0.names ≡ length (nodes_of (directory_of job.now) [])) }
+    ensures owners { IfOk result (λ both. both.0.owners ≡ owned_count job.now) }
+    ensures findings { IfOk result (λ both. AreLines (IsLineOf (without_envelope job.now) texts) both.1) }
+    ensures within { OnOk result (AreTableCountsWithin limits job.now) }
+    ensures refused { IfErr result (HasRefusedTables limits job.now) }
+{
+    let Ok(findings) = lines.into_seq(alloc) else {
+        return Err(RunFault::Memory);
+    };
+    match counts_of(alloc, job, tables, limits) {
+        Ok(counts) => Ok((counts, findings)),
+        Err(fault) => Err(fault),
+    }
+}
+
 impl TablesRead {
+    /// What the files and tables of a job say, which are read. Their lines that are at fault are given.
+    fn of_lookup(
+        alloc: Global,
+        job: &Job,
+        lookup: Lookup,
+        lines: FindingLines,
+        limits: Limits,
+    ) -> Result<TablesRead, RunFault>
+        requires tables { lookup.tables ≡ directory_of job.now }
+        requires router { lookup.router ≡ routing_of job.now }
+        requires lines { (q : List ℕ) → has_text lines q ≡ has_fault_line job.now q }
+        requires limits { AreLimits limits }
+        requires batches { (t : names.Transport) → 0 < limit_of job.now.settings t }
+        ensures read { IfOk result (λ read. AreRead (without_envelope job.now) read.lookup read.counts) }
+        ensures findings { IfOk result (λ read. AreLines (IsLineOf (without_envelope job.now) texts) read.findings) }
+        ensures within { OnOk result (AreTableCountsWithin limits job.now) }
+        ensures refused { IfErr result (HasRefusedTables limits job.now) }
+    {
+        match counted_and_found(alloc, job, &lookup.tables, lines, limits) {
+            Ok((counts, findings)) => Ok(TablesRead {
+                lookup,
+                counts,
+                findings,
+            }),
+            Err(fault) => {
+                drop(lookup);
+                Err(fault)
+            }
+        }
+    }
+
     /// What the files and tables of a job say, whatever its envelope.
     fn of(alloc: Global, job: &Job, limits: Limits) -> Result<TablesRead, RunFault>
         requires limits { AreLimits limits }
         requires tables { AreTablesWithin limits.bytes job.now }
-        ensures read { IfOk result (λ read. AreRead (without_envelope job.now) read.sources read.counts) }
+        ensures read { IfOk result (λ read. AreRead (without_envelope job.now) read.lookup read.counts) }
         ensures findings { IfOk result (λ read. AreLines (IsLineOf (without_envelope job.now) texts) read.findings) }
         ensures within { OnOk result (AreTableCountsWithin limits job.now) }
         ensures refused { IfErr result (HasRefusedTables limits job.now) }
     {
         parsed_is_readable();
         let mut lines = FindingLines::new(alloc);
-        let Ok(sources) = Sources::read(alloc, job, &mut lines) else {
-            return Err(RunFault::Memory);
-        };
-        let Ok(findings) = lines.into_seq(alloc) else {
-            return Err(RunFault::Memory);
-        };
-        match counts_of(alloc, job, &sources.tables, limits) {
-            Ok(counts) => Ok(TablesRead {
-                sources,
-                counts,
-                findings,
-            }),
-            Err(fault) => Err(fault),
+        match Lookup::read(alloc, job, &mut lines) {
+            Ok(lookup) => TablesRead::of_lookup(alloc, job, lookup, lines, limits),
+            Err(_) => Err(RunFault::Memory),
         }
     }
 }
@@ -125,7 +176,10 @@ impl Planner {
         parsed_tables();
         match TablesRead::of(alloc, &tables, limits) {
             Ok(read) => Ok(Planner { tables, read }),
-            Err(fault) => Err(fault),
+            Err(fault) => {
+                drop(tables);
+                Err(fault)
+            }
         }
     }
 
@@ -161,6 +215,6 @@ impl Planner {
         ensures refused { IfErr result (IsRefused crew.now.limits (with_envelope self.now envelope.now)) }
     {
         let job = JobView::joined(&self.tables, envelope);
-        plan_envelope(crew, &job, &self.read.sources, self.read.counts)
+        plan_envelope(crew, &job, &self.read.lookup, self.read.counts)
     }
 }

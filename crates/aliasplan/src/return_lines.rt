@@ -118,9 +118,15 @@ fn add_recipient<G: Gate, R: Threads + Sync>(
     // For what the call says alone: there is a sender.
     let _ = search.graph.nodes();
     let pairs = search.pairs_from(root, left)?;
-    add_root(search.alloc, search.graph, root, recipient, &mut lists[0])?;
+    add_root(
+        search.crew.alloc,
+        search.graph,
+        root,
+        recipient,
+        &mut lists[0],
+    )?;
     add_pairs(
-        search.alloc,
+        search.crew.alloc,
         search.graph,
         undelivered,
         recipient,
@@ -162,7 +168,7 @@ pub fn lines_by_sender<G: Gate, R: Threads + Sync>(
     // For what the call says alone: roots are nodes of the graph.
     let _ = search.graph.nodes();
     let roots = search.graph.roots();
-    let mut lists = no_lines(search.alloc, search.graph)?;
+    let mut lists = no_lines(search.crew.alloc, search.graph)?;
     let mut left = limit;
     for place in 0..recipients.len() {
         let recipient = &recipients[place];

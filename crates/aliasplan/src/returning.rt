@@ -19,7 +19,7 @@ use relay_job::{Job, RunFault};
 use relay_ordering::in_order;
 use relay_pairs::{Reached, Search, pairs_by_root};
 use relay_planning::{
-    Crew, JobView, Sources, graph_of, nodes_of, pairs_of, parsed_is_readable, plan_reached,
+    Crew, JobView, Lookup, graph_of, nodes_of, pairs_of, parsed_is_readable, plan_reached,
 };
 use relay_returns::Return;
 use relay_rounds::{Gate, ReachFault};
@@ -49,12 +49,8 @@ fn return_lines<G: Gate, R: Threads + Sync>(
     pairs_by_root();
     let _ = nodes;
     let search = Search {
-        rt: crew.rt,
-        alloc: crew.alloc,
+        crew: crew.of_search(),
         graph,
-        workers: crew.options.workers,
-        cut: crew.options.cut,
-        gate: crew.gate,
     };
     let recipients = job.recipients();
     match lines_by_sender(&search, undelivered, recipients, crew.limits.pairs) {
@@ -85,12 +81,12 @@ fn blocks_of_lines(
 fn returns_of<G: Gate, R: Threads + Sync>(
     crew: &Crew<G, R>,
     job: &JobView<'_>,
-    sources: &Sources,
+    lookup: &Lookup,
     graph: &Graph,
     pairs: &[Reached],
 ) -> Result<Seq<Return>, RunFault>
-    requires tables { sources.now.tables ≡ directory_of job.now }
-    requires router { sources.now.router ≡ routing_of job.now }
+    requires tables { lookup.now.tables ≡ directory_of job.now }
+    requires router { lookup.now.router ≡ routing_of job.now }
     requires graph { IsJobPart job.now graph.now }
     requires pairs { ArePairs graph.now pairs.now }
     requires within { IsWithin crew.now.limits job.now }
@@ -100,7 +96,7 @@ fn returns_of<G: Gate, R: Threads + Sync>(
 {
     let alloc = crew.alloc;
     let nodes = nodes_of(alloc, job, graph, pairs)?;
-    let undelivered = undelivered_at(alloc, job, sources, graph, &nodes)?;
+    let undelivered = undelivered_at(alloc, job, lookup, graph, &nodes)?;
     let lists = return_lines(crew, job, graph, &nodes, &undelivered)?;
     Ok(blocks_of_lines(alloc, job, graph, lists)?)
 }
@@ -109,13 +105,13 @@ fn returns_of<G: Gate, R: Threads + Sync>(
 fn returned_pairs<G: Gate, R: Threads + Sync>(
     crew: &Crew<G, R>,
     job: &JobView<'_>,
-    sources: &Sources,
+    lookup: &Lookup,
     graph: &Graph,
     pairs: &[Reached],
     lines: FindingLines,
 ) -> Result<Returned, RunFault>
-    requires tables { sources.now.tables ≡ directory_of job.now }
-    requires router { sources.now.router ≡ routing_of job.now }
+    requires tables { lookup.now.tables ≡ directory_of job.now }
+    requires router { lookup.now.router ≡ routing_of job.now }
     requires graph { IsJobPart job.now graph.now }
     requires pairs { ArePairs graph.now pairs.now }
     requires reached { AreReachedPairs job.now graph.now pairs.now }
@@ -129,10 +125,10 @@ fn returned_pairs<G: Gate, R: Threads + Sync>(
     ensures pairs { OnOk result (HasAtMostReturnPairs job.now crew.now.limits.pairs) }
     ensures refused { IfErr result (IsUnreturned crew.now.limits job.now) }
 {
-    let Ok(plan) = plan_reached(crew, job, sources, graph, pairs, lines) else {
+    let Ok(plan) = plan_reached(crew, job, lookup, graph, pairs, lines) else {
         return Err(RunFault::Memory);
     };
-    match returns_of(crew, job, sources, graph, pairs) {
+    match returns_of(crew, job, lookup, graph, pairs) {
         Ok(returns) => Ok(Returned { plan, returns }),
         Err(fault) => Err(fault),
     }
@@ -142,12 +138,12 @@ fn returned_pairs<G: Gate, R: Threads + Sync>(
 fn returned_graph<G: Gate, R: Threads + Sync>(
     crew: &Crew<G, R>,
     job: &JobView<'_>,
-    sources: &Sources,
+    lookup: &Lookup,
     graph: &Graph,
     lines: FindingLines,
 ) -> Result<Returned, RunFault>
-    requires tables { sources.now.tables ≡ directory_of job.now }
-    requires router { sources.now.router ≡ routing_of job.now }
+    requires tables { lookup.now.tables ≡ directory_of job.now }
+    requires router { lookup.now.router ≡ routing_of job.now }
     requires graph { IsJobPart job.now graph.now }
     requires names { name_count job.now ≤ crew.now.limits.names }
     requires owners { owned_count job.now ≤ crew.now.limits.owners }
@@ -160,20 +156,20 @@ fn returned_graph<G: Gate, R: Threads + Sync>(
     ensures refused { IfErr result (IsUnreturned crew.now.limits job.now) }
 {
     match pairs_of(crew, job, graph) {
-        Ok(pairs) => returned_pairs(crew, job, sources, graph, &pairs, lines),
+        Ok(pairs) => returned_pairs(crew, job, lookup, graph, &pairs, lines),
         Err(fault) => Err(fault),
     }
 }
 
 /// The plan and what is returned, of a job whose files and tables are read. Their lines that are at fault are given.
-fn returned_sources<G: Gate, R: Threads + Sync>(
+fn returned_by_lookup<G: Gate, R: Threads + Sync>(
     crew: &Crew<G, R>,
     job: &JobView<'_>,
-    sources: &Sources,
+    lookup: &Lookup,
     lines: FindingLines,
 ) -> Result<Returned, RunFault>
-    requires tables { sources.now.tables ≡ directory_of job.now }
-    requires router { sources.now.router ≡ routing_of job.now }
+    requires tables { lookup.now.tables ≡ directory_of job.now }
+    requires router { lookup.now.router ≡ routing_of job.now }
     requires lines { (q : List ℕ) → has_text lines q ≡ has_fault_line job.now q }
     ensures plan { IfOk result (λ returned. IsPlanOf job.now returned.plan) }
     ensures sound { IfOk result (λ returned. IsSoundFor job.now returned.plan.transactions) }
@@ -182,8 +178,8 @@ fn returned_sources<G: Gate, R: Threads + Sync>(
     ensures within { OnOk result (IsReturnedWithin crew.now.limits job.now) }
     ensures refused { IfErr result (IsUnreturned crew.now.limits job.now) }
 {
-    match graph_of(crew, job, &sources.tables) {
-        Ok(graph) => returned_graph(crew, job, sources, &graph, lines),
+    match graph_of(crew, job, &lookup.tables) {
+        Ok(graph) => returned_graph(crew, job, lookup, &graph, lines),
         Err(fault) => Err(fault),
     }
 }
@@ -210,8 +206,12 @@ pub fn returns<G: Gate, R: Threads + Sync>(
 {
     parsed_is_readable();
     let mut lines = FindingLines::new(crew.alloc);
-    let Ok(sources) = Sources::read_by(crew, job, &mut lines) else {
-        return Err(RunFault::Memory);
-    };
-    returned_sources(crew, &JobView::of(job), &sources, lines)
+    match Lookup::read_by(crew, job, &mut lines) {
+        Ok(lookup) => {
+            let returned = returned_by_lookup(crew, &JobView::of(job), &lookup, lines);
+            drop(lookup);
+            returned
+        }
+        Err(_) => Err(RunFault::Memory),
+    }
 }

@@ -51,7 +51,9 @@ fn answer_job<G: Gate, R: Threads + Sync>(crew: &Crew<G, R>, job: &Job) -> Resul
     ensures refused { IfErr result (IsUnreturned crew.now.limits job.now) }
 {
     let returned = returns(crew, job)?;
-    answer_of(crew.alloc, crew.options.form, &returned)
+    let answer = answer_of(crew.alloc, crew.options.form, &returned);
+    drop(returned);
+    answer
 }
 
 /// What is written for a job's bytes.
@@ -64,7 +66,9 @@ fn answer_input<G: Gate, R: Threads + Sync>(
     ensures refused { IfErr result (RefusesReturnBytes crew.now.limits input.now) }
 {
     let job = parse_job_by(crew.rt, crew.alloc, crew.options.workers, input)?;
-    answer_job(crew, &job)
+    let answer = answer_job(crew, &job);
+    drop(job);
+    answer
 }
 
 /// Reads a job, plans it, and writes the plan's text with what is returned, and nothing else: after the transactions and before the

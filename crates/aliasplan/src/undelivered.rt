@@ -7,7 +7,7 @@ ghost use Rattle.relay_planning.specs.Delivery.{directory_of, routing_of, IsJobP
 ghost use Rattle.aliasplan.specs.ReturnLines.{AreFindings, AreUndelivered, AreLinesOf};
 
 use relay_destinations::Destinations;
-use relay_planning::{JobView, Sources, recipient_of, report_node};
+use relay_planning::{JobView, Lookup, recipient_of, report_node};
 use relay_tables::{Graph, Tables};
 use relay_text::{Seq, Text};
 use relay_wire::FindingLines;
@@ -79,18 +79,20 @@ fn lists_of<'a>(
 pub fn undelivered_at<'a>(
     alloc: Global,
     job: &JobView<'a>,
-    sources: &'a Sources,
+    lookup: &'a Lookup,
     graph: &'a Graph,
     nodes: &[u32],
 ) -> Result<Vec<Seq<Text>>, AllocError>
-    requires tables { sources.now.tables ≡ directory_of job.now }
-    requires router { sources.now.router ≡ routing_of job.now }
+    requires tables { lookup.now.tables ≡ directory_of job.now }
+    requires router { lookup.now.router ≡ routing_of job.now }
     requires graph { IsJobPart job.now graph.now }
     requires nodes { All (λ n. n < length graph.now.nodes) nodes.now }
     ensures lines { IfOk result (λ lists. AreLinesOf graph.now job.now nodes.now lists.items) }
     ensures findings { IfOk result (λ lists. All AreFindings lists.items) }
 {
     let via = &job.settings().mailbox_transport;
-    let mut destinations = Destinations::new(alloc, &sources.router, via, sources.key)?;
-    lists_of(alloc, job, &sources.tables, graph, nodes, &mut destinations)
+    let mut destinations = Destinations::new(alloc, &lookup.router, via, lookup.key)?;
+    let lists = lists_of(alloc, job, &lookup.tables, graph, nodes, &mut destinations);
+    drop(destinations);
+    lists
 }

@@ -8,7 +8,7 @@ returns-in_err-job-clause-refused g c =
     rw (p.1, p.2) (refuses_text c.args.limits c.args.input c.requires.input c.in_err-job.field-0.0 (rw c.as_bytes.ensures at c.in_err-job.ensures))
 
 pub returns-clause-answered : goal.returns-clause-answered
-returns-clause-answered g c = IfOk-weaker c.answer_job.result _ _
+returns-clause-answered g c = IfOk-weaker c.answer_job-answer.result _ _
     (λ answer h. record {
       size = c.requires.input;
       job = c.in_ok-job.job;
@@ -20,8 +20,8 @@ returns-clause-answered g c = IfOk-weaker c.answer_job.result _ _
       summed = h.1.4;
       fewest = h.1.2;
     })
-    c.answer_job.ensures.answered
+    c.answer_job-answer.ensures.answered
 
 pub returns-clause-refused : goal.returns-clause-refused
 returns-clause-refused g c =
-    IfErr-weaker c.answer_job.result _ _ (refuses_job c.args.limits c.args.input c.requires.input c.in_ok-job.job (rw c.as_bytes.ensures at c.in_ok-job.ensures)) c.answer_job.ensures.refused
+    IfErr-weaker c.answer_job-answer.result _ _ (refuses_job c.args.limits c.args.input c.requires.input c.in_ok-job.job (rw c.as_bytes.ensures at c.in_ok-job.ensures)) c.answer_job-answer.ensures.refused

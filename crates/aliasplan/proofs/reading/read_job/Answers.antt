@@ -1,8 +1,28 @@
-use Rattle.std.proofs.Common.{◌≡◌, Err, ap, refl}
+use Rattle.std.proofs.Common.{◌≡◌, List, ℕ, Err, ap, arith, length, length-append, refl, subst, sym}
+use Rattle.std.specs.Io.KnownBytes.{Consumes}
+use Rattle.std.proofs.lemmas.Grind.{common_steps}
 use Rattle.std.proofs.lemmas.Result.{err_from_is_err_and}
 use Rattle.relay_job.specs.declared.fault.RunFault.TheVariants.{TooLong}
+use Rattle.aliasplan.proofs.Bytes.{consumes_more}
 use Rattle.aliasplan.proofs.RunFacts.{told}
 use Rattle.aliasplan.proofs.reading.read_job.Goals as goal
+
+pub loop-preserved : goal.loop-preserved
+loop-preserved g c =
+    let remaining = g.F.Feed.remaining in
+    let step = c.in_ok-count.ensures in
+    let taken = step.taken in
+    let old = c.loop.invariant in
+    record {
+      told =
+          subst (λ (text : List ℕ). Consumes (remaining c.args.reader.now) (remaining c.read_some.new.reader) text) (sym taken.grown)
+          (consumes_more (remaining c.args.reader.now) (remaining c.loop.reader) (remaining c.read_some.new.reader) c.loop.text.items taken.bytes old.told taken.given);
+      works = step.read.1 (λ e. let no : ⊥ = cc in no);
+      goes_on = grind (arith, common_steps, step.ended);
+      grows = omega (arith, ap length taken.grown, length-append c.loop.text.items taken.bytes, taken.counted, c.if-count-eq0.false, c.read_some.new.text.ok.0, c.loop.text.ok.0, old.grows);
+      within = omega (arith, c.if-len-max.false, c.len-in-loop-2.ensures);
+      room = old.room;
+    }
 
 pub returns-in_err-chunk : goal.returns-in_err-chunk
 returns-in_err-chunk g c =

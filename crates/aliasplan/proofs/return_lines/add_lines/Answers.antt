@@ -3,7 +3,7 @@ use Rattle.std.specs.Prelude.{◌↔◌, Contains, IsTrue}
 use Rattle.std.proofs.lemmas.List.{take_all}
 use Rattle.std.proofs.lemmas.List.Elements.{Contains-get_or}
 use Rattle.relay_text.specs.Bytes.{has_text}
-use Rattle.relay_planning.proofs.GatherFacts.{Some_has, some_more}
+use Rattle.relay_planning.proofs.OutgoingFacts.{Some_has, some_more}
 use Rattle.aliasplan.proofs.ReturnSteps.{IsLineOfText, line_added, lines_for, either_same}
 use Rattle.aliasplan.proofs.return_lines.add_lines.Goals as goal
 

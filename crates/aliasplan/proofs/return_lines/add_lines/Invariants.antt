@@ -1,7 +1,7 @@
 use Rattle.std.proofs.Common.{◌⊎◌, ℕ, List, take}
 use Rattle.std.specs.Prelude.{◌↔◌, IsTrue}
 use Rattle.relay_text.specs.Bytes.{has_text}
-use Rattle.relay_planning.proofs.GatherFacts.{Some_has}
+use Rattle.relay_planning.proofs.OutgoingFacts.{Some_has}
 use Rattle.aliasplan.proofs.ReturnSteps.{IsLineOfText}
 use Rattle.aliasplan.proofs.return_lines.add_lines.Given as goal
 

@@ -6,20 +6,20 @@ read_by-requires-clause-job g c = λ l m. c.parsed_is_readable.ensures.jobs c.ar
 pub of-requires : goal.of-requires
 of-requires g c = c.parsed_is_readable.ensures.job_batches c.args.crew.now.limits.bytes c.args.job.now c.requires.job
 
-pub returned_sources-requires-clause-lines : goal.returned_sources-requires-clause-lines
-returned_sources-requires-clause-lines g c = λ l m q. rw c.of.ensures (rw c.new-lines.ensures at c.in-Ok.ensures.lines q)
+pub returned_by_lookup-returned-requires-clause-lines : goal.returned_by_lookup-returned-requires-clause-lines
+returned_by_lookup-returned-requires-clause-lines g c = λ l m q. rw c.of.ensures (rw c.new-lines.ensures at c.in-Ok.ensures.lines q)
 
-pub returns-clause-plan : goal.returns-clause-plan
-returns-clause-plan g c = rw c.of.ensures at c.returned_sources.ensures.plan
+pub returns-in-Ok-clause-plan : goal.returns-in-Ok-clause-plan
+returns-in-Ok-clause-plan g c = rw c.of.ensures at c.returned_by_lookup-returned.ensures.plan
 
-pub returns-clause-sound : goal.returns-clause-sound
-returns-clause-sound g c = rw c.of.ensures at c.returned_sources.ensures.sound
+pub returns-in-Ok-clause-sound : goal.returns-in-Ok-clause-sound
+returns-in-Ok-clause-sound g c = rw c.of.ensures at c.returned_by_lookup-returned.ensures.sound
 
-pub returns-clause-fewest : goal.returns-clause-fewest
-returns-clause-fewest g c = rw c.of.ensures at c.returned_sources.ensures.fewest
+pub returns-in-Ok-clause-fewest : goal.returns-in-Ok-clause-fewest
+returns-in-Ok-clause-fewest g c = rw c.of.ensures at c.returned_by_lookup-returned.ensures.fewest
 
-pub returns-clause-returns : goal.returns-clause-returns
-returns-clause-returns g c = rw c.of.ensures at c.returned_sources.ensures.returns
+pub returns-in-Ok-clause-returns : goal.returns-in-Ok-clause-returns
+returns-in-Ok-clause-returns g c = rw c.of.ensures at c.returned_by_lookup-returned.ensures.returns
 
-pub returns-clause-refused : goal.returns-clause-refused
-returns-clause-refused g c = rw c.of.ensures at c.returned_sources.ensures.refused
+pub returns-in-Ok-clause-refused : goal.returns-in-Ok-clause-refused
+returns-in-Ok-clause-refused g c = rw c.of.ensures at c.returned_by_lookup-returned.ensures.refused

@@ -1,5 +1,5 @@
 use Rattle.std.proofs.lemmas.Result.{err_from_is_err_and}
-use Rattle.aliasplan.proofs.asking.domains_of_sources.Goals as goal
+use Rattle.aliasplan.proofs.asking.domains_by_lookup.Goals as goal
 
 pub returns-in_err-graph-clause-refused : goal.returns-in_err-graph-clause-refused
 returns-in_err-graph-clause-refused g c =
