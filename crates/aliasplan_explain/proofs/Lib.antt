@@ -8,5 +8,6 @@ pub mod AnswerFacts
 pub mod UnreachedFacts
 pub mod AskingFacts
 pub mod AskedTargets
+pub mod PairFacts
 pub mod RunFacts
 pub mod StretchFacts

@@ -14,8 +14,8 @@ pub(crate) const BLOCK: usize = 256;
 // The likely place of the line of the entry of a number. Each entry has a line, so as many lines stand before its own as entries before
 // it, and at most as many more as there are lines without an entry. The lengths are read as well: the texts are what the step is made of.
 fn likely_line(grounds: &Grounds<'_>, number: usize) -> usize {
-    let aliases = grounds.basis.sources.tables.aliases();
-    let lines = grounds.alias_lines.as_slice();
+    let aliases = grounds.basis.lookup.tables.aliases();
+    let lines = grounds.alias_lines;
     let Some(entry) = aliases.get(number) else {
         return 0;
     };

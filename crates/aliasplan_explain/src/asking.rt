@@ -29,7 +29,7 @@ fn named(alloc: Global, grounds: &Grounds<'_>, local: &[u8]) -> Result<Node, All
     ensures { IfOk result (λ node. node ≡ name_target (directory_of grounds.now.job.now) None local.now) }
 {
     let name = Text::folded_copy_of(alloc, local)?;
-    match grounds.basis.sources.tables.resolve(name.as_bytes(), None) {
+    match grounds.basis.lookup.tables.resolve(name.as_bytes(), None) {
         Target::Alias(number) => Ok(Node::Alias(number)),
         Target::Mailbox => Ok(Node::Mailbox(at_origin(alloc, grounds, name.as_bytes())?)),
         Target::Missing => Ok(Node::Missing(name)),
@@ -48,7 +48,7 @@ pub(crate) fn stands_for(
     match asked {
         Asked::Name(address) => named(alloc, grounds, address.local()),
         Asked::Address(address) => {
-            if grounds.basis.sources.tables.is_local(address) {
+            if grounds.basis.lookup.tables.is_local(address) {
                 named(alloc, grounds, address.local())
             } else {
                 Ok(Node::Remote(address.copy(alloc)?))
@@ -62,7 +62,7 @@ fn delivered(alloc: Global, grounds: &Grounds<'_>, address: &Address) -> Result<
     requires { IsBasisOf grounds.now.job.now grounds.now.basis.now }
     ensures { IfOk result (λ node. node ≡ delivered (directory_of grounds.now.job.now) address.now) }
 {
-    if grounds.basis.sources.tables.is_local(address) {
+    if grounds.basis.lookup.tables.is_local(address) {
         let name = Text::folded_copy_of(alloc, address.local())?;
         Ok(Node::Mailbox(at_origin(alloc, grounds, name.as_bytes())?))
     } else {

@@ -1,75 +1,55 @@
 //! What a job's plan and its explanations are made from.
 use relay_pairs::Reached;
-use relay_planning::Sources;
+use relay_planning::Lookup;
 use relay_tables::Graph;
 
 /// What a job's files and tables say, its graph, and the pairs of sender and node that its message reaches.
 #[derive(Drop)]
 pub(crate) struct Basis {
-    pub(crate) sources: Sources,
+    pub(crate) lookup: Lookup,
     pub(crate) graph: Graph,
     /// By the numbers of senders and nodes in the graph.
     pub(crate) pairs: Vec<Reached>,
 }
 
-ghost use Rattle.std.specs.Prelude.{◌≡◌, ◌≤◌, ℕ, List, IsTrue, IfOk, IfErr, OnOk};
-ghost use Rattle.relay_text.specs.Addresses.{is_origin};
+ghost use Rattle.std.specs.Prelude.{◌≡◌, ◌≤◌, ℕ, List, length, IfOk, IfErr, OnOk};
 ghost use Rattle.relay_text.specs.Bytes.{has_text};
 ghost use Rattle.relay_job.specs.JobAnswers.{IsJobWithin};
-ghost use Rattle.relay_planning.specs.Delivery.{directory_of, routing_of, IsJobGraph, IsJobPart};
-ghost use Rattle.relay_planning.specs.Limits.{name_count, owned_count, IsWithin, IsRefused};
+ghost use Rattle.relay_pairs.specs.Pairs.{ArePairs};
+ghost use Rattle.relay_planning.specs.Delivery.{directory_of, IsJobGraph, IsJobPart};
+ghost use Rattle.relay_planning.specs.Limits.{IsWithin, IsRefused};
+ghost use Rattle.relay_planning.specs.Reaching.{AreReachedPairs};
 ghost use Rattle.relay_planning.specs.Texts.{has_fault_line};
 ghost use Rattle.aliasplan_explain.specs.Grounds.{IsBasisOf};
 
+use crate::both::with_or_fault;
 use aliasplan::{Crew, Gate, Job, RunFault};
 use relay_job::parsed_jobs;
 use relay_planning::{JobView, graph_of, pairs_of, parsed_is_readable};
+use relay_tables::Tables;
 use relay_wire::FindingLines;
 use std::thread::Threads;
 
-// The basis of a job of this graph.
-fn with_pairs<G: Gate, R: Threads + Sync>(
+// The graph of a job, and the pairs that it reaches, where its names stand for what these tables say.
+fn graph_with_pairs<G: Gate, R: Threads + Sync>(
     crew: &Crew<G, R>,
     job: &JobView<'_>,
-    sources: Sources,
-    graph: Graph,
-) -> Result<Basis, RunFault>
-    requires origin { IsTrue (is_origin job.now.settings.origin) }
-    requires tables { sources.tables ≡ directory_of job.now }
-    requires router { sources.router ≡ routing_of job.now }
-    requires graph { IsJobGraph job.now graph }
-    requires part { IsJobPart job.now graph }
-    requires names { name_count job.now ≤ crew.now.limits.names }
-    requires owners { owned_count job.now ≤ crew.now.limits.owners }
-    ensures basis { IfOk result (IsBasisOf job.now) }
+    tables: &Tables,
+) -> Result<(Graph, Vec<Reached>), RunFault>
+    requires { tables.now ≡ directory_of job.now }
+    ensures graph { IfOk result (λ both. IsJobGraph job.now both.0) }
+    ensures part { IfOk result (λ both. IsJobPart job.now both.0) }
+    ensures pairs { IfOk result (λ both. ArePairs both.0 both.1.items) }
+    ensures reached { IfOk result (λ both. AreReachedPairs job.now both.0 both.1.items) }
+    ensures few { IfOk result (λ both. length both.1.items ≤ 16777216) }
     ensures within { OnOk result (IsWithin crew.now.limits job.now) }
     ensures refused { IfErr result (IsRefused crew.now.limits job.now) }
 {
-    match pairs_of(crew, job, &graph) {
-        Ok(pairs) => Ok(Basis {
-            sources,
-            graph,
-            pairs,
-        }),
-        Err(fault) => Err(fault),
-    }
-}
-
-// The basis of a job whose files and tables are read.
-fn with_graph<G: Gate, R: Threads + Sync>(
-    crew: &Crew<G, R>,
-    job: &JobView<'_>,
-    sources: Sources,
-) -> Result<Basis, RunFault>
-    requires origin { IsTrue (is_origin job.now.settings.origin) }
-    requires tables { sources.tables ≡ directory_of job.now }
-    requires router { sources.router ≡ routing_of job.now }
-    ensures basis { IfOk result (IsBasisOf job.now) }
-    ensures within { OnOk result (IsWithin crew.now.limits job.now) }
-    ensures refused { IfErr result (IsRefused crew.now.limits job.now) }
-{
-    match graph_of(crew, job, &sources.tables) {
-        Ok(graph) => with_pairs(crew, job, sources, graph),
+    match graph_of(crew, job, tables) {
+        Ok(graph) => {
+            let pairs = pairs_of(crew, job, &graph);
+            with_or_fault(graph, pairs)
+        }
         Err(fault) => Err(fault),
     }
 }
@@ -89,12 +69,24 @@ impl Basis {
         parsed_jobs();
         parsed_is_readable();
         let mut lines = FindingLines::new(crew.alloc);
-        let Ok(sources) = Sources::read_by(crew, job, &mut lines) else {
+        let Ok(lookup) = Lookup::read_by(crew, job, &mut lines) else {
+            drop(lines);
             return Err(RunFault::Memory);
         };
-        match with_graph(crew, &JobView::of(job), sources) {
-            Ok(basis) => Ok((basis, lines)),
-            Err(fault) => Err(fault),
+        match graph_with_pairs(crew, &JobView::of(job), &lookup.tables) {
+            Ok((graph, pairs)) => {
+                let basis = Basis {
+                    lookup,
+                    graph,
+                    pairs,
+                };
+                Ok((basis, lines))
+            }
+            Err(fault) => {
+                drop(lookup);
+                drop(lines);
+                Err(fault)
+            }
         }
     }
 }

@@ -4,6 +4,7 @@ ghost use Rattle.relay_routes.specs.declared.destination.Destination as destinat
 ghost use Rattle.relay_routes.specs.declared.unrouted.Unrouted as reasons;
 ghost use Rattle.relay_routes.specs.Destinations.{looked_up_name};
 ghost use Rattle.relay_routes.specs.Routes.{Answers};
+ghost use Rattle.relay_tables.specs.declared.node.Node.TheVariants as nodes;
 ghost use Rattle.aliasplan_explain.specs.Decisions.{decision_by, decision_of, fate_at, ok_of, record_at, records_of, rule_for};
 ghost use Rattle.aliasplan_explain.specs.Grounds.{IsBasisOf};
 
@@ -135,17 +136,49 @@ fn decision_by(
     job: &Job,
     rule: Rule,
     to: Option<Destination>,
-) -> Result<Option<Decision>, AllocError>
-    ensures { IfOk result (λ decision. decision ≡ Some (decision_by job.now rule to)) }
+) -> Result<Decision, AllocError>
+    ensures { IfOk result (λ decision. decision ≡ decision_by job.now rule to) }
 {
     let found = looked_up(alloc, job, to.as_ref())?;
     let (lookup, records) = found;
-    Ok(Some(Decision {
+    Ok(Decision {
         rule,
         to,
         lookup,
         records,
-    }))
+    })
+}
+
+// What decides where a mailbox goes.
+fn mailbox_decision(
+    alloc: Global,
+    grounds: &Grounds<'_>,
+    address: &Address,
+) -> Result<Decision, AllocError>
+    requires made { IsBasisOf grounds.now.job.now grounds.now.basis.now }
+    ensures { IfOk result (λ decision. Some decision ≡ decision_of grounds.now.job.now (nodes.Mailbox address.now)) }
+{
+    let job = grounds.job;
+    let via = &job.settings.mailbox_transport;
+    let router = &grounds.basis.lookup.router;
+    let rule = Rule::MailboxTransport(copy_of_via(alloc, via)?);
+    let to = destination_in(router.destination_via(alloc, via, address))?;
+    decision_by(alloc, job, rule, to)
+}
+
+// What decides where a remote address goes.
+fn remote_decision(
+    alloc: Global,
+    grounds: &Grounds<'_>,
+    address: &Address,
+) -> Result<Decision, AllocError>
+    requires made { IsBasisOf grounds.now.job.now grounds.now.basis.now }
+    ensures { IfOk result (λ decision. Some decision ≡ decision_of grounds.now.job.now (nodes.Remote address.now)) }
+{
+    let job = grounds.job;
+    let rule = rule_for(alloc, job, address)?;
+    let to = destination_in(grounds.basis.lookup.router.destination(alloc, address))?;
+    decision_by(alloc, job, rule, to)
 }
 
 /// What decides where a node goes, where it is a mailbox or a remote address. `Err` where memory runs out.
@@ -157,20 +190,9 @@ pub(crate) fn decision_of(
     requires made { IsBasisOf grounds.now.job.now grounds.now.basis.now }
     ensures { IfOk result (λ decision. decision ≡ decision_of grounds.now.job.now node.now) }
 {
-    let job = grounds.job;
-    let router = &grounds.basis.sources.router;
     match node {
-        Node::Mailbox(address) => {
-            let via = &job.settings.mailbox_transport;
-            let rule = Rule::MailboxTransport(copy_of_via(alloc, via)?);
-            let to = destination_in(router.destination_via(alloc, via, address))?;
-            decision_by(alloc, job, rule, to)
-        }
-        Node::Remote(address) => {
-            let rule = rule_for(alloc, job, address)?;
-            let to = destination_in(router.destination(alloc, address))?;
-            decision_by(alloc, job, rule, to)
-        }
+        Node::Mailbox(address) => Ok(Some(mailbox_decision(alloc, grounds, address)?)),
+        Node::Remote(address) => Ok(Some(remote_decision(alloc, grounds, address)?)),
         _ => Ok(None),
     }
 }

@@ -117,7 +117,7 @@ pub(crate) fn ending_of(
     requires made { IsBasisOf grounds.now.job.now grounds.now.basis.now }
     ensures { IfOk result (IsEnding grounds.now.job.now plan.now node.now) }
 {
-    let router = &grounds.basis.sources.router;
+    let router = &grounds.basis.lookup.router;
     match node {
         Node::Mailbox(address) => {
             let via = &grounds.job.settings.mailbox_transport;

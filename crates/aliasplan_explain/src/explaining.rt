@@ -15,6 +15,7 @@ ghost use Rattle.aliasplan_explain.specs.Tellings.{AreToldFor, IsTellingOf};
 ghost use Rattle.aliasplan_explain.specs.Unreached.{unreached_of};
 
 use crate::asking::stands_for;
+use crate::both::with_or_fault;
 use crate::chains::Chains;
 use crate::deciding::decision_of;
 use crate::grounds::Grounds;
@@ -59,11 +60,11 @@ fn recipient_target(
     ensures { IfOk result (λ target. target_at (directory_of grounds.now.job.now) (stands_for (directory_of grounds.now.job.now) asked.now) ≡ Some target) }
 {
     let node = stands_for(alloc, grounds, asked)?;
-    target_of(alloc, &grounds.basis.sources.tables, &node)
+    target_of(alloc, &grounds.basis.lookup.tables, &node)
 }
 
 // The question, and the target that the asked name or address stands for as a recipient.
-fn of_question(
+fn asked_with_target(
     alloc: Global,
     grounds: &Grounds<'_>,
     asked: &Asked,
@@ -72,12 +73,12 @@ fn of_question(
     ensures asked { IfOk result (λ both. both.0 ≡ asked.now) }
     ensures stands { IfOk result (λ both. target_at (directory_of grounds.now.job.now) (stands_for (directory_of grounds.now.job.now) asked.now) ≡ Some both.1) }
 {
-    let stands_for = recipient_target(alloc, grounds, asked)?;
-    Ok((asked.copy(alloc)?, stands_for))
+    let copy = asked.copy(alloc)?;
+    with_or_fault(copy, recipient_target(alloc, grounds, asked))
 }
 
 // The target that a node is, and what decides where it goes.
-fn of_node(
+fn target_with_decision(
     alloc: Global,
     grounds: &Grounds<'_>,
     node: &Node,
@@ -87,8 +88,8 @@ fn of_node(
     ensures target { IfOk result (λ both. target_at (directory_of grounds.now.job.now) node.now ≡ Some both.0) }
     ensures decision { IfOk result (λ both. both.1 ≡ decision_of grounds.now.job.now node.now) }
 {
-    let target = target_of(alloc, &grounds.basis.sources.tables, node)?;
-    Ok((target, decision_of(alloc, grounds, node)?))
+    let target = target_of(alloc, &grounds.basis.lookup.tables, node)?;
+    with_or_fault(target, decision_of(alloc, grounds, node))
 }
 
 // What is told of a node that is asked for, by these answers.
@@ -107,8 +108,8 @@ fn telling_by(
 {
     let _ = plan;
     let unreached = unreached_beside(alloc, grounds, node, &answers)?;
-    let question = of_question(alloc, grounds, asked)?;
-    let aim = of_node(alloc, grounds, node)?;
+    let question = asked_with_target(alloc, grounds, asked)?;
+    let aim = target_with_decision(alloc, grounds, node)?;
     let (asked, stands_for) = question;
     let (target, decision) = aim;
     Ok(Telling {
@@ -135,8 +136,17 @@ fn telling_along(
     ensures { IfOk result (IsTellingOf grounds.now.job.now plan.now grounds.now.recipient_lines.now asked.now) }
 {
     let Chains { node, lines } = chains;
-    let answers = told_for(alloc, grounds, plan, &node, lines)?;
-    telling_by(alloc, grounds, plan, asked, &node, answers)
+    match told_for(alloc, grounds, plan, &node, lines) {
+        Ok(answers) => {
+            let telling = telling_by(alloc, grounds, plan, asked, &node, answers);
+            drop(node);
+            telling
+        }
+        Err(error) => {
+            drop(node);
+            Err(error)
+        }
+    }
 }
 
 // What is told of a job. The lines of its files and tables that are at fault are given.
@@ -153,31 +163,34 @@ fn telling_of<G: Gate, R: Threads + Sync>(
     ensures { IfOk result (λ telling. (plan : plans.Plan) × IsPlanOf grounds.now.job.now plan × IsTellingOf grounds.now.job.now plan grounds.now.recipient_lines.now asked.now telling) }
 {
     let planned = plan_beside(crew, view, grounds, asked, lines)?;
-    let (plan, chains) = planned;
-    telling_along(crew.alloc, grounds, &plan, asked, chains)
+    let (chains, plan) = planned;
+    let telling = telling_along(crew.alloc, grounds, &plan, asked, chains);
+    drop(plan);
+    telling
 }
 
-// What is told of a job that is read.
+// What is told of a job that is read. The lines of its files and tables that are at fault are given.
 fn telling_from<G: Gate, R: Threads + Sync>(
     crew: &Crew<G, R>,
     job: &Job,
     recipient_lines: &[usize],
-    reading: Reading,
+    reading: &Reading,
     asked: &Asked,
-) -> Result<Telling, AllocError>
+    faults: FindingLines,
+) -> Result<Telling, RunFault>
     requires job { IsJobWithin crew.now.limits.bytes job.now }
     requires lines { length recipient_lines.now ≡ length job.now.recipients }
-    requires reading { IsReadingOf job.now reading }
-    ensures { IfOk result (λ telling. (plan : plans.Plan) × IsPlanOf job.now plan × IsTellingOf job.now plan recipient_lines.now asked.now telling) }
+    requires reading { IsReadingOf job.now reading.now }
+    requires faults { (q : List ℕ) → has_text faults q ≡ has_fault_line job.now q }
+    ensures telling { IfOk result (λ telling. (plan : plans.Plan) × IsPlanOf job.now plan × IsTellingOf job.now plan recipient_lines.now asked.now telling) }
+    ensures memory { IfErr result (λ fault. fault ≡ RunFault.Memory) }
 {
     parsed_is_readable();
-    let Reading {
-        basis,
-        faults,
-        alias_lines,
-    } = reading;
-    let grounds = Grounds::new(job, recipient_lines, &basis, alias_lines);
-    telling_of(crew, &JobView::of(job), &grounds, asked, faults)
+    let grounds = Grounds::new(job, recipient_lines, &reading.basis, &reading.alias_lines);
+    match telling_of(crew, &JobView::of(job), &grounds, asked, faults) {
+        Ok(telling) => Ok(telling),
+        Err(_) => Err(RunFault::Memory),
+    }
 }
 
 /// Why a name or an address is reached by a job's message, or isn't: for each sender under which it is reached, the least of the shortest
@@ -201,9 +214,9 @@ pub fn explain<G: Gate, R: Threads + Sync>(
     ensures within { OnOk result (IsWithin crew.now.limits job.now) }
     ensures refused { IfErr result (IsRefused crew.now.limits job.now) }
 {
-    let reading = Reading::of(crew, job)?;
-    match telling_from(crew, job, recipient_lines, reading, asked) {
-        Ok(telling) => Ok(telling),
-        Err(_) => Err(RunFault::Memory),
-    }
+    let read = Reading::of(crew, job)?;
+    let (reading, faults) = read;
+    let telling = telling_from(crew, job, recipient_lines, &reading, asked, faults);
+    drop(reading);
+    telling
 }

@@ -13,9 +13,9 @@ pub(crate) struct Grounds<'a> {
     pub(crate) job: &'a Job,
     pub(crate) recipient_lines: &'a [usize],
     pub(crate) basis: &'a Basis,
-    pub(crate) alias_lines: Vec<Line>,
+    pub(crate) alias_lines: &'a [Line],
     ghost recipients: { length recipient_lines.now ≡ length job.now.recipients },
-    ghost aliases: { alias_lines.items ≡ (logical_lines_of job.now.aliases).lines },
+    ghost aliases: { alias_lines.now ≡ (logical_lines_of job.now.aliases).lines },
 }
 
 impl<'a> Grounds<'a> {
@@ -24,10 +24,10 @@ impl<'a> Grounds<'a> {
         job: &'a Job,
         recipient_lines: &'a [usize],
         basis: &'a Basis,
-        alias_lines: Vec<Line>,
+        alias_lines: &'a [Line],
     ) -> Grounds<'a>
         requires recipients { length recipient_lines.now ≡ length job.now.recipients }
-        requires aliases { alias_lines.items ≡ (logical_lines_of job.now.aliases).lines }
+        requires aliases { alias_lines.now ≡ (logical_lines_of job.now.aliases).lines }
         ensures job { result.job.now ≡ job.now }
         ensures lines { result.recipient_lines.now ≡ recipient_lines.now }
         ensures basis { result.basis.now ≡ basis.now }

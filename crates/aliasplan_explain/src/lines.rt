@@ -1,7 +1,7 @@
 //! The lines of the steps of a trail.
 //!
 //! A step is told as soon as it is known, so that steps take no room. Each worker tells a stretch of the trail.
-use relay_explain::GivenBy;
+use relay_explain::{GivenBy, Step};
 use relay_text::{Address, Text};
 
 /// The lines of the steps of a trail, in pieces, the sender after them, and who gave it.
@@ -16,7 +16,9 @@ ghost use Rattle.std.specs.Prelude.{◌≡◌, ◌≤◌, Ok, Some, length, map,
 ghost use Rattle.std.specs.Thread.{IsSync};
 ghost use Rattle.relay_trails.specs.Trails.{HasNodes, trail_of};
 ghost use Rattle.relay_explain.specs.declared.given_by.GivenBy as givers;
+ghost use Rattle.relay_explain.specs.ExplanationText.{step_line};
 ghost use Rattle.relay_explain.specs.PiecedTexts.{text_of};
+ghost use Rattle.relay_wire.specs.PlanText.{line};
 ghost use Rattle.aliasplan_explain.specs.ChainSteps.{IsGivenPast};
 ghost use Rattle.aliasplan_explain.specs.Grounds.{IsBasisOf};
 ghost use Rattle.aliasplan_explain.specs.Stretches.{AreLinesOf, IsFirstLine, IsTextOf};
@@ -90,16 +92,25 @@ fn item_lines<G: Gate, R: Threads + Sync>(
     all_of(alloc, told)
 }
 
+// The line of a step.
+fn line_of(alloc: Global, step: &Step) -> Result<Text, AllocError>
+    ensures { IfOk result (λ text. text ≡ line (step_line step.now)) }
+{
+    let mut out = Vec::new(alloc);
+    step.put_line(&mut out)?;
+    Ok(Text::of(out))
+}
+
 // The line of a trail's first step.
 fn first_line(alloc: Global, grounds: &Grounds<'_>, found: &Found) -> Result<Text, AllocError>
     requires made { IsBasisOf grounds.now.job.now grounds.now.basis.now }
     requires nodes { HasNodes grounds.now.basis.now.graph found.now }
     ensures { IfOk result (IsFirstLine grounds.now.job.now grounds.now.recipient_lines.now found.now.recipient) }
 {
-    let mut out = Vec::new(alloc);
     let step = first_step(alloc, grounds, found.recipient, found.nodes[0])?;
-    step.put_line(&mut out)?;
-    Ok(Text::of(out))
+    let line = line_of(alloc, &step);
+    drop(step);
+    line
 }
 
 // The sender under which a trail leads to its end.

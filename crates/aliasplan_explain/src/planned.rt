@@ -7,7 +7,7 @@ ghost use Rattle.relay_planning.specs.Texts.{has_fault_line};
 ghost use Rattle.aliasplan_explain.specs.Chains.{LeadToAsked};
 ghost use Rattle.aliasplan_explain.specs.Grounds.{IsBasisOf};
 
-use crate::both::both_of;
+use crate::both::{both_or_fault, with_or_fault};
 use crate::chains::Chains;
 use crate::grounds::Grounds;
 use aliasplan::{Crew, Gate};
@@ -36,14 +36,7 @@ fn planned<G: Gate, R: Threads + Sync>(
 {
     let lines = mem::replace(lines, FindingLines::new(crew.alloc));
     let basis = grounds.basis;
-    plan_reached(
-        crew,
-        view,
-        &basis.sources,
-        &basis.graph,
-        &basis.pairs,
-        lines,
-    )
+    plan_reached(crew, view, &basis.lookup, &basis.graph, &basis.pairs, lines)
 }
 
 // The same, and the chains by a thread of its own meanwhile.
@@ -53,13 +46,13 @@ fn side_by_side<G: Gate, R: Threads + Sync>(
     grounds: &Grounds<'_>,
     asked: &Asked,
     lines: FindingLines,
-) -> Result<(Plan, Chains), AllocError>
+) -> Result<(Chains, Plan), AllocError>
     requires made { IsBasisOf grounds.now.job.now grounds.now.basis.now }
     requires view { view.now ≡ grounds.now.job.now }
     requires lines { (q : List ℕ) → has_text lines q ≡ has_fault_line grounds.now.job.now q }
-    ensures plan { IfOk result (λ both. IsPlanOf grounds.now.job.now both.0) }
-    ensures sound { IfOk result (λ both. IsSoundFor grounds.now.job.now both.0.transactions) }
-    ensures chains { IfOk result (λ both. LeadToAsked grounds.now.job.now grounds.now.basis.now.graph grounds.now.recipient_lines.now asked.now both.1) }
+    ensures chains { IfOk result (λ both. LeadToAsked grounds.now.job.now grounds.now.basis.now.graph grounds.now.recipient_lines.now asked.now both.0) }
+    ensures plan { IfOk result (λ both. IsPlanOf grounds.now.job.now both.1) }
+    ensures sound { IfOk result (λ both. IsSoundFor grounds.now.job.now both.1.transactions) }
 {
     let mut lines = lines;
     let lead = || -> Result<Chains, AllocError>
@@ -71,10 +64,35 @@ fn side_by_side<G: Gate, R: Threads + Sync>(
         ensures { IfOk result (λ plan. IsPlanOf grounds.entry.now.job.now plan × IsSoundFor grounds.entry.now.job.now plan.transactions) }
     { planned(crew, view, grounds, &mut lines) };
     let (there, here) = join(crew.rt, lead, plan);
-    both_of(here, there)
+    both_or_fault(there, here)
 }
 
-/// The plan of a job, and the chains to what is asked for: neither needs the other. The lines of files and tables that are at fault are
+// The same, one after the other.
+fn in_turn<G: Gate, R: Threads + Sync>(
+    crew: &Crew<G, R>,
+    view: &JobView<'_>,
+    grounds: &Grounds<'_>,
+    asked: &Asked,
+    lines: &mut FindingLines,
+) -> Result<(Chains, Plan), AllocError>
+    requires made { IsBasisOf grounds.now.job.now grounds.now.basis.now }
+    requires view { view.now ≡ grounds.now.job.now }
+    requires lines { (q : List ℕ) → has_text lines.old q ≡ has_fault_line grounds.now.job.now q }
+    ensures chains { IfOk result (λ both. LeadToAsked grounds.now.job.now grounds.now.basis.now.graph grounds.now.recipient_lines.now asked.now both.0) }
+    ensures plan { IfOk result (λ both. IsPlanOf grounds.now.job.now both.1) }
+    ensures sound { IfOk result (λ both. IsSoundFor grounds.now.job.now both.1.transactions) }
+{
+    let chains = Chains::to(crew, grounds, asked)?;
+    let plan = planned(crew, view, grounds, lines);
+    with_or_fault(chains, plan)
+}
+
+// Are there pairs enough for a thread of their own, and another worker?
+fn is_shared<G: Gate, R: Threads + Sync>(crew: &Crew<G, R>, grounds: &Grounds<'_>) -> bool {
+    crew.options.workers > 1 && grounds.basis.pairs.len() >= FEWEST_PAIRS
+}
+
+/// The chains to what is asked for, and the plan of a job: neither needs the other. The lines of files and tables that are at fault are
 /// given. `Err` where memory runs out.
 pub(crate) fn plan_beside<G: Gate, R: Threads + Sync>(
     crew: &Crew<G, R>,
@@ -82,18 +100,18 @@ pub(crate) fn plan_beside<G: Gate, R: Threads + Sync>(
     grounds: &Grounds<'_>,
     asked: &Asked,
     lines: FindingLines,
-) -> Result<(Plan, Chains), AllocError>
+) -> Result<(Chains, Plan), AllocError>
     requires made { IsBasisOf grounds.now.job.now grounds.now.basis.now }
     requires view { view.now ≡ grounds.now.job.now }
     requires lines { (q : List ℕ) → has_text lines q ≡ has_fault_line grounds.now.job.now q }
-    ensures plan { IfOk result (λ both. IsPlanOf grounds.now.job.now both.0) }
-    ensures sound { IfOk result (λ both. IsSoundFor grounds.now.job.now both.0.transactions) }
-    ensures chains { IfOk result (λ both. LeadToAsked grounds.now.job.now grounds.now.basis.now.graph grounds.now.recipient_lines.now asked.now both.1) }
+    ensures chains { IfOk result (λ both. LeadToAsked grounds.now.job.now grounds.now.basis.now.graph grounds.now.recipient_lines.now asked.now both.0) }
+    ensures plan { IfOk result (λ both. IsPlanOf grounds.now.job.now both.1) }
+    ensures sound { IfOk result (λ both. IsSoundFor grounds.now.job.now both.1.transactions) }
 {
-    if crew.options.workers > 1 && grounds.basis.pairs.len() >= FEWEST_PAIRS {
-        return side_by_side(crew, view, grounds, asked, lines);
+    if is_shared(crew, grounds) {
+        side_by_side(crew, view, grounds, asked, lines)
+    } else {
+        let mut lines = lines;
+        in_turn(crew, view, grounds, asked, &mut lines)
     }
-    let chains = Chains::to(crew, grounds, asked)?;
-    let mut lines = lines;
-    Ok((planned(crew, view, grounds, &mut lines)?, chains))
 }

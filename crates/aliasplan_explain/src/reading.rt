@@ -3,11 +3,10 @@ use crate::basis::Basis;
 use relay_text::Line;
 use relay_wire::FindingLines;
 
-/// What a job's plan is made from, the lines of its files and tables that are at fault, and the logical lines of its alias file.
+/// What a job's plan is made from, and the logical lines of its alias file.
 #[derive(Drop)]
 pub(crate) struct Reading {
     pub(crate) basis: Basis,
-    pub(crate) faults: FindingLines,
     pub(crate) alias_lines: Vec<Line>,
 }
 
@@ -20,7 +19,7 @@ ghost use Rattle.relay_planning.specs.Limits.{IsWithin, IsRefused};
 ghost use Rattle.relay_planning.specs.Texts.{has_fault_line};
 ghost use Rattle.aliasplan_explain.specs.Grounds.{IsBasisOf, IsReadingOf};
 
-use crate::both::both_of;
+use crate::both::both_or_fault;
 use aliasplan::{Crew, Gate, Job, RunFault};
 use relay_text::logical_lines;
 use std::alloc::Global;
@@ -53,7 +52,7 @@ fn read_and_cut<G: Gate, R: Threads + Sync>(
 {
     let alloc = crew.alloc;
     if crew.options.workers == 1 || job.aliases.len() < FEWEST_BYTES {
-        return both_of(Basis::read(crew, job), alias_lines_of(alloc, job));
+        return both_or_fault(Basis::read(crew, job), alias_lines_of(alloc, job));
     }
     let cut = || -> Result<Vec<Line>, RunFault>
         ensures { IfOk result (λ lines. lines.items ≡ (logical_lines_of job.entry.now.aliases).lines) × IfErr result (λ fault. fault ≡ RunFault.Memory) }
@@ -63,25 +62,22 @@ fn read_and_cut<G: Gate, R: Threads + Sync>(
         ensures { IfOk result (λ both. IsBasisOf job.entry.now both.0 × ((q : List ℕ) → has_text both.1 q ≡ has_fault_line job.entry.now q)) × OnOk result (IsWithin crew.entry.now.limits job.entry.now) × IfErr result (IsRefused crew.entry.now.limits job.entry.now) }
     { Basis::read(crew, job) };
     let (lines, read) = join(crew.rt, cut, read);
-    both_of(read, lines)
+    both_or_fault(read, lines)
 }
 
 impl Reading {
-    /// That of a job. The errors are those of `plan_job`, in the same order.
+    /// That of a job, and the lines of its files and tables that are at fault. The errors are those of `plan_job`, in the same order.
     pub(crate) fn of<G: Gate, R: Threads + Sync>(
         crew: &Crew<G, R>,
         job: &Job,
-    ) -> Result<Reading, RunFault>
+    ) -> Result<(Reading, FindingLines), RunFault>
         requires { IsJobWithin crew.now.limits.bytes job.now }
-        ensures reading { IfOk result (IsReadingOf job.now) }
+        ensures reading { IfOk result (λ both. IsReadingOf job.now both.0) }
+        ensures faults { IfOk result (λ both. (q : List ℕ) → has_text both.1 q ≡ has_fault_line job.now q) }
         ensures within { OnOk result (IsWithin crew.now.limits job.now) }
         ensures refused { IfErr result (IsRefused crew.now.limits job.now) }
     {
         let ((basis, faults), alias_lines) = read_and_cut(crew, job)?;
-        Ok(Reading {
-            basis,
-            faults,
-            alias_lines,
-        })
+        Ok((Reading { basis, alias_lines }, faults))
     }
 }

@@ -37,9 +37,9 @@ fn alias_row<'a>(
     ensures { IfOk result (λ row. map place_value row.items ≡ entry_row_if (logical_lines_of grounds.now.job.now.aliases).lines (slice_get (directory_of grounds.now.job.now).aliases number)) }
 {
     entries_on_lines();
-    match grounds.basis.sources.tables.aliases().get(number as usize) {
+    match grounds.basis.lookup.tables.aliases().get(number as usize) {
         Some(entry) => {
-            let lines = lines_near(&grounds.alias_lines, entry.line, likely);
+            let lines = lines_near(grounds.alias_lines, entry.line, likely);
             entry_places(alloc, lines, entry)
         }
         None => Ok(Vec::new(alloc)),
@@ -104,7 +104,7 @@ pub(crate) fn listed_at(
     requires made { IsBasisOf grounds.now.job.now grounds.now.basis.now }
     ensures { IfOk result (λ listed. listed ≡ slice_get (listed_by grounds.now.job.now node.now) item) }
 {
-    let Some(entry) = entry_of(alloc, &grounds.basis.sources.tables, node)? else {
+    let Some(entry) = entry_of(alloc, &grounds.basis.lookup.tables, node)? else {
         return Ok(None);
     };
     let row = row_of(alloc, grounds, node, likely)?;

@@ -1,8 +1,9 @@
 //! A run from a job's bytes to the text of an explanation.
-ghost use Rattle.std.specs.Prelude.{◌≡◌, ◌≢◌, ◌≤◌, false, true, length, Err, IfOk, IfErr, IfSome, OnOk, OnErr};
+ghost use Rattle.std.specs.Prelude.{◌≡◌, ◌≢◌, ◌≤◌, false, true, length, Ok, Err, IfOk, IfErr, IfSome, OnOk, OnErr};
 ghost use Rattle.std.specs.Io.KnownBytes.{Appends, Keeps};
 ghost use Rattle.relay_wire.specs.declared.plan.Plan as plans;
 ghost use Rattle.relay_job.specs.JobAnswers.{IsJobWithin};
+ghost use Rattle.relay_job.specs.JobText.{job_of};
 ghost use Rattle.relay_explain.specs.Explanations.{Explanation};
 ghost use Rattle.relay_explain.specs.ExplanationText.{explanation_text_of};
 ghost use Rattle.relay_explain.specs.PiecedTexts.{text_of};
@@ -70,6 +71,23 @@ fn answer_job<G: Gate, R: Threads + Sync>(
     Ok(Explained { text, in_plan })
 }
 
+// What is written for a job that these bytes are.
+fn answer_parsed<G: Gate, R: Threads + Sync>(
+    crew: &Crew<G, R>,
+    job: &Job,
+    input: &[u8],
+    asked: &Asked,
+) -> Result<Explained, RunFault>
+    requires size { length input.now ≤ crew.now.limits.bytes }
+    requires job { job_of input.now ≡ Ok job.now }
+    ensures explained { IfOk result (λ it. IsExplained crew.now.limits asked.now input.now (text_of it.text) it.in_plan) }
+    ensures refused { IfErr result (RefusesBytes crew.now.limits input.now) }
+{
+    each_recipient_has_line();
+    let lines = recipient_lines(crew.alloc, input)?;
+    answer_job(crew, job, &lines, asked)
+}
+
 // What is written for a job's bytes.
 fn answer_input<G: Gate, R: Threads + Sync>(
     crew: &Crew<G, R>,
@@ -80,10 +98,10 @@ fn answer_input<G: Gate, R: Threads + Sync>(
     ensures explained { IfOk result (λ it. IsExplained crew.now.limits asked.now input.now (text_of it.text) it.in_plan) }
     ensures refused { IfErr result (RefusesBytes crew.now.limits input.now) }
 {
-    each_recipient_has_line();
     let job = parse_job_by(crew.rt, crew.alloc, crew.options.workers, input)?;
-    let lines = recipient_lines(crew.alloc, input)?;
-    answer_job(crew, &job, &lines, asked)
+    let answer = answer_parsed(crew, &job, input, asked);
+    drop(job);
+    answer
 }
 
 /// Reads a job, and writes why a name or an address is reached by its message, or isn't, and nothing else. All of the text is there before

@@ -40,7 +40,7 @@ pub(crate) fn put_step(
     let items = found.items.as_slice();
     let (from, item, to) = (nodes[number], items[number], nodes[number + 1]);
     let graph = &grounds.basis.graph;
-    let tables = &grounds.basis.sources.tables;
+    let tables = &grounds.basis.lookup.tables;
     let node = graph.node(from);
     match (alias_name(tables, node), alias_name(tables, graph.node(to))) {
         (Some(name), Some(target)) => {
@@ -54,7 +54,9 @@ pub(crate) fn put_step(
         }
         _ => {
             let step = next_step(alloc, grounds, from, item, to, likely)?;
-            step.put_line(out)
+            let put = step.put_line(out);
+            drop(step);
+            put
         }
     }
 }

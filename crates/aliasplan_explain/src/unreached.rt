@@ -39,7 +39,7 @@ fn entry_numbers(alloc: Global, grounds: &Grounds<'_>) -> Result<Vec<u32>, Alloc
     ensures { IfOk result (λ numbers. nodes_at grounds.now.basis.now.graph numbers.items ≡ map (λ node. Some node) (entry_nodes (directory_of grounds.now.job.now))) }
 {
     let graph = &grounds.basis.graph;
-    let tables = &grounds.basis.sources.tables;
+    let tables = &grounds.basis.lookup.tables;
     let count = tables.aliases().len() + tables.includes().len();
     let mut numbers = vec![in alloc; 0u32; count]?;
     for number in 0..graph.nodes() {
@@ -64,7 +64,7 @@ fn add_item(
     ensures { OnOk result ((node : nodes.Node) (entry : entries.Entry) → slice_get grounds.now.basis.now.graph.nodes from ≡ Some node → entry_at (directory_of grounds.now.job.now) node ≡ Some entry → listed.new.items ≡ listed.old.items ++ listed_in entry (place_value place.now) ∷ []) }
 {
     let node = grounds.basis.graph.node(from);
-    let Some(entry) = entry_of(alloc, &grounds.basis.sources.tables, node)? else {
+    let Some(entry) = entry_of(alloc, &grounds.basis.lookup.tables, node)? else {
         unreachable!()
     };
     listed.push(listed_in(alloc, entry, place)?)?;

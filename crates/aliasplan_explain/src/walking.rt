@@ -26,7 +26,7 @@ fn owner_past(grounds: &Grounds<'_>, node: &Node, owner: Option<u32>) -> Option<
     ensures { given_at grounds.now.job.now result ≡ given_past grounds.now.job.now (given_at grounds.now.job.now owner) node.now }
 {
     match node {
-        Node::Alias(number) => match grounds.basis.sources.tables.owner_of(*number) {
+        Node::Alias(number) => match grounds.basis.lookup.tables.owner_of(*number) {
             Some(other) => Some(other),
             None => owner,
         },
@@ -59,7 +59,7 @@ pub(crate) fn given_by(
     let Some(number) = owner else {
         return Ok(GivenBy::Envelope);
     };
-    match grounds.basis.sources.tables.aliases().get(number as usize) {
+    match grounds.basis.lookup.tables.aliases().get(number as usize) {
         Some(entry) => {
             let name = Text::copy_of(alloc, entry.name.as_bytes())?;
             Ok(GivenBy::Alias(name, entry.line))
@@ -86,7 +86,7 @@ pub(crate) fn first_step(
     let node = grounds.basis.graph.node(root);
     Ok(Step {
         mention: Mention::Recipient(line, address),
-        target: target_of(alloc, &grounds.basis.sources.tables, node)?,
+        target: target_of(alloc, &grounds.basis.lookup.tables, node)?,
     })
 }
 
@@ -112,6 +112,6 @@ pub(crate) fn next_step(
     };
     Ok(Step {
         mention: Mention::Item(listed),
-        target: target_of(alloc, &grounds.basis.sources.tables, graph.node(to))?,
+        target: target_of(alloc, &grounds.basis.lookup.tables, graph.node(to))?,
     })
 }

@@ -4,8 +4,8 @@ use Rattle.aliasplan_explain.proofs.AnswerFacts.{answers_are, none_told}
 use Rattle.aliasplan_explain.proofs.AskedTargets.{asked_has_target}
 use Rattle.aliasplan_explain.proofs.explaining.telling_by.Goals as goal
 
-pub of_node-requires-clause-target : goal.of_node-requires-clause-target
-of_node-requires-clause-target c = asked_has_target c.args.grounds.now.job.now c.args.asked.now c.args.node.now c.requires.node
+pub target_with_decision-requires-clause-target : goal.target_with_decision-requires-clause-target
+target_with_decision-requires-clause-target c = asked_has_target c.args.grounds.now.job.now c.args.asked.now c.args.node.now c.requires.node
 
 pub returns : goal.returns
 returns c =

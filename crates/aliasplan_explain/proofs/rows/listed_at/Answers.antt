@@ -15,13 +15,13 @@ listed_if entry r = option_map (listed_in entry) (option_map place_value (option
 pub returns-in_ok-listed_in-in-Some-get : goal.returns-in_ok-listed_in-in-Some-get
 returns-in_ok-listed_in-in-Some-get c =
     let entry = c.in-Some.entry in
-    let got = listed_got c.args.grounds.now.job.now c.args.node.now entry c.args.grounds.now.basis.now.sources.tables c.requires.made.tables (sym c.in-Some.is ∙ c.in_ok-entry.ensures)
+    let got = listed_got c.args.grounds.now.job.now c.args.node.now entry c.args.grounds.now.basis.now.lookup.tables c.requires.made.tables (sym c.in-Some.is ∙ c.in_ok-entry.ensures)
     c.in_ok-row.row.items c.in_ok-row.ensures c.deref.result.now c.deref.ensures.value c.args.item c.get.result c.get.ensures.lookup in
     ap (λ (l : Listed). Some l) c.in_ok-listed_in-in-Some-get.ensures ∙ sym (got ∙ ap (listed_if entry) c.in-Some-get.is)
 
 pub returns-in-None : goal.returns-in-None
 returns-in-None c =
     let entry = c.in-Some.entry in
-    let got = listed_got c.args.grounds.now.job.now c.args.node.now entry c.args.grounds.now.basis.now.sources.tables c.requires.made.tables (sym c.in-Some.is ∙ c.in_ok-entry.ensures)
+    let got = listed_got c.args.grounds.now.job.now c.args.node.now entry c.args.grounds.now.basis.now.lookup.tables c.requires.made.tables (sym c.in-Some.is ∙ c.in_ok-entry.ensures)
     c.in_ok-row.row.items c.in_ok-row.ensures c.deref.result.now c.deref.ensures.value c.args.item c.get.result c.get.ensures.lookup in
     sym (got ∙ ap (listed_if entry) c.in-None.is)

@@ -59,7 +59,7 @@ unreachable-requires c =
     let child = child_node job g c.requires.made.graph (get_or nodes k 0) from c.node-node.ensures item (get_or nodes (k + 1) 0) leads in
     let listed =
     target_is_listed (λ line list. c.places_of_items.ensures.of_list line list) (λ text. c.places_of_items.ensures.of_include text) (λ text e has. c.entries_on_lines.ensures.there text e has) (λ text. c.entries_on_lines.ensures.ascending text) job from item child.0 child.1 in
-    let got = listed_got job from (entries.Alias name) c.args.grounds.now.basis.now.sources.tables c.requires.made.tables (sym c.in-Some-Some.ensures.0)
+    let got = listed_got job from (entries.Alias name) c.args.grounds.now.basis.now.lookup.tables c.requires.made.tables (sym c.in-Some-Some.ensures.0)
     c.in_ok-row-in-Some-Some.row.items c.in_ok-row-in-Some-Some.ensures c.deref.result.now c.deref.ensures.value item c.get.result c.get.ensures.lookup in
     place_there job from item child.0 name c.get.result child.1 got listed c.in-None.is
 
@@ -80,7 +80,7 @@ returns-in-Some c =
     let target = c.in-Some-Some.target.now in
     let place = c.in-Some.place in
     let step : Step = alias_step name place.now.line place.now.item place.now.text.now target in
-    let got = listed_got job from (entries.Alias name) c.args.grounds.now.basis.now.sources.tables c.requires.made.tables (sym c.in-Some-Some.ensures.0)
+    let got = listed_got job from (entries.Alias name) c.args.grounds.now.basis.now.lookup.tables c.requires.made.tables (sym c.in-Some-Some.ensures.0)
     c.in_ok-row-in-Some-Some.row.items c.in_ok-row-in-Some-Some.ensures c.deref.result.now c.deref.ensures.value item c.get.result c.get.ensures.lookup in
     let leads = leads_at job g c.requires.made.graph found c.requires.nodes nodes nodes_are items items_are k c.requires.within in
     let child = child_node job g c.requires.made.graph (get_or nodes k 0) from c.node-node.ensures item (get_or nodes (k + 1) 0) leads in
@@ -107,4 +107,4 @@ returns-in_ok-step-in_default c =
     λ (a b : Node) at_a at_b.
     subst (λ (is : List ℕ). IsStepTo job a (get_or is k 0) b step) items_are
     (c.in_ok-step-in_default.ensures a b (subst (λ (ns : List ℕ). slice_get g.nodes (get_or ns k 0) ≡ Some a) (sym nodes_are) at_a) (subst (λ (ns : List ℕ). slice_get g.nodes (get_or ns (k + 1) 0) ≡ Some b) (sym nodes_are) at_b)) in
-    on_ok c.put_line.result (λ written. (step, at, written)) c.put_line.ensures
+    on_ok c.put_line-put.result (λ written. (step, at, written)) c.put_line-put.ensures

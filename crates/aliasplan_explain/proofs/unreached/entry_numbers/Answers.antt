@@ -26,7 +26,7 @@ place_of-requires c =
 
 pub index_mut-requires : goal.index_mut-requires
 index_mut-requires c =
-    let tables = c.args.grounds.now.basis.now.sources.tables in
+    let tables = c.args.grounds.now.basis.now.lookup.tables in
     let within : c.in-Some.place < length (entry_nodes tables) = slice_get_within (entry_nodes tables) c.in-Some.place c.node.result.now c.in-Some.ensures.some in
     omega (arith, within, ap (λ (x : Directory). length (entry_nodes x)) c.requires.tables, c.loop-number.invariant.size, c.loop-number.numbers.ok.0)
 
