@@ -1,7 +1,6 @@
 -- What a run over envelopes that come beside the tables has written, and why it refuses.
-use Rattle.std.proofs.Common.{◌≡◌, ◌≢◌, ℕ, ◌+◌, List, [], ◌++◌, length, take, Option, Some, None, Ok, Err, refl, sym, ap, ◌∙◌}
+use Rattle.std.proofs.Common.{◌≡◌, ℕ, ◌+◌, List, [], ◌++◌, length, take, Option, Some, None, Ok, refl, sym, ap, subst, ◌∙◌}
 use Rattle.std.specs.Option.{IfSome}
-use Rattle.std.specs.declared.result.Result.{Result}
 use Rattle.std.specs.Io.KnownBytes.{Appends}
 use Rattle.std.proofs.KnownBytes.{Appends-nil, Appends-trans}
 use Rattle.std.proofs.Math.Seq.{take-append-add}
@@ -34,12 +33,9 @@ pub without-is : (bytes : ℕ) (tables : Job) → AreTablesWithin bytes tables �
 unfolding tables_of
 without-is bytes tables h = alone (tables_fault h.0) (sections_of h.0) tables h.2
 
--- what holds where a step ends with a fault holds where the run does
-pub told : {A B X Y : Type 0} (e f : RunFault) (a : Result A RunFault) (b : Result B RunFault) → a ≡ Err e → b ≡ Err e → (a ≡ Err f → X) × (a ≢ Err f → Y) → (b ≡ Err f → X) × (b ≢ Err f → Y)
-told e f a b is was h = (
-  λ q. let same : e ≡ f = cc in h.0 (is ∙ ap (λ (x : RunFault). Err x) same),
-  λ n. h.1 (λ q. let same : e ≡ f = cc in n (was ∙ ap (λ (x : RunFault). Err x) same)),
-)
+-- a fault of refused tables is none that they cannot have
+pub refused-else : (limits : Limits) (tables : Job) (e f : RunFault) → HasRefusedTables limits tables e → (HasRefusedTables limits tables f → ⊥) → e ≡ f → ⊥
+refused-else limits tables e f h never same = never (subst (HasRefusedTables limits tables) same h)
 
 pub if_some_more : {T : Type 0} {P Q : T → Type 0} (o : Option T) → IfSome o P → ((x : T) → P x → Q x) → IfSome o Q
 if_some_more None h f = tt

@@ -1,5 +1,5 @@
 -- What a line does to the sections that are to come.
-use Rattle.std.proofs.Common.{◌≡◌, ◌<◌, ◌≤◌, ℕ, ◌+◌, ◌^◌, Bool, true, false, not, cond, ◌&&◌, ◌||◌, List, [], ◌∷◌, ◌++◌, length, Option, Some, None, refl, sym, ap, ◌∙◌, arith, append_assoc}
+use Rattle.std.proofs.Common.{◌≡◌, ◌<◌, ◌≤◌, ℕ, ◌+◌, ◌-◌, ◌^◌, Bool, true, false, not, cond, ◌&&◌, ◌||◌, List, [], ◌∷◌, ◌++◌, length, Option, Some, None, refl, sym, ap, ◌∙◌, arith, append_assoc}
 use Rattle.std.specs.List.{list_any, list_all, flat_map, slice_get}
 use Rattle.std.specs.Option.{is_some, is_none, option_map, IfSome}
 use Rattle.std.specs.Io.KnownBytes.{Keeps, IsAtEnd}
@@ -191,6 +191,13 @@ refused-read max first begun (Some lines) number (Some xs) Write h only long = a
 -- Each line that is taken leaves fewer sections to come.
 pub fewer-line : (number next : ℕ) (begun given after : Option Section) (all : ℕ) → next ≡ number + 1 → number + 1 < 2 ^ 64 → length (listed given) + length (listed after) ≤ length (listed begun) + 1 → to_come number begun ≤ all → length (listed given) + to_come next after ≤ all
 fewer-line number next begun given after all e within fewer h = omega arith
+
+pub no-more : (left all : ℕ) → 0 + left ≤ all → left ≤ all
+no-more left all h = omega arith
+
+-- Each line that is taken leaves fewer numbers.
+pub smaller-line : (number next : ℕ) → next ≡ number + 1 → number + 1 < 2 ^ 64 → 2 ^ 64 - next < 2 ^ 64 - number
+smaller-line number next e within = omega arith
 
 -- The lines of a text that was read from its start.
 breaks-same : (done : List JobLine) (x : JobLine) → breaks_envelopes false done x ≡ breaks_from (list_any is_heading done) x

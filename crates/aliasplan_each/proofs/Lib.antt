@@ -1,4 +1,5 @@
 pub mod BlockFacts
+pub mod FaultFacts
 pub mod PartFacts
 pub mod EachFacts
 pub mod PieceFacts

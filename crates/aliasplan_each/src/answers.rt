@@ -21,7 +21,9 @@ fn plan_of<G: Gate, R: Threads + Sync>(
 {
     let origin = planner.settings().origin.as_bytes();
     let envelope = parse_envelope(crew.alloc, section.bytes, origin)?;
-    planner.plan(crew, &envelope)
+    let plan = planner.plan(crew, &envelope);
+    drop(envelope);
+    plan
 }
 
 // Why an envelope with a fault is refused. `Err` where memory ran out.
@@ -75,7 +77,9 @@ impl Answers {
         ensures counts { OnOk result (self.new.counts ≡ with_planned self.old.counts (length plan.now.findings)) }
     {
         let text = form.text_of(alloc, plan)?;
-        self.text.extend_from_slice(text.as_bytes())?;
+        let added = self.text.extend_from_slice(text.as_bytes());
+        drop(text);
+        added?;
         self.counts = self.counts.with_planned(plan.findings.as_slice().len());
         Ok(())
     }
@@ -101,7 +105,11 @@ impl Answers {
     {
         put_envelope(section.id, &mut self.text)?;
         match plan_of(crew, planner, section) {
-            Ok(plan) => self.add_plan(crew.alloc, crew.options.form, &plan),
+            Ok(plan) => {
+                let added = self.add_plan(crew.alloc, crew.options.form, &plan);
+                drop(plan);
+                added
+            }
             Err(fault) => self.add_refusal(refusal_of(fault)?),
         }
     }

@@ -1,11 +1,12 @@
 //! A run over envelopes that come from a reader one after another, beside tables that are there already.
-ghost use Rattle.std.specs.Prelude.{◌≡◌, ◌≢◌, false, true, [], ◌∷◌, Err, IfOk, IfErr, OnOk, IfSome};
+ghost use Rattle.std.specs.Prelude.{◌≡◌, ◌≢◌, false, true, [], ◌∷◌, None, Err, IfOk, IfErr, OnOk, IfSome};
 ghost use Rattle.std.specs.Io.KnownBytes.{Appends};
 ghost use Rattle.relay_wire.specs.PlanText.{line};
 ghost use Rattle.relay_job.specs.Tables.{AreTablesWithin};
 ghost use Rattle.relay_envelopes.specs.EachText.{done_line};
 ghost use Rattle.aliasplan.specs.Outcomes.{AreTableCountsWithin};
 ghost use Rattle.aliasplan.specs.Transfers.{Fronts};
+ghost use Rattle.aliasplan_each.specs.Blocks.{no_counts};
 ghost use Rattle.aliasplan_each.specs.Beside.{sections_in, PlansBeside, RefusesBeside, WritesBesideFront};
 ghost use Rattle.aliasplan_each.specs.BesideSteps.{IsWriteFault, WritesFindings, FrontsFindings, WritesBlock, WritesBlocks, FrontsBlocks};
 
@@ -67,6 +68,34 @@ fn answer_section<S: Sink, G: Gate, R: Threads + Sync>(
     write_whole(writer, &answers.text)
 }
 
+// Writes the block of each section that is to come as soon as it has ended, and counts them.
+fn answer_coming<F: Feed, S: Sink, G: Gate, R: Threads + Sync>(
+    crew: &Crew<G, R>,
+    planner: &Planner,
+    feeding: &mut Feeding,
+    answers: &mut Answers,
+    reader: &mut F,
+    writer: &mut S,
+) -> Result<EnvelopeCounts, RunFault>
+    requires feeding { (feeding.old.number ≡ 0) × (feeding.old.pending ≡ []) × (feeding.old.begun ≡ None) }
+    requires answers { answers.old.counts ≡ no_counts }
+    requires reader { (F.has_failed reader.old ≡ false) × (F.has_ended reader.old ≡ false) }
+    requires writer { S.has_failed writer.old ≡ false }
+    ensures written { IfOk result (λ counts. IfSome (F.remaining reader.old) (λ input. WritesBlocks crew.now.limits crew.now.options.form planner.now input (S.contents writer.old) (S.contents writer.new) counts)) }
+    ensures refused { IfErr result (λ fault. IfSome (F.remaining reader.old) (λ input. RefusesBeside crew.now.limits planner.now input fault)) }
+    ensures front { IfErr result (λ fault. IfSome (F.remaining reader.old) (λ input. FrontsBlocks crew.now.limits crew.now.options.form planner.now (sections_in input) (S.contents writer.old) (S.contents writer.new))) }
+    ensures read { (result ≡ Err RunFault.Read → F.has_failed reader.new ≡ true) × (result ≢ Err RunFault.Read → F.has_failed reader.new ≡ false) }
+    ensures write { (result ≡ Err RunFault.Write → S.has_failed writer.new ≡ true) × (result ≢ Err RunFault.Write → S.has_failed writer.new ≡ false) }
+    ensures ended { OnOk result (F.has_ended reader.new ≡ true) }
+{
+    while let Some(section) = feeding.next(crew.alloc, reader, crew.limits.bytes)? {
+        let answered = answer_section(crew, planner, &section, answers, writer);
+        drop(section);
+        answered?;
+    }
+    Ok(answers.counts)
+}
+
 // Writes the block of each envelope as soon as its section has ended, and counts them.
 fn answer_envelopes<F: Feed, S: Sink, G: Gate, R: Threads + Sync>(
     crew: &Crew<G, R>,
@@ -85,10 +114,10 @@ fn answer_envelopes<F: Feed, S: Sink, G: Gate, R: Threads + Sync>(
 {
     let mut feeding = Feeding::start(crew.alloc)?;
     let mut answers = Answers::none(crew.alloc);
-    while let Some(section) = feeding.next(crew.alloc, reader, crew.limits.bytes)? {
-        answer_section(crew, planner, &section, &mut answers, writer)?;
-    }
-    Ok(answers.counts)
+    let counts = answer_coming(crew, planner, &mut feeding, &mut answers, reader, writer);
+    drop(feeding);
+    drop(answers);
+    counts
 }
 
 // Writes the last line of an answer.
@@ -108,8 +137,7 @@ fn write_done<S: Sink>(
     write_whole(writer, &text)
 }
 
-// Writes the answer by tables that are read. They are dropped where this is called, since each place where a planner is dropped makes a proof
-// longer.
+// Writes the answer by tables that are read.
 fn answer_stream<F: Feed, S: Sink, G: Gate, R: Threads + Sync>(
     crew: &Crew<G, R>,
     planner: &Planner,
@@ -162,5 +190,7 @@ pub fn run_beside<F: Feed, S: Sink, G: Gate, R: Threads + Sync>(
     ensures ended { OnOk result (F.has_ended reader.new ≡ true) }
 {
     let planner = Planner::new(crew.alloc, tables, crew.limits)?;
-    answer_stream(crew, &planner, reader, writer)
+    let summary = answer_stream(crew, &planner, reader, writer);
+    drop(planner);
+    summary
 }

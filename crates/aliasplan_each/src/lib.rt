@@ -6,6 +6,9 @@
 //! The way through the modules: `answers` has the block of one envelope, by a planner that holds the tables. `running` goes over the
 //! sections of a text that is there. `feeding` gives the sections of a reader one after another, of lines that `pending` reads, each a
 //! `read_section`; `beside` answers them.
+//!
+//! Where a function ends, a value of many parts is given back by a call of `drop`: the proof of that call is made once for its type, and
+//! the end of a scope would be followed part by part in each function and for each way out.
 #![tactic(auto)]
 
 mod answers;

@@ -48,7 +48,10 @@ fn first_fault(alloc: Global, front: &[u8], fault: RunFault) -> RunFault
     ensures { Stops (first_of (option_map RunFault.BadJob (bad_job front.now) ∷ Some fault ∷ [])) result }
 {
     match parse_tables(alloc, front) {
-        Ok(_) => fault,
+        Ok(tables) => {
+            drop(tables);
+            fault
+        }
         Err(first) => earlier_of(first, fault),
     }
 }
@@ -61,10 +64,13 @@ fn parts_of(alloc: Global, input: &[u8]) -> Result<EachParts<'_>, RunFault>
     let place = envelopes_place(input);
     let front = &input[..input.len() - place.rest.len()];
     match find_envelopes(alloc, place) {
-        Ok(sections) => Ok(EachParts {
-            tables: parse_tables(alloc, front)?,
-            sections,
-        }),
+        Ok(sections) => match parse_tables(alloc, front) {
+            Ok(tables) => Ok(EachParts { tables, sections }),
+            Err(fault) => {
+                drop(sections);
+                Err(fault)
+            }
+        },
         Err(fault) => Err(first_fault(alloc, front, fault)),
     }
 }
@@ -121,8 +127,18 @@ fn answer_input<G: Gate, R: Threads + Sync>(
     ensures refused { IfErr result (RefusesEachBytes crew.now.limits input.now) }
 {
     let EachParts { tables, sections } = parts_of(crew.alloc, input)?;
-    let planner = Planner::new(crew.alloc, tables, crew.limits)?;
-    answer_sections(crew, &planner, &sections)
+    match Planner::new(crew.alloc, tables, crew.limits) {
+        Ok(planner) => {
+            let answered = answer_sections(crew, &planner, &sections);
+            drop(planner);
+            drop(sections);
+            answered
+        }
+        Err(fault) => {
+            drop(sections);
+            Err(fault)
+        }
+    }
 }
 
 /// Reads settings, files, tables and envelopes, plans each envelope by the same tables, and writes a block for each, and nothing else. All of
@@ -151,8 +167,12 @@ pub fn run_each<F: Feed, S: Sink, G: Gate, R: Threads + Sync>(
     ensures ended { (result ≢ Err RunFault.Read) → (result ≢ Err RunFault.TooLong) → (result ≢ Err RunFault.Memory) → F.has_ended reader.new ≡ true }
 {
     let input = read_job(crew.alloc, reader, crew.limits.bytes)?;
-    let Answered { text, summary } = answer_input(crew, input.as_bytes())?;
-    match write_text(writer, &text) {
+    let answered = answer_input(crew, input.as_bytes());
+    drop(input);
+    let Answered { text, summary } = answered?;
+    let written = write_text(writer, &text);
+    drop(text);
+    match written {
         Ok(()) => Ok(summary),
         Err(_) => Err(RunFault::Write),
     }

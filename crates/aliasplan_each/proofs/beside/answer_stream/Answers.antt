@@ -1,7 +1,8 @@
 use Rattle.std.proofs.Common.{refl}
 use Rattle.std.proofs.lemmas.Result.{err_from_is_err_and}
 use Rattle.aliasplan_each.proofs.BesideFacts.{on_err, if_some}
-use Rattle.aliasplan_each.proofs.BesideRuns.{told, if_some_more, refused-write, front-findings, front-blocks, front-done, plans}
+use Rattle.aliasplan_each.proofs.BesideRuns.{if_some_more, refused-write, front-findings, front-blocks, front-done, plans}
+use Rattle.aliasplan_each.proofs.FaultFacts.{told}
 use Rattle.aliasplan_each.proofs.beside.answer_stream.Goals as goal
 
 pub returns-in_err-findings-clause-refuses : goal.returns-in_err-findings-clause-refuses

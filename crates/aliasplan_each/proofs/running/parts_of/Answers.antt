@@ -1,6 +1,5 @@
 use Rattle.std.proofs.Common.{◌≡◌, ℕ, List, [], ◌∷◌, map, true, Some, None, sym, ap, ◌∙◌, subst}
 use Rattle.std.specs.Option.{option_map}
-use Rattle.std.proofs.lemmas.Result.{err_from_is_err_and}
 use Rattle.relay_text.specs.Bytes.{first_of}
 use Rattle.relay_job.specs.declared.fault.RunFault.TheVariants.{BadJob}
 use Rattle.relay_job.specs.JobAnswers.{Fails}
@@ -13,25 +12,24 @@ use Rattle.relay_envelopes.proofs.SectionFacts.{bytes_between}
 use Rattle.aliasplan_each.proofs.PartFacts.{fails_by_front, fails_by_envelopes, parts_are}
 use Rattle.aliasplan_each.proofs.running.parts_of.Goals as goal
 
-pub returns-in_err-parse_tables-in-Ok-clause-refused : goal.returns-in_err-parse_tables-in-Ok-clause-refused
-returns-in_err-parse_tables-in-Ok-clause-refused c =
+pub returns-in-Err-parse_tables-clause-refused : goal.returns-in-Err-parse_tables-clause-refused
+returns-in-Err-parse_tables-clause-refused c =
     let text = c.args.input.now in
     let place = c.envelopes_place-place in
     let front = bytes_between text place.result.rest.now (front_of text) place.ensures.front in
-    let fault = c.in_err-parse_tables-in-Ok.field-0.0 in
+    let fault = c.in-Err-parse_tables.fault in
     let none = subst (λ (lines : List JobLine). bad_envelopes true lines ≡ None) place.ensures.lines c.in-Ok.ensures.unbroken in
-    let fails = subst (λ (bytes : List ℕ). Fails fault (tables_of bytes)) front c.in_err-parse_tables-in-Ok.ensures in
-    let p = err_from_is_err_and c.from_residual.result c.from_residual.ensures.1 in
-    rw (p.1, p.2) (fails_by_front text fault none fails)
+    let fails = subst (λ (bytes : List ℕ). Fails fault (tables_of bytes)) front c.in-Err-parse_tables.ensures in
+    fails_by_front text fault none fails
 
-pub returns-in_ok-parse_tables-in-Ok-clause-parts : goal.returns-in_ok-parse_tables-in-Ok-clause-parts
-returns-in_ok-parse_tables-in-Ok-clause-parts c =
+pub returns-in-Ok-parse_tables-clause-parts : goal.returns-in-Ok-parse_tables-clause-parts
+returns-in-Ok-parse_tables-clause-parts c =
     let text = c.args.input.now in
     let place = c.envelopes_place-place in
     let front = bytes_between text place.result.rest.now (front_of text) place.ensures.front in
     let none = subst (λ (lines : List JobLine). bad_envelopes true lines ≡ None) place.ensures.lines c.in-Ok.ensures.unbroken in
-    let is = ap tables_of (sym front) ∙ c.in_ok-parse_tables-in-Ok.ensures in
-    parts_are text place.result.rest.now c.in_ok-parse_tables-in-Ok.field-0 (map section_in c.in-Ok.sections.items) place.ensures.front none is (c.in-Ok.ensures.sections ∙ ap envelopes_of place.ensures.lines)
+    let is = ap tables_of (sym front) ∙ c.in-Ok-parse_tables.ensures in
+    parts_are text place.result.rest.now c.in-Ok-parse_tables.tables (map section_in c.in-Ok.sections.items) place.ensures.front none is (c.in-Ok.ensures.sections ∙ ap envelopes_of place.ensures.lines)
 
 pub returns-in-Err-clause-refused : goal.returns-in-Err-clause-refused
 returns-in-Err-clause-refused c =

@@ -1,25 +1,44 @@
-use Rattle.std.proofs.Common.{arith, ap, Ok}
-use Rattle.std.proofs.lemmas.Grind.{common_steps}
+use Rattle.std.proofs.Common.{ap, refl, Ok, Err}
+use Rattle.std.specs.Io.KnownBytes.{prepend_known}
 use Rattle.std.proofs.lemmas.Result.{err_from_is_err_and}
-use Rattle.aliasplan_each.proofs.FeedingFacts.{LeadsKnown-line, refused-line, fewer-line}
+use Rattle.aliasplan_each.proofs.FeedingFacts.{LeadsKnown-line, refused-line, refused-read, fewer-line, no-more, smaller-line}
+use Rattle.aliasplan_each.proofs.FaultFacts.{told, untold, never-err}
 use Rattle.aliasplan_each.proofs.feeding.Feeding.next.Goals as goal
+
+pub returns-in_err-next_line-clause-refused : goal.returns-in_err-next_line-clause-refused
+returns-in_err-next_line-clause-refused g c =
+    let p = err_from_is_err_and c.from_residual.result c.from_residual.ensures.1 in
+    rw (p.1, p.2) (refused-read _ _ _ _ _ _ _ c.loop-line.invariant.leads c.in_err-next_line.ensures.only (λ e. c.in_err-next_line.ensures.long (ap Err e)))
+
+pub returns-in_err-next_line-clause-read : goal.returns-in_err-next_line-clause-read
+returns-in_err-next_line-clause-read g c =
+    let p = err_from_is_err_and c.from_residual.result c.from_residual.ensures.1 in
+    rw (p.1, p.2) (told _ _ _ _ refl refl c.in_err-next_line.ensures.read)
 
 pub returns-in_err-section-clause-refused : goal.returns-in_err-section-clause-refused
 returns-in_err-section-clause-refused g c =
     let p = err_from_is_err_and c.from_residual-in_err-section.result c.from_residual-in_err-section.ensures.1 in
-    rw (p.1, p.2) (refused-line _ _ _ _ _ _ _ _ _ c.loop-line.invariant.leads (c.in_ok-next_line.ensures.line (ap Ok c.if-branch.true)) (rw c.deref.ensures.value at c.in_err-section.ensures.refused))
+    rw (p.1, p.2) (refused-line _ _ _ _ _ _ _ (prepend_known c.next_line.new.self (g.F.Feed.remaining c.next_line.new.reader)) _ c.loop-line.invariant.leads (c.in_ok-next_line.ensures.line (ap Ok c.if-branch.true)) (rw c.deref.ensures.value at c.in_err-section.ensures.refused))
+
+pub returns-in_err-section-clause-read : goal.returns-in_err-section-clause-read
+returns-in_err-section-clause-read g c =
+    let p = err_from_is_err_and c.from_residual-in_err-section.result c.from_residual-in_err-section.ensures.1 in
+    rw (p.1, p.2) (untold _ _ _ refl (λ e. c.in_err-section.ensures.only.0 (ap Err e)) (c.in_ok-next_line.ensures.read.1 (never-err _ _ _ refl)))
+
+pub returns-in-Some-clause-given : goal.returns-in-Some-clause-given
+returns-in-Some-clause-given g c = rw (c.in_ok-section.ensures.number, c.in_ok-section.ensures.pending) (rw c.in-Some.is at (LeadsKnown-line _ _ _ _ _ _ _ _ _ (prepend_known c.next_line.new.self (g.F.Feed.remaining c.next_line.new.reader)) c.loop-line.invariant.leads (c.in_ok-next_line.ensures.line (ap Ok c.if-branch.true)) (rw c.deref.ensures.value at c.in_ok-section.ensures.taken)))
 
 pub returns-in-Some-clause-fewer : goal.returns-in-Some-clause-fewer
 returns-in-Some-clause-fewer g c = rw c.in-Some.is at (fewer-line _ _ _ _ _ _ c.in_ok-section.ensures.number c.in_ok-section.ensures.within c.in_ok-section.ensures.taken.fewer c.loop-line.invariant.fewer)
 
 pub loop-line-smaller : goal.loop-line-smaller
-loop-line-smaller g c = let n = c.in_ok-section.ensures.number in let w = c.in_ok-section.ensures.within in omega arith
+loop-line-smaller g c = smaller-line _ _ c.in_ok-section.ensures.number c.in_ok-section.ensures.within
 
 pub loop-line-preserved : goal.loop-line-preserved
 loop-line-preserved g c = record {
-  works = grind (arith, common_steps);
+  works = c.in_ok-next_line.ensures.read.1 (never-err _ _ _ refl);
   told = c.in_ok-next_line.ensures.told;
   empty = c.clear.ensures.items;
-  leads = rw (c.in_ok-section.ensures.number, c.in_ok-section.ensures.pending) (rw c.in_default.is at (LeadsKnown-line _ _ _ _ _ _ _ _ _ _ c.loop-line.invariant.leads (c.in_ok-next_line.ensures.line (ap Ok c.if-branch.true)) (rw c.deref.ensures.value at c.in_ok-section.ensures.taken)));
-  fewer = let fewer = rw c.in_default.is at (fewer-line _ _ _ _ _ _ c.in_ok-section.ensures.number c.in_ok-section.ensures.within c.in_ok-section.ensures.taken.fewer c.loop-line.invariant.fewer) in omega arith;
+  leads = rw (c.in_ok-section.ensures.number, c.in_ok-section.ensures.pending) (rw c.in_default.is at (LeadsKnown-line _ _ _ _ _ _ _ _ _ (prepend_known c.next_line.new.self (g.F.Feed.remaining c.next_line.new.reader)) c.loop-line.invariant.leads (c.in_ok-next_line.ensures.line (ap Ok c.if-branch.true)) (rw c.deref.ensures.value at c.in_ok-section.ensures.taken)));
+  fewer = no-more _ _ (rw c.in_default.is at (fewer-line _ _ _ _ _ _ c.in_ok-section.ensures.number c.in_ok-section.ensures.within c.in_ok-section.ensures.taken.fewer c.loop-line.invariant.fewer));
 }
