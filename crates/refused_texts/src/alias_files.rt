@@ -1,6 +1,7 @@
 //! The files that administrators write.
+use crate::telling::{tell_of_call, tell_of_case};
 use growth_answers::inputs::are_texts;
-use growth_answers::{Answer, Seen, Teller, Unready, call, case, judged, lent, lent_mut, twice};
+use growth_answers::{Answer, Seen, Teller, Unready, both, call, judged, lent, lent_mut, twice};
 use relay_aliasfile::{
     AliasFile, Entry, FaultKind, IncludeFile, Item, Items, LineFault, MailboxFile, include_names,
     include_names_of, parse_aliases, parse_aliases_by, parse_include, parse_mailboxes,
@@ -151,42 +152,53 @@ fn pushed(items: &mut Items, item: Item) -> Answer {
     }
 }
 
-fn four_items(alloc: Global) -> Result<Items, Unready> {
-    let mut items = Items::new(alloc);
+fn push_bare(alloc: Global, items: &mut Items) -> Result<(), Unready> {
+    let item = bare(alloc, b"a")?;
+    Ok(items.push(item)?)
+}
+
+fn push_four(alloc: Global, items: &mut Items) -> Result<(), Unready> {
     for _ in 0..4 {
-        items.push(bare(alloc, b"a")?)?;
+        push_bare(alloc, items)?;
     }
-    Ok(items)
+    Ok(())
+}
+
+/// What putting one item behind four answers, and another where it's refused.
+fn pushed_again(items: &mut Items, first: Item, again: Item) -> Seen {
+    match pushed(items, first) {
+        Answer::Refused => Seen::at_last(pushed(items, again)),
+        answer => {
+            drop(again);
+            Seen::at_once(answer)
+        }
+    }
 }
 
 fn pushed_at_last(alloc: Global, items: &mut Items) -> Result<Seen, Unready> {
-    let first = bare(alloc, b"b")?;
-    let again = bare(alloc, b"b")?;
-    Ok(match pushed(items, first) {
-        Answer::Refused => Seen::at_last(pushed(items, again)),
-        answer => Seen::at_once(answer),
-    })
+    push_four(alloc, items)?;
+    let (first, again) = both(bare(alloc, b"b"), bare(alloc, b"b"))?;
+    Ok(pushed_again(items, first, again))
 }
 
 /// Four items lie in the value itself, and a fifth doesn't.
 fn adds_to_items(alloc: Global) -> Result<Seen, Unready> {
-    let items = four_items(alloc)?;
-    lent_mut(items, |items| pushed_at_last(alloc, items))
+    lent_mut(Items::new(alloc), |items| pushed_at_last(alloc, items))
 }
 
 pub(crate) fn tell<R: Print + AllocGlobal + Threads + Sync>(teller: &mut Teller<'_, R>) {
     let rt = teller.rt;
     let alloc = rt.alloc();
-    call!(teller, "parse_aliases", reads_aliases(alloc));
+    tell_of_call(teller, "parse_aliases", reads_aliases);
     call!(teller, "parse_aliases_by", reads_aliases_by(rt, alloc));
-    case!(teller, "include_names", lists_includes_of_aliases(alloc));
-    call!(teller, "parse_include", reads_an_include_file(alloc));
-    case!(
+    tell_of_case(teller, "include_names", lists_includes_of_aliases);
+    tell_of_call(teller, "parse_include", reads_an_include_file);
+    tell_of_case(
         teller,
         "include_names_of",
-        lists_includes_of_an_include_file(alloc)
+        lists_includes_of_an_include_file,
     );
-    call!(teller, "parse_mailboxes", reads_mailboxes(alloc));
+    tell_of_call(teller, "parse_mailboxes", reads_mailboxes);
     call!(teller, "parse_mailboxes_by", reads_mailboxes_by(rt, alloc));
-    case!(teller, "Items::push", adds_to_items(alloc));
+    tell_of_case(teller, "Items::push", adds_to_items);
 }

@@ -1,8 +1,9 @@
 //! What is asked for, a step, and why kim is not reached: a list that would lead there is not.
 use crate::inputs::one;
+use crate::telling::{tell_of_call, tell_of_case};
 use crate::texts::LONG;
 use growth_answers::inputs::{address, is_address};
-use growth_answers::{Answer, Seen, Teller, Unready, both, call, case, judged, lent, twice};
+use growth_answers::{Answer, Seen, Teller, Unready, both, judged, lent, twice};
 use relay_explain::{
     Asked, Entry, Listed, Mention, Step, Target, Telling, put_alias_step, telling_text,
 };
@@ -135,14 +136,9 @@ fn writes_a_step_between_aliases(alloc: Global) -> Result<Answer, Unready> {
 }
 
 pub(crate) fn tell<R: Print + AllocGlobal>(teller: &mut Teller<'_, R>) {
-    let alloc = teller.rt.alloc();
-    call!(teller, "Asked::parse", reads_what_is_asked(alloc));
-    case!(teller, "Asked::copy", copies_what_is_asked(alloc));
-    call!(teller, "Step::put_line", writes_a_step(alloc));
-    call!(
-        teller,
-        "put_alias_step",
-        writes_a_step_between_aliases(alloc)
-    );
-    call!(teller, "telling_text", writes_what_is_told(alloc));
+    tell_of_call(teller, "Asked::parse", reads_what_is_asked);
+    tell_of_case(teller, "Asked::copy", copies_what_is_asked);
+    tell_of_call(teller, "Step::put_line", writes_a_step);
+    tell_of_call(teller, "put_alias_step", writes_a_step_between_aliases);
+    tell_of_call(teller, "telling_text", writes_what_is_told);
 }

@@ -9,11 +9,27 @@ pub(crate) fn one<T: Drop>(alloc: Global, item: T) -> Result<Vec<T>, AllocError>
     Ok(items)
 }
 
+/// Puts a text behind others.
+fn push_text(alloc: Global, texts: &mut Vec<Text>, text: &[u8]) -> Result<(), AllocError> {
+    let text = Text::copy_of(alloc, text)?;
+    Ok(texts.push(text)?)
+}
+
+fn push_texts(alloc: Global, texts: &mut Vec<Text>, wanted: &[&[u8]]) -> Result<(), AllocError> {
+    for text in wanted {
+        push_text(alloc, texts, text)?;
+    }
+    Ok(())
+}
+
 /// These texts, in this order.
 pub(crate) fn texts(alloc: Global, wanted: &[&[u8]]) -> Result<Vec<Text>, AllocError> {
     let mut texts = Vec::new(alloc);
-    for text in wanted {
-        texts.push(Text::copy_of(alloc, text)?)?;
+    match push_texts(alloc, &mut texts, wanted) {
+        Ok(()) => Ok(texts),
+        Err(error) => {
+            drop(texts);
+            Err(error)
+        }
     }
-    Ok(texts)
 }

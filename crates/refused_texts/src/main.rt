@@ -7,6 +7,7 @@ mod explained;
 mod inputs;
 mod places;
 mod returned;
+mod telling;
 mod texts;
 mod wire;
 mod words;
@@ -21,8 +22,12 @@ fn main(rt: HostRuntime) -> ExitCode {
         let _ = println!(rt; "refused_texts had no memory to begin");
         return ExitCode::from(DONE);
     };
-    let name = words.skip(1).next();
-    ExitCode::from(told(&rt, name.as_deref()))
+    let mut words = words.skip(1);
+    let name = words.next();
+    drop(words);
+    let status = told(&rt, name.as_deref());
+    drop(name);
+    ExitCode::from(status)
 }
 
 /// The status after the one call of this name, or after all calls.

@@ -1,8 +1,9 @@
 //! What is returned behind a plan of one transaction: that kim, to whom `a@example.net` wrote too, isn't known.
 use crate::inputs::{one, texts};
+use crate::telling::{tell_of_call, tell_of_case};
 use crate::wire::{is_written, plan};
 use growth_answers::inputs::address;
-use growth_answers::{Answer, Seen, Teller, Unready, call, case, judged, lent, twice};
+use growth_answers::{Answer, Seen, Teller, Unready, judged, lent, twice};
 use relay_ordering::in_order;
 use relay_returns::{Return, return_line, returned_plan_text, returned_wire_text};
 use relay_text::{Address, Seq};
@@ -105,9 +106,8 @@ fn writes_commands(alloc: Global) -> Result<Seen, Unready> {
 }
 
 pub(crate) fn tell<R: Print + AllocGlobal>(teller: &mut Teller<'_, R>) {
-    let alloc = teller.rt.alloc();
-    case!(teller, "return_line", writes_a_line(alloc));
-    call!(teller, "in_order", sorts_blocks(alloc));
-    case!(teller, "returned_plan_text", writes_a_plan(alloc));
-    case!(teller, "returned_wire_text", writes_commands(alloc));
+    tell_of_case(teller, "return_line", writes_a_line);
+    tell_of_call(teller, "in_order", sorts_blocks);
+    tell_of_case(teller, "returned_plan_text", writes_a_plan);
+    tell_of_case(teller, "returned_wire_text", writes_commands);
 }

@@ -1,12 +1,13 @@
 //! Addresses, names and lines of text.
 use crate::inputs::texts;
+use crate::telling::{tell_of_call, tell_of_case};
 use growth_answers::inputs::{address, are_texts, is_address};
-use growth_answers::{Answer, Seen, Teller, Unready, call, case, judged, lent, lent_mut, twice};
+use growth_answers::{Answer, Seen, Teller, Unready, judged, lent, lent_mut, twice};
 use relay_text::{
     Address, FirstPlaces, Line, LogicalLines, Text, TextFault, TextSet, logical_lines, parse_name,
     parse_path, quoted_content, write_local, write_path,
 };
-use std::alloc::Global;
+use std::alloc::{AllocError, Global};
 
 /// A text of 48 bytes, more than lie in the value itself.
 pub(crate) const LONG: &[u8] = b"local-part-that-does-not-lie-in-the-value-itself";
@@ -98,30 +99,44 @@ fn reads_a_quoted_string(alloc: Global) -> Result<Answer, Unready> {
     }
 }
 
-/// Behind an `x` that stands there already.
-fn path_is_written(address: &Address, out: &mut Vec<u8>) -> Answer {
-    match write_path(Some(address), out) {
-        Ok(()) => Answer::given(out.as_slice() == b"x<\"a\\\"b\"@x.net>".as_slice()),
-        Err(_) => Answer::refused(out.as_slice() == b"x".as_slice()),
+/// What a call answered that writes behind an `x` that stands there already, and what stands there then.
+fn is_behind_x(written: Result<(), AllocError>, out: &[u8], wanted: &[u8]) -> Answer {
+    match written {
+        Ok(()) => Answer::given(out == wanted),
+        Err(_) => Answer::refused(out == b"x".as_slice()),
     }
+}
+
+fn path_is_written(address: &Address, out: &mut Vec<u8>) -> Answer {
+    let written = write_path(Some(address), out);
+    is_behind_x(written, out, b"x<\"a\\\"b\"@x.net>")
+}
+
+/// The same twice, at most.
+fn path_is_written_at_last(alloc: Global, address: &Address) -> Result<Seen, Unready> {
+    let mut out = Vec::from_slice(alloc, b"x")?;
+    let seen = twice!(path_is_written(address, &mut out));
+    drop(out);
+    Ok(seen)
 }
 
 fn writes_a_path(alloc: Global) -> Result<Seen, Unready> {
     let address = address(alloc, b"\"a\\\"b\"@X.net")?;
-    let mut out = Vec::from_slice(alloc, b"x")?;
-    Ok(twice!(path_is_written(&address, &mut out)))
+    let seen = path_is_written_at_last(alloc, &address);
+    drop(address);
+    seen
 }
 
 fn local_part_is_written(out: &mut Vec<u8>) -> Answer {
-    match write_local(b"a..b", out) {
-        Ok(()) => Answer::given(out.as_slice() == b"x\"a..b\"".as_slice()),
-        Err(_) => Answer::refused(out.as_slice() == b"x".as_slice()),
-    }
+    let written = write_local(b"a..b", out);
+    is_behind_x(written, out, b"x\"a..b\"")
 }
 
 fn writes_a_local_part(alloc: Global) -> Result<Seen, Unready> {
     let mut out = Vec::from_slice(alloc, b"x")?;
-    Ok(twice!(local_part_is_written(&mut out)))
+    let seen = twice!(local_part_is_written(&mut out));
+    drop(out);
+    Ok(seen)
 }
 
 fn copies_a_text(alloc: Global) -> Result<Answer, Unready> {
@@ -191,9 +206,12 @@ fn next_line(lines: &mut LogicalLines<'_>, joined: &mut Vec<u8>) -> Answer {
 }
 
 fn joins_a_line(alloc: Global) -> Result<Seen, Unready> {
-    let mut joined = Vec::new(alloc);
     let mut lines = LogicalLines::new(alloc, LINES)?;
-    Ok(twice!(next_line(&mut lines, &mut joined)))
+    let mut joined = Vec::new(alloc);
+    let seen = twice!(next_line(&mut lines, &mut joined));
+    drop(joined);
+    drop(lines);
+    Ok(seen)
 }
 
 fn are_in_order(alloc: Global, texts: &[Text]) -> Answer {
@@ -245,12 +263,26 @@ fn adds_to_a_set(alloc: Global) -> Result<Seen, Unready> {
     lent_mut(TextSet::new(alloc), |set| adds_texts(alloc, set))
 }
 
+fn insert(alloc: Global, set: &mut TextSet, text: &[u8]) -> Result<(), Unready> {
+    set.insert(Vec::from_slice(alloc, text)?)?;
+    Ok(())
+}
+
+fn insert_two(alloc: Global, set: &mut TextSet) -> Result<(), Unready> {
+    insert(alloc, set, b"b")?;
+    insert(alloc, set, b"a")?;
+    insert(alloc, set, b"b")
+}
+
 fn set_of_two(alloc: Global) -> Result<TextSet, Unready> {
     let mut set = TextSet::new(alloc);
-    set.insert(Vec::from_slice(alloc, b"b")?)?;
-    set.insert(Vec::from_slice(alloc, b"a")?)?;
-    set.insert(Vec::from_slice(alloc, b"b")?)?;
-    Ok(set)
+    match insert_two(alloc, &mut set) {
+        Ok(()) => Ok(set),
+        Err(unready) => {
+            drop(set);
+            Err(unready)
+        }
+    }
 }
 
 fn lists_a_set(alloc: Global) -> Result<Answer, Unready> {
@@ -270,70 +302,83 @@ fn pushed(texts: &mut FirstPlaces) -> Answer {
     }
 }
 
-/// Four texts and one more, which is refused or not, have these first places.
-fn adds_to_first_places(alloc: Global) -> Result<Seen, Unready> {
-    let mut texts = FirstPlaces::new(alloc);
-    for text in [b"a", b"b", b"a", b"c"] {
+fn push_texts<'a>(texts: &mut FirstPlaces<'a>, added: &[&'a [u8]]) -> Result<(), AllocError> {
+    for text in added {
         texts.push(text)?;
     }
-    let seen = twice!(pushed(&mut texts));
+    Ok(())
+}
+
+/// These texts, for their first places.
+fn first_places<'a>(alloc: Global, added: &[&'a [u8]]) -> Result<FirstPlaces<'a>, AllocError> {
+    let mut texts = FirstPlaces::new(alloc);
+    match push_texts(&mut texts, added) {
+        Ok(()) => Ok(texts),
+        Err(error) => {
+            drop(texts);
+            Err(error)
+        }
+    }
+}
+
+/// Whether the texts have these first places.
+fn are_found(alloc: Global, texts: FirstPlaces, wanted: &[usize]) -> Result<bool, AllocError> {
     let places = texts.find(alloc)?;
-    if seen.is_answered() && places.as_slice() != [0, 1, 0, 3, 1].as_slice() {
+    let are_right = places.as_slice() == wanted;
+    drop(places);
+    Ok(are_right)
+}
+
+/// Four texts and one more, which is refused or not, have these first places.
+fn adds_to_first_places(alloc: Global) -> Result<Seen, Unready> {
+    let mut texts = first_places(alloc, &[b"a", b"b", b"a", b"c"])?;
+    let seen = twice!(pushed(&mut texts));
+    let are_right = are_found(alloc, texts, &[0, 1, 0, 3, 1])?;
+    if seen.is_answered() && !are_right {
         return Ok(Seen::Wrong);
     }
     Ok(seen)
 }
 
 fn finds_first_places(alloc: Global) -> Result<Answer, Unready> {
-    let mut texts = FirstPlaces::new(alloc);
-    for text in [b"a", b"b", b"a"] {
-        texts.push(text)?;
-    }
-    match texts.find(alloc) {
-        Ok(places) => Ok(Answer::given(places.as_slice() == [0, 1, 0].as_slice())),
-        Err(_) => Ok(Answer::Refused),
-    }
+    let texts = first_places(alloc, &[b"a", b"b", b"a"])?;
+    Ok(match are_found(alloc, texts, &[0, 1, 0]) {
+        Ok(are_right) => Answer::given(are_right),
+        Err(_) => Answer::Refused,
+    })
 }
 
 fn tell_of_addresses<R: Print + AllocGlobal>(teller: &mut Teller<'_, R>) {
-    let alloc = teller.rt.alloc();
-    call!(teller, "parse_address", reads_an_address(alloc));
-    call!(
-        teller,
-        "parse_address, quoted",
-        reads_a_quoted_address(alloc)
-    );
-    call!(teller, "Address::new", makes_an_address(alloc));
-    case!(teller, "Address::copy", copies_an_address(alloc));
-    call!(teller, "parse_path", reads_a_path(alloc));
-    call!(teller, "parse_path, null", reads_the_null_path(alloc));
+    tell_of_call(teller, "parse_address", reads_an_address);
+    tell_of_call(teller, "parse_address, quoted", reads_a_quoted_address);
+    tell_of_call(teller, "Address::new", makes_an_address);
+    tell_of_case(teller, "Address::copy", copies_an_address);
+    tell_of_call(teller, "parse_path", reads_a_path);
+    tell_of_call(teller, "parse_path, null", reads_the_null_path);
 }
 
 fn tell_of_names<R: Print + AllocGlobal>(teller: &mut Teller<'_, R>) {
-    let alloc = teller.rt.alloc();
-    call!(teller, "parse_name", reads_a_name(alloc));
-    call!(teller, "quoted_content", reads_a_quoted_string(alloc));
-    case!(teller, "write_path", writes_a_path(alloc));
-    case!(teller, "write_local", writes_a_local_part(alloc));
-    call!(teller, "logical_lines", joins_lines(alloc));
-    call!(teller, "LogicalLines::new", begins_to_read_lines(alloc));
-    case!(teller, "LogicalLines::next_line", joins_a_line(alloc));
+    tell_of_call(teller, "parse_name", reads_a_name);
+    tell_of_call(teller, "quoted_content", reads_a_quoted_string);
+    tell_of_case(teller, "write_path", writes_a_path);
+    tell_of_case(teller, "write_local", writes_a_local_part);
+    tell_of_call(teller, "logical_lines", joins_lines);
+    tell_of_call(teller, "LogicalLines::new", begins_to_read_lines);
+    tell_of_case(teller, "LogicalLines::next_line", joins_a_line);
 }
 
 fn tell_of_texts<R: Print + AllocGlobal>(teller: &mut Teller<'_, R>) {
-    let alloc = teller.rt.alloc();
-    call!(teller, "Text::copy_of", copies_a_text(alloc));
-    call!(teller, "Text::folded_copy_of", folds_a_text(alloc));
-    case!(teller, "Text::append", appends_to_a_text(alloc));
+    tell_of_call(teller, "Text::copy_of", copies_a_text);
+    tell_of_call(teller, "Text::folded_copy_of", folds_a_text);
+    tell_of_case(teller, "Text::append", appends_to_a_text);
 }
 
 fn tell_of_sets<R: Print + AllocGlobal>(teller: &mut Teller<'_, R>) {
-    let alloc = teller.rt.alloc();
-    call!(teller, "TextSet::of", puts_texts_in_order(alloc));
-    case!(teller, "TextSet::insert", adds_to_a_set(alloc));
-    call!(teller, "TextSet::into_seq", lists_a_set(alloc));
-    case!(teller, "FirstPlaces::push", adds_to_first_places(alloc));
-    call!(teller, "FirstPlaces::find", finds_first_places(alloc));
+    tell_of_call(teller, "TextSet::of", puts_texts_in_order);
+    tell_of_case(teller, "TextSet::insert", adds_to_a_set);
+    tell_of_call(teller, "TextSet::into_seq", lists_a_set);
+    tell_of_case(teller, "FirstPlaces::push", adds_to_first_places);
+    tell_of_call(teller, "FirstPlaces::find", finds_first_places);
 }
 
 pub(crate) fn tell<R: Print + AllocGlobal>(teller: &mut Teller<'_, R>) {

@@ -1,7 +1,8 @@
 //! The texts of a plan of one transaction, from `a@example.net` to joe's mailbox.
 use crate::inputs::one;
+use crate::telling::{tell_of_call, tell_of_case};
 use growth_answers::inputs::{address, is_address};
-use growth_answers::{Answer, Seen, Teller, Unready, both, call, case, judged, lent, twice};
+use growth_answers::{Answer, Seen, Teller, Unready, both, judged, lent, twice};
 use relay_routes::{Hosts, Transport};
 use relay_text::{Address, Seq, Text};
 use relay_wire::{
@@ -42,12 +43,12 @@ fn to_joe(alloc: Global) -> Result<Vec<Address>, Unready> {
     Ok(to)
 }
 
-fn socket(alloc: Global) -> Result<Text, Unready> {
-    Ok(Text::copy_of(alloc, b"unix:mbox")?)
+fn text(alloc: Global, bytes: &[u8]) -> Result<Text, Unready> {
+    Ok(Text::copy_of(alloc, bytes)?)
 }
 
 fn hosts(alloc: Global) -> Result<Hosts, Unready> {
-    Ok(Hosts::one(alloc, socket(alloc)?)?)
+    Ok(Hosts::one(alloc, text(alloc, b"unix:mbox")?)?)
 }
 
 fn sender(alloc: Global) -> Result<Address, Unready> {
@@ -56,7 +57,7 @@ fn sender(alloc: Global) -> Result<Address, Unready> {
 
 fn planned(alloc: Global) -> Result<Planned, Unready> {
     let ends = both(sender(alloc), to_joe(alloc));
-    let via = both(socket(alloc), hosts(alloc));
+    let via = both(text(alloc, b"unix:mbox"), hosts(alloc));
     let ((from, to), (nexthop, hosts)) = both(ends, via)?;
     Ok(Planned {
         from: Some(from),
@@ -73,8 +74,7 @@ fn transactions(alloc: Global) -> Result<Vec<Planned>, Unready> {
 }
 
 pub(crate) fn plan(alloc: Global) -> Result<Plan, Unready> {
-    let hostname = Text::copy_of(alloc, HOSTNAME)?;
-    let transactions = transactions(alloc)?;
+    let (hostname, transactions) = both(text(alloc, HOSTNAME), transactions(alloc))?;
     Ok(Plan {
         hostname,
         transactions: Seq::of(transactions),
@@ -107,9 +107,8 @@ fn writes_commands(alloc: Global) -> Result<Seen, Unready> {
 }
 
 fn writes_a_finding(alloc: Global) -> Result<Seen, Unready> {
-    let name = Text::copy_of(alloc, b"kim")?;
-    let place = Place::Alias(Text::copy_of(alloc, b"a b")?);
-    let finding = Finding::Missing(name, place);
+    let (name, alias) = both(text(alloc, b"kim"), text(alloc, b"a b"))?;
+    let finding = Finding::Missing(name, Place::Alias(alias));
     lent(finding, |finding| {
         Ok(twice!({
             is_written(
@@ -120,15 +119,20 @@ fn writes_a_finding(alloc: Global) -> Result<Seen, Unready> {
     })
 }
 
+fn check_is_written(alloc: Global, finding: &Text, note: &Text) -> Answer {
+    is_written(
+        check_text(alloc, slice::from_ref(finding), slice::from_ref(note)),
+        b"check 1 findings 1 notes\nfinding aliases line 1 badline\nnote something\nend\n",
+    )
+}
+
 fn writes_a_check(alloc: Global) -> Result<Seen, Unready> {
-    let finding = Text::copy_of(alloc, b"finding aliases line 1 badline")?;
-    let note = Text::copy_of(alloc, b"note something")?;
-    Ok(twice!({
-        is_written(
-            check_text(alloc, slice::from_ref(&finding), slice::from_ref(&note)),
-            b"check 1 findings 1 notes\nfinding aliases line 1 badline\nnote something\nend\n",
-        )
-    }))
+    let finding = text(alloc, b"finding aliases line 1 badline");
+    let (finding, note) = both(finding, text(alloc, b"note something"))?;
+    let seen = twice!(check_is_written(alloc, &finding, &note));
+    drop(finding);
+    drop(note);
+    Ok(seen)
 }
 
 fn script_is_written(alloc: Global, planned: &Planned) -> Result<Seen, Unready> {
@@ -162,11 +166,10 @@ fn reads_a_script(alloc: Global) -> Result<Answer, Unready> {
 }
 
 pub(crate) fn tell<R: Print + AllocGlobal>(teller: &mut Teller<'_, R>) {
-    let alloc = teller.rt.alloc();
-    case!(teller, "plan_text", writes_a_plan(alloc));
-    case!(teller, "wire_text", writes_commands(alloc));
-    case!(teller, "finding_line", writes_a_finding(alloc));
-    case!(teller, "check_text", writes_a_check(alloc));
-    case!(teller, "script", writes_a_script(alloc));
-    call!(teller, "read_script", reads_a_script(alloc));
+    tell_of_case(teller, "plan_text", writes_a_plan);
+    tell_of_case(teller, "wire_text", writes_commands);
+    tell_of_case(teller, "finding_line", writes_a_finding);
+    tell_of_case(teller, "check_text", writes_a_check);
+    tell_of_case(teller, "script", writes_a_script);
+    tell_of_call(teller, "read_script", reads_a_script);
 }

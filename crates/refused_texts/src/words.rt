@@ -1,8 +1,9 @@
 //! Words, lines and findings, as a plan's text has them, put behind an `x` that stands there already.
 use crate::inputs::texts;
+use crate::telling::tell_of_call;
 use growth_answers::inputs::{address, are_texts};
-use growth_answers::{Answer, Teller, Unready, call, judged};
-use relay_text::Text;
+use growth_answers::{Answer, Teller, Unready, judged};
+use relay_text::{Address, Text};
 use relay_wire::{
     Finding, FindingLines, LineWord, Reason, put_count, put_lines, put_name, put_number, put_path,
     put_reason, put_word,
@@ -10,9 +11,11 @@ use relay_wire::{
 use std::alloc::{AllocError, Global};
 
 /// What a call answered that puts something at the end, and what stands there then.
-fn put(answer: Result<(), AllocError>, out: &[u8], wanted: &[u8]) -> Answer {
+fn put(answer: Result<(), AllocError>, out: Vec<u8>, wanted: &[u8]) -> Answer {
+    let is_right = out.as_slice() == wanted;
+    drop(out);
     match answer {
-        Ok(()) => Answer::given(out == wanted),
+        Ok(()) => Answer::given(is_right),
         Err(_) => Answer::Refused,
     }
 }
@@ -20,51 +23,72 @@ fn put(answer: Result<(), AllocError>, out: &[u8], wanted: &[u8]) -> Answer {
 fn puts_a_word(alloc: Global) -> Result<Answer, Unready> {
     let mut out = Vec::from_slice(alloc, b"x")?;
     let answer = put_word(b"word", &mut out);
-    Ok(put(answer, &out, b"x word"))
+    Ok(put(answer, out, b"x word"))
 }
 
 fn puts_a_number(alloc: Global) -> Result<Answer, Unready> {
     let mut out = Vec::from_slice(alloc, b"x")?;
     let answer = put_number(120, &mut out);
-    Ok(put(answer, &out, b"x 120"))
+    Ok(put(answer, out, b"x 120"))
 }
 
 fn puts_a_name(alloc: Global) -> Result<Answer, Unready> {
     let mut out = Vec::from_slice(alloc, b"x")?;
     let answer = put_name(b"a b", &mut out);
-    Ok(put(answer, &out, b"x \"a b\""))
+    Ok(put(answer, out, b"x \"a b\""))
+}
+
+fn path_is_put(alloc: Global, joe: &Address) -> Result<Answer, Unready> {
+    let mut out = Vec::from_slice(alloc, b"x")?;
+    let answer = put_path(Some(joe), &mut out);
+    Ok(put(answer, out, b"x <joe@example.org>"))
 }
 
 fn puts_a_path(alloc: Global) -> Result<Answer, Unready> {
     let joe = address(alloc, b"joe")?;
-    let mut out = Vec::from_slice(alloc, b"x")?;
-    let answer = put_path(Some(&joe), &mut out);
-    Ok(put(answer, &out, b"x <joe@example.org>"))
+    let answer = path_is_put(alloc, &joe);
+    drop(joe);
+    answer
 }
 
 fn puts_a_count(alloc: Global) -> Result<Answer, Unready> {
     let mut out = Vec::from_slice(alloc, b"x")?;
     let answer = put_count(2, b"findings", &mut out);
-    Ok(put(answer, &out, b"x 2 findings"))
+    Ok(put(answer, out, b"x 2 findings"))
+}
+
+fn lines_are_put(alloc: Global, lines: &[Text]) -> Result<Answer, Unready> {
+    let mut out = Vec::from_slice(alloc, b"x")?;
+    let answer = put_lines(lines, &mut out);
+    Ok(put(answer, out, b"xa\nb\n"))
 }
 
 fn puts_lines(alloc: Global) -> Result<Answer, Unready> {
     let lines = texts(alloc, &[b"a", b"b"])?;
+    let answer = lines_are_put(alloc, &lines);
+    drop(lines);
+    answer
+}
+
+fn reason_is_put(alloc: Global, reason: &Reason) -> Result<Answer, Unready> {
     let mut out = Vec::from_slice(alloc, b"x")?;
-    let answer = put_lines(&lines, &mut out);
-    Ok(put(answer, &out, b"xa\nb\n"))
+    let answer = put_reason(reason, &mut out);
+    Ok(put(answer, out, b"x refused gone away"))
 }
 
 fn puts_a_reason(alloc: Global) -> Result<Answer, Unready> {
     let reason = Reason::Refused(Text::copy_of(alloc, b"gone away")?);
-    let mut out = Vec::from_slice(alloc, b"x")?;
-    let answer = put_reason(&reason, &mut out);
-    Ok(put(answer, &out, b"x refused gone away"))
+    let answer = reason_is_put(alloc, &reason);
+    drop(reason);
+    answer
 }
 
 /// Adds the line of a fault of the transport table.
 fn add_fault(lines: &mut FindingLines, line: usize) -> Result<(), AllocError> {
-    lines.add(&Finding::Transport(line, LineWord::Duplicate))
+    let finding = Finding::Transport(line, LineWord::Duplicate);
+    let added = lines.add(&finding);
+    drop(finding);
+    added
 }
 
 /// The lines of two findings, which are brought in the other order.
@@ -115,18 +139,13 @@ fn merges_findings(alloc: Global) -> Result<Answer, Unready> {
 }
 
 pub(crate) fn tell<R: Print + AllocGlobal>(teller: &mut Teller<'_, R>) {
-    let alloc = teller.rt.alloc();
-    call!(teller, "put_word", puts_a_word(alloc));
-    call!(teller, "put_number", puts_a_number(alloc));
-    call!(teller, "put_name", puts_a_name(alloc));
-    call!(teller, "put_path", puts_a_path(alloc));
-    call!(teller, "put_count", puts_a_count(alloc));
-    call!(teller, "put_lines", puts_lines(alloc));
-    call!(teller, "put_reason", puts_a_reason(alloc));
-    call!(teller, "FindingLines::into_seq", gathers_findings(alloc));
-    call!(
-        teller,
-        "FindingLines::into_seq merges",
-        merges_findings(alloc)
-    );
+    tell_of_call(teller, "put_word", puts_a_word);
+    tell_of_call(teller, "put_number", puts_a_number);
+    tell_of_call(teller, "put_name", puts_a_name);
+    tell_of_call(teller, "put_path", puts_a_path);
+    tell_of_call(teller, "put_count", puts_a_count);
+    tell_of_call(teller, "put_lines", puts_lines);
+    tell_of_call(teller, "put_reason", puts_a_reason);
+    tell_of_call(teller, "FindingLines::into_seq", gathers_findings);
+    tell_of_call(teller, "FindingLines::into_seq merges", merges_findings);
 }

@@ -15,10 +15,10 @@ on_lines here there e same l = subst (λ (ls : List Line). (l : Line) × IsEntry
 
 pub entry_places-requires-clause-there : goal.entry_places-requires-clause-there
 entry_places-requires-clause-there c =
-    on_lines _ _ c.entry-item.result (c.as_slice-in-len1.ensures ∙ ap (λ (ls : Lines). ls.lines) c.in_ok-lines.ensures)
+    on_lines _ _ c.entry-item.result (c.as_slice-in-len1.ensures ∙ ap (λ (ls : Lines). ls.lines) c.in-Ok.ensures)
     (c.entries_on_lines.ensures.there _ c.entry-item.result (first_in c.as_slice.result.now _ c.entry-item.result (c.as_slice.ensures ∙ ap (λ (f : AliasFile). f.entries) c.in_ok-file.ensures) c.in-len1.len_at_least c.entry-item.is))
 
 pub entry_places-requires-in-len1-clause-there : goal.entry_places-requires-in-len1-clause-there
 entry_places-requires-in-len1-clause-there c =
-    on_lines _ _ c.entry-item.result (c.as_slice-in-len1-2.ensures ∙ ap (λ (ls : Lines). ls.lines) c.in_ok-lines.ensures)
+    on_lines _ _ c.entry-item.result (c.as_slice-in-len1-2.ensures ∙ ap (λ (ls : Lines). ls.lines) c.in-Ok.ensures)
     (c.entries_on_lines.ensures.there _ c.entry-item.result (first_in c.as_slice.result.now _ c.entry-item.result (c.as_slice.ensures ∙ ap (λ (f : AliasFile). f.entries) c.in_ok-file.ensures) c.in-len1.len_at_least c.entry-item.is))
