@@ -1,4 +1,4 @@
--- The lines that are outgoing: what one more number adds, and three parts one after another.
+-- The lines that are found on the way: what one more number adds, and three parts one after another.
 use Rattle.std.proofs.Common.{◌⊎◌, ℕ, ◌+◌, ◌<◌, ◌≤◌, ◌==◌, false, true≢false, List, [], ◌∷◌, ◌++◌, length, get_or, take, ap, ◌∙◌, sym, subst, inl, inr, arith}
 use Rattle.std.specs.Prelude.{◌≡◌, ◌↔◌, Result, Ok, Err, OnOk, Option, Some, None, slice_get, option_and_then}
 use Rattle.std.proofs.lemmas.List.{take_more, take_all}

@@ -1,4 +1,4 @@
--- The lines of what entries and recipients lead to, as they are outgoing along the numbers of a graph.
+-- The lines of what entries and recipients lead to, as they are found along the numbers of a graph.
 use Rattle.std.specs.Prelude.{◌≡◌, ◌⊎◌, ℕ, ◌<◌, List, [], ◌∷◌, length, All, Contains, slice_get, Option, Some, None, option_and_then}
 use Rattle.relay_tables.specs.Directory.{Directory}
 use Rattle.relay_tables.specs.GraphParts.{GraphParts}
