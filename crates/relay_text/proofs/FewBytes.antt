@@ -1,5 +1,5 @@
 -- Bytes that are written over the front of a row, and what then stands there.
-use Rattle.std.proofs.Common.{◌≡◌, ℕ, ◌+◌, ◌<◌, ◌≤◌, List, [], ◌∷◌, ◌++◌, length, take, drop, get_or, sym, ap, ◌∙◌, arith}
+use Rattle.std.proofs.Common.{◌≡◌, ℕ, ◌+◌, ◌<◌, ◌≤◌, List, ◌∷◌, ◌++◌, length, take, drop, get_or, sym, ap, ◌∙◌, arith}
 use Rattle.std.proofs.Math.ListN.{set}
 use Rattle.std.specs.Char.{to_ascii_lowercase}
 use Rattle.std.proofs.lemmas.List.{append_assoc, map-append, length-append, length-take, length-map, take_at, drop_at, drop_more, set_at}
@@ -24,24 +24,7 @@ piece_and_byte front written row byte f is len within =
     ∙ set_at written (get_or row f 0) (drop (f + 1) row) byte f (ap length is ∙ sym len)
     ∙ ap (λ (t : List ℕ). t ++ byte ∷ drop (f + 1) row) is
 
--- two pieces that were written with a byte between them
-pub joined_pieces : (front back written written_back row : List ℕ) (byte f k : ℕ) → written ≡ front → written_back ≡ back → f ≡ length front → length front + length back + 1 ≤ length row
-    → take (length front + length back + 1) (put_mid (f + 1) k (set (written ++ drop f row) f byte) written_back) ≡ front ++ byte ∷ back
-joined_pieces front back written written_back row byte f k is is_back len few =
-    let text : List ℕ = front ++ byte ∷ [] in
-    let rest : List ℕ = drop (f + 1) row in
-    let n : ℕ = length front + length back + 1 in
-    let whole : set (written ++ drop f row) f byte ≡ text ++ rest = piece_and_byte front written row byte f is len (omega arith) ∙ sym (append_assoc front (byte ∷ []) rest) in
-    let behind : List ℕ = post_of (f + 1) k (text ++ rest) in
-    let first : take (f + 1) (text ++ rest) ≡ text = take_at text rest (f + 1) (omega (arith, length-append front (byte ∷ []))) in
-    ap (λ (t : List ℕ). take n (put_mid (f + 1) k t written_back)) whole
-    ∙ ap (λ (t : List ℕ). take n (t ++ (written_back ++ behind))) first
-    ∙ ap (take n) (sym (append_assoc text written_back behind))
-    ∙ take_at (text ++ written_back) behind n (omega (arith, length-append text written_back, length-append front (byte ∷ []), ap length is_back))
-    ∙ append_assoc front (byte ∷ []) written_back
-    ∙ ap (λ (t : List ℕ). front ++ byte ∷ t) is_back
-
--- the same where the row is folded before the first piece and the byte are written over its front
+-- two pieces that were written with a byte between them, where the row is folded before the first piece and the byte are written over its front
 pub folded_pieces : (front back written written_back row row_folded : List ℕ) (byte f k : ℕ) → written ≡ front → written_back ≡ back
     → row_folded ≡ folded (put_mid (f + 1) k row written_back) → f ≡ length front → length front + length back + 1 ≤ length row
     → take (length front + length back + 1) (set (written ++ drop f row_folded) f byte) ≡ front ++ byte ∷ folded back

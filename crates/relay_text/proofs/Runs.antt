@@ -1,9 +1,10 @@
 -- Runs of bytes joined by dots, read in one pass.
-use Rattle.std.proofs.Common.{◌≡◌, ℕ, suc, ◌+◌, ◌<◌, ◌≤◌, Bool, true, false, not, ◌&&◌, ◌||◌, List, [], ◌∷◌, length, take, drop, get_or, refl, sym, ap, ◌∙◌, inl, inr, arith}
+use Rattle.std.proofs.Common.{◌≡◌, ℕ, suc, ◌+◌, ◌<◌, ◌≤◌, Bool, true, false, eqb, not, ◌&&◌, ◌||◌, List, [], ◌∷◌, length, take, drop, get_or, refl, sym, ap, ◌∙◌, inl, inr, arith}
 use Rattle.std.specs.Bool.{if◌then◌else◌}
 use Rattle.std.specs.List.{prefix_len, list_all}
-use Rattle.std.proofs.lemmas.Bool.{cases_Bool, or_left, or_right, or_from, and_from}
-use Rattle.std.proofs.lemmas.List.{at_drop_more, at_drop_all}
+use Rattle.std.proofs.lemmas.Bool.{cases_Bool, and_parts, or_left, or_right, or_from, and_from}
+use Rattle.std.proofs.lemmas.Bool.Decides.{same_from_decides, Decides-eqb}
+use Rattle.std.proofs.lemmas.List.{at_drop_more, at_drop_all, take_all}
 use Rattle.relay_text.specs.Addresses.{is_dot}
 use Rattle.relay_text.specs.Runs.{part_byte, run_in, is_joined}
 use Rattle.relay_text.specs.declared.run.Part.{Part}
@@ -22,6 +23,18 @@ front_passes q (b ∷ bs) = elim (cases_Bool (q b)) [
   | inl e ↦ ap (list_all q) (take_more q b bs e) ∙ and_from (q b) (list_all q (take (prefix_len q bs) bs)) e (front_passes q bs)
   | inr e ↦ ap (list_all q) (take_none q b bs e)
 ]
+
+-- a text of which every byte passes is as long as its front that passes, and no other text is
+pub whole_front : (q : ℕ → Bool) (xs : List ℕ) → list_all q xs ≡ true → prefix_len q xs ≡ length xs
+whole_front q [] all = refl
+whole_front q (x ∷ xs) all =
+    let parts = and_parts (q x) (list_all q xs) all in
+    rw parts.0 (omega (arith, whole_front q xs parts.1))
+
+pub all_by_front : (q : ℕ → Bool) (xs : List ℕ) → eqb (prefix_len q xs) (length xs) ≡ list_all q xs
+all_by_front q xs =
+    let whole : prefix_len q xs ≡ length xs → list_all q xs ≡ true = λ e. sym (ap (list_all q) (take_all (prefix_len q xs) xs (omega arith))) ∙ front_passes q xs in
+    same_from_decides _ _ (Decides-eqb (prefix_len q xs) (length xs)) (whole_front q xs, whole)
 
 -- whether what is left goes on so, past bytes that were sound or not, of which the last was a dot or not
 abbrev pub joined_from : (ℕ → Bool) → Bool → Bool → List ℕ → Bool

@@ -6,7 +6,7 @@ use std::alloc::{AllocError, Global};
 use std::marker::Model;
 
 /// What is known of the bytes of an address.
-#[derive(Clone, Copy, Debug)]
+#[derive(Clone, Copy)]
 struct AddressHead {
     local_len: u8,
     /// Whether the local part is a Dot-string.
@@ -16,9 +16,15 @@ struct AddressHead {
 /// A mailbox: a local part without quotes and escapes, in the case as spelled, and a domain in lower case (RFC 5321 section 4.1.2,
 /// Mailbox). Each address is within the limits of RFC 5321 section 4.5.3.1 as it is written. Both parts lie in a row with an `@` between
 /// them, up to 44 bytes of it in the value itself, more in memory of their own.
-#[derive(Drop)]
 pub struct Address {
     text: InlineBytes<AddressHead, 44>,
+}
+
+// Written out: what becomes of a derived drop's parts is followed in each proof that has such a value to its end.
+impl Drop for Address {
+    fn drop(self) {
+        let Address { text: _ } = self;
+    }
 }
 
 impl Model for Address {
@@ -51,8 +57,7 @@ impl Address {
         requires { IsTrue (is_address (record { local = local.now; domain = domain.now })) }
         ensures { IfOk result (λ a. a ≡ record { local = local.now; domain = domain.now }) }
     {
-        let text = InlineBytes::joined_of(alloc, (), local, b'@', domain)?;
-        Ok(Address::from_joined(text, local.len(), is_dot_string(local)))
+        Address::of_spelled(alloc, local, domain, is_dot_string(local))
     }
 
     /// The address of a local part without quotes and escapes, and of a domain as it is spelled, before it is folded. `Err` where memory

@@ -1,7 +1,8 @@
 //! The local part at the front of a text.
-use crate::class::is_atext;
 use crate::fault::TextFault;
 use crate::inline_bytes::InlineBytes;
+use crate::place::place_or_len;
+use crate::run::{Part, run_at};
 use std::alloc::{AllocError, Global};
 use std::marker::Model;
 
@@ -22,9 +23,9 @@ impl<'a> Model for Cut<'a> {
     ghost view = { λ c. record { quoted = c.quoted; closed = c.closed; raw = c.raw.now; rest = c.rest.now } };
 }
 
-ghost use Rattle.std.specs.Prelude.{◌≡◌, ◌≤◌, ◌++◌, ◌==◌, ◌||◌, not, codes, length, IfOk, OnOk};
+ghost use Rattle.std.specs.Prelude.{◌≡◌, ◌≤◌, ◌+◌, ◌++◌, ◌==◌, ◌||◌, not, codes, length, vec_len, vec_capacity, IfOk};
 ghost use Rattle.std.specs.List.{list_all, position_or_len};
-ghost use Rattle.relay_text.specs.Addresses.{local_cut, quoted_cut, plain_cut, local_of, is_local_byte, is_quotable, is_atext, is_dot, local_checks, checked, is_empty};
+ghost use Rattle.relay_text.specs.Addresses.{local_cut, quoted_cut, local_of, is_local_byte, is_quotable, is_atext, is_dot, local_checks, checked, is_empty};
 ghost use Rattle.relay_text.specs.Bytes.{begins_with};
 ghost use Rattle.relay_text.specs.Quotes.{marks, is_quote, without_escapes};
 ghost use Rattle.relay_text.specs.QuotedStrings.{is_whole_string};
@@ -36,7 +37,15 @@ impl<'a> Cut<'a> {
     {
         match bytes {
             [b'"', quoted @ ..] => Cut::quoted(quoted),
-            _ => Cut::plain(bytes),
+            _ => {
+                let place = place_or_len(b'@', bytes);
+                Cut {
+                    quoted: false,
+                    closed: true,
+                    raw: &bytes[..place],
+                    rest: &bytes[place..],
+                }
+            }
         }
     }
 
@@ -59,19 +68,6 @@ impl<'a> Cut<'a> {
                 raw: bytes,
                 rest: &bytes[place..],
             }
-        }
-    }
-
-    /// A local part without quotes, up to the first `@`.
-    fn plain(bytes: &'a [u8]) -> Cut<'a>
-        ensures { result ≡ plain_cut bytes.now }
-    {
-        let place = at_place(bytes);
-        Cut {
-            quoted: false,
-            closed: true,
-            raw: &bytes[..place],
-            rest: &bytes[place..],
         }
     }
 
@@ -160,17 +156,6 @@ fn closing_place(bytes: &[u8]) -> usize
     bytes.len()
 }
 
-/// The place of the first `@`, or the length where there is none.
-fn at_place(bytes: &[u8]) -> usize
-    ensures place { result ≡ position_or_len (λ b. b == 64) bytes.now }
-    ensures within { result ≤ length bytes.now }
-{
-    bytes
-        .iter()
-        .position(|byte| *byte == b'@')
-        .unwrap_or(bytes.len())
-}
-
 /// Whether a local part may end before this text.
 #[tactic(auto, using(crate::proofs::Spellings::ends_before))]
 fn is_end(rest: &[u8]) -> bool
@@ -193,7 +178,7 @@ fn all_quotable(raw: &[u8]) -> bool
 fn all_plain(raw: &[u8]) -> bool
     ensures { result ≡ list_all (λ b. is_atext b || is_dot b) raw.now }
 {
-    raw.iter().all(|byte| is_atext(*byte) || *byte == b'.')
+    run_at(Part::Local, raw).len == raw.len()
 }
 
 /// How many bytes are left of a quoted string's content without its escapes.
@@ -219,20 +204,20 @@ fn unescaped<const N: usize>(
     ensures { IfOk result (λ text. text.bytes ≡ without_escapes content.now) }
 {
     let mut text = Vec::with_capacity(alloc, unescaped_len(content))?;
-    push_unescaped(content, &mut text)?;
+    put_unescaped(content, &mut text);
     Ok(InlineBytes::of((), text))
 }
 
-/// Puts a quoted string's content without its escapes at the end of a text.
-fn push_unescaped(content: &[u8], text: &mut Vec<u8>) -> Result<(), AllocError>
-    ensures { OnOk result (text.new.items ≡ text.old.items ++ without_escapes content.now) }
+/// Writes a quoted string's content without its escapes into room that is there.
+fn put_unescaped(content: &[u8], text: &mut Vec<u8>)
+    requires { vec_len text.old + length (without_escapes content.now) ≤ vec_capacity text.old }
+    ensures { text.new.items ≡ text.old.items ++ without_escapes content.now }
 {
     let mut escaped = false;
     for byte in content {
         escaped = !escaped && *byte == b'\\';
         if !escaped {
-            text.push(*byte)?;
+            text.push_reserved(*byte);
         }
     }
-    Ok(())
 }

@@ -57,19 +57,7 @@ impl<const N: usize> FewBytes<N> {
         FewBytes { len, bytes }
     }
 
-    /// Copies of two pieces in a row with a byte between them.
-    #[inline(always)]
-    pub(crate) fn joined(len: u8, front: &[u8], between: u8, back: &[u8]) -> Self
-        requires len { length front.now + length back.now + 1 ≡ len }
-        requires few { len ≤ N }
-        ensures { result ≡ front.now ++ between ∷ back.now }
-    {
-        let mut bytes = [0; N];
-        put_joined(&mut bytes, front, between, back);
-        FewBytes { len, bytes }
-    }
-
-    /// The same, the second piece folded.
+    /// Copies of two pieces in a row with a byte between them, the second folded.
     #[inline(always)]
     pub(crate) fn joined_folded(len: u8, front: &[u8], between: u8, back: &[u8]) -> Self
         requires len { length front.now + length back.now + 1 ≡ len }
@@ -129,20 +117,8 @@ fn put_pieces(room: &mut [u8], front: &[u8], more: &[u8])
     room[place..place + more.len()].copy_from_slice(more);
 }
 
-/// Writes two pieces in a row, with a byte between them, over the first bytes.
-#[inline(always)]
-fn put_joined(room: &mut [u8], front: &[u8], between: u8, back: &[u8])
-    requires { length front.now + length back.now + 1 ≤ length room.old }
-    ensures { take (length front.now + length back.now + 1) room.new ≡ front.now ++ between ∷ back.now }
-{
-    let middle = front.len();
-    room[..middle].copy_from_slice(front);
-    room[middle] = between;
-    room[middle + 1..middle + 1 + back.len()].copy_from_slice(back);
-}
-
-/// The same, the second piece folded. All of the room is folded before the front is written over it, since a loop of fixed length compiles
-/// without a remainder.
+/// Writes two pieces in a row, with a byte between them and the second folded, over the first bytes. All of the room is folded before the
+/// front is written over it, since a loop of fixed length compiles without a remainder.
 #[inline(always)]
 fn put_joined_folded(room: &mut [u8], front: &[u8], between: u8, back: &[u8])
     requires { length front.now + length back.now + 1 ≤ length room.old }

@@ -40,7 +40,9 @@ impl<'a> FirstPlaces<'a> {
         ensures err { OnErr result (self.new ≡ self.old) }
     {
         let place = self.texts.len();
-        self.texts.push(HashedText::new(text, place))?;
+        let Ok(()) = self.texts.push(HashedText::new(text, place)) else {
+            return Err(AllocError);
+        };
         Ok(())
     }
 

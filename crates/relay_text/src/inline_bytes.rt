@@ -4,6 +4,7 @@ ghost use Rattle.relay_text.specs.Bytes.{folded};
 ghost use Rattle.relay_text.specs.InlineBytes.{headed_bytes_in, IsWithin};
 
 use crate::few_bytes::FewBytes;
+use crate::room::put_bytes;
 use std::alloc::{AllocError, Global};
 use std::marker::Model;
 
@@ -92,7 +93,10 @@ impl<H: Copy, const N: usize> InlineBytes<H, N> {
     {
         match inline_len(bytes.len(), N) {
             Some(len) => Ok(InlineBytes::short(head, FewBytes::of(len, bytes))),
-            None => Ok(InlineBytes::long(head, Vec::from_slice(alloc, bytes)?)),
+            None => match Vec::from_slice(alloc, bytes) {
+                Ok(bytes) => Ok(InlineBytes::long(head, bytes)),
+                Err(error) => Err(error),
+            },
         }
     }
 
@@ -104,23 +108,6 @@ impl<H: Copy, const N: usize> InlineBytes<H, N> {
         match inline_len(bytes.len(), N) {
             Some(len) => InlineBytes::short(head, FewBytes::of(len, bytes.as_slice())),
             None => InlineBytes::long(head, bytes),
-        }
-    }
-
-    /// Copies of two pieces in a row with a byte between them. `Err` where memory runs out.
-    pub(crate) fn joined_of(
-        alloc: Global,
-        head: H,
-        front: &[u8],
-        between: u8,
-        back: &[u8],
-    ) -> Result<Self, AllocError>
-        ensures head { IfOk result (λ a. a.head ≡ head) }
-        ensures bytes { IfOk result (λ a. a.bytes ≡ front.now ++ between ∷ back.now) }
-    {
-        match inline_len(front.len() + back.len() + 1, N) {
-            Some(len) => Ok(InlineBytes::short(head, FewBytes::joined(len, front, between, back))),
-            None => Ok(InlineBytes::long(head, joined(alloc, front, between, back)?)),
         }
     }
 
@@ -140,7 +127,10 @@ impl<H: Copy, const N: usize> InlineBytes<H, N> {
                 head,
                 FewBytes::joined_folded(len, front, between, back),
             )),
-            None => Ok(InlineBytes::long(head, joined_folded(alloc, front, between, back)?)),
+            None => match joined_folded(alloc, front, between, back) {
+                Ok(bytes) => Ok(InlineBytes::long(head, bytes)),
+                Err(error) => Err(error),
+            },
         }
     }
 
@@ -210,7 +200,10 @@ impl<H: Copy, const N: usize> InlineBytes<H, N> {
         let head = self.head();
         match inline_len(front.len() + more.len(), N) {
             Some(len) => Ok(InlineBytes::short(head, FewBytes::of_pieces(len, front, more))),
-            None => Ok(InlineBytes::long(head, both(alloc, front, more)?)),
+            None => match both(alloc, front, more) {
+                Ok(bytes) => Ok(InlineBytes::long(head, bytes)),
+                Err(error) => Err(error),
+            },
         }
     }
 
@@ -230,10 +223,10 @@ impl<H: Copy, const N: usize> InlineBytes<H, N> {
     {
         match &self.kept {
             Kept::Short { head, few } => Ok(InlineBytes::short(*head, few.copy())),
-            Kept::Long { head, bytes } => Ok(InlineBytes::long(
-                *head,
-                Vec::from_slice(alloc, bytes.as_slice())?,
-            )),
+            Kept::Long { head, bytes } => match Vec::from_slice(alloc, bytes.as_slice()) {
+                Ok(bytes) => Ok(InlineBytes::long(*head, bytes)),
+                Err(error) => Err(error),
+            },
         }
     }
 }
@@ -254,23 +247,12 @@ fn both(alloc: Global, front: &[u8], more: &[u8]) -> Result<Vec<u8>, AllocError>
     ensures { IfOk result (λ bytes. bytes.items ≡ front.now ++ more.now) }
 {
     let mut bytes = Vec::with_capacity(alloc, front.len() + more.len())?;
-    bytes.extend_from_slice(front)?;
-    bytes.extend_from_slice(more)?;
+    put_bytes(front, &mut bytes);
+    put_bytes(more, &mut bytes);
     Ok(bytes)
 }
 
-/// The same with a byte between them.
-fn joined(alloc: Global, front: &[u8], between: u8, back: &[u8]) -> Result<Vec<u8>, AllocError>
-    ensures { IfOk result (λ bytes. bytes.items ≡ front.now ++ between ∷ back.now) }
-{
-    let mut bytes = Vec::with_capacity(alloc, front.len() + back.len() + 1)?;
-    bytes.extend_from_slice(front)?;
-    bytes.push(between)?;
-    bytes.extend_from_slice(back)?;
-    Ok(bytes)
-}
-
-/// The same, the second piece folded.
+/// The same with a byte between them, the second piece folded.
 fn joined_folded(
     alloc: Global,
     front: &[u8],
@@ -279,7 +261,10 @@ fn joined_folded(
 ) -> Result<Vec<u8>, AllocError>
     ensures { IfOk result (λ bytes. bytes.items ≡ front.now ++ between ∷ folded back.now) }
 {
-    let mut bytes = joined(alloc, front, between, back)?;
+    let mut bytes = Vec::with_capacity(alloc, front.len() + back.len() + 1)?;
+    put_bytes(front, &mut bytes);
+    bytes.push_reserved(between);
+    put_bytes(back, &mut bytes);
     fold_behind(&mut bytes, front.len() + 1);
     Ok(bytes)
 }

@@ -4,7 +4,7 @@ ghost use Rattle.std.specs.Prelude.{◌+◌, ◌^◌, ◌<◌, length};
 use crate::scan::{cut_line, is_ignored};
 
 /// A physical line without its end, under its number from 1. Ignored lines count too.
-#[derive(Clone, Copy, Debug)]
+#[derive(Clone, Copy)]
 pub struct KeptLine<'a> {
     /// The number of the line in its text, from 1.
     pub number: usize,
@@ -14,7 +14,7 @@ pub struct KeptLine<'a> {
 
 /// A reader over the physical lines of a text that passes the ignored ones: those that are empty, of white space alone, or a comment
 /// (aliases(5)). It takes no memory, and reads each byte once.
-#[derive(Clone, Copy, Debug)]
+#[derive(Clone, Copy)]
 pub struct KeptLines<'a> {
     rest: &'a [u8],
     passed: usize,

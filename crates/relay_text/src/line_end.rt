@@ -3,6 +3,7 @@ ghost use Rattle.std.specs.Prelude.{◌≡◌, ◌==◌};
 ghost use Rattle.std.specs.List.{position_or_len};
 ghost use Rattle.bstr.specs.Find.{IsFirstByte};
 
+use crate::place::place_or_len;
 use std::simd::prelude::*;
 
 /// The place of the first LF.
@@ -31,7 +32,7 @@ fn line_len(bytes: &[u8]) -> usize
         passed += 16;
         rest = more;
     }
-    passed + short_len(rest)
+    passed + place_or_len(b'\n', rest)
 }
 
 /// The same of sixteen bytes.
@@ -45,14 +46,4 @@ fn group_len(group: [u8; 16]) -> usize
         return 16;
     }
     ends.trailing_zeros() as usize
-}
-
-/// The same, byte by byte.
-fn short_len(bytes: &[u8]) -> usize
-    ensures { result ≡ position_or_len (λ b. b == 10) bytes.now }
-{
-    bytes
-        .iter()
-        .position(|byte| *byte == b'\n')
-        .unwrap_or(bytes.len())
 }

@@ -6,7 +6,7 @@ use std::alloc::{AllocError, Global};
 use std::marker::Model;
 
 /// A logical line that is lent, under the number of its first physical line (aliases(5), transport(5)).
-#[derive(Clone, Copy, Debug)]
+#[derive(Clone, Copy)]
 pub struct LogicalLine<'a> {
     /// The number of its first physical line, from 1; ignored lines count too.
     pub number: usize,
@@ -143,18 +143,9 @@ fn continuing(line: Option<KeptLine<'_>>) -> Option<KeptLine<'_>>
     ensures some { IfSome result (λ l. (line.entry ≡ Some l) × (begins_logical_line (kept_line l) ≡ false)) }
     ensures none { IfNone result (IsBeginning line.entry) }
 {
-    match line {
-        Some(line) if !begins_logical_line(&line) => Some(line),
-        _ => None,
-    }
-}
-
-/// Whether a line begins with text that isn't white.
-fn begins_logical_line(line: &KeptLine<'_>) -> bool
-    ensures { result ≡ begins_logical_line (kept_line line.now) }
-{
+    let line = line?;
     match line.text.first() {
-        Some(byte) => !is_white(*byte),
-        None => false,
+        Some(byte) if !is_white(*byte) => None,
+        _ => Some(line),
     }
 }

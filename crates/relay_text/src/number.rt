@@ -30,7 +30,7 @@ fn is_number(digits: &[u8]) -> bool
 fn all_digits(digits: &[u8]) -> bool
     ensures { result ≡ list_all is_ascii_digit digits.now }
 {
-    digits.iter().all(|byte| byte.is_ascii_digit())
+    digits.iter().all(u8::is_ascii_digit)
 }
 
 /// The value of decimal digits, `None` where it takes more than 64 bits.

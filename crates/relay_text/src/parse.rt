@@ -59,6 +59,7 @@ pub fn parse_address(alloc: Global, bytes: &[u8], origin: &[u8]) -> Result<Addre
     let is_plain = is_dot_string(local);
     let written_len = written_len(local, is_plain);
     if written_len > MAX_LOCAL || written_len + domain.len() + 3 > MAX_PATH {
+        drop(text);
         return Err(TextFault::TooLong);
     }
     Ok(Address::from_joined(text, local_len, is_plain))
@@ -111,6 +112,7 @@ pub fn parse_name(alloc: Global, bytes: &[u8]) -> Result<Text, TextFault>
         return Err(TextFault::Memory);
     };
     if local_text_len(local.as_slice()) > MAX_LOCAL {
+        drop(local);
         return Err(TextFault::TooLong);
     }
     Ok(Text::of_inline(local))
@@ -133,10 +135,8 @@ fn domain_in<'a>(rest: &'a [u8], origin: &'a [u8]) -> Result<&'a [u8], TextFault
 fn joined(alloc: Global, cut: &Cut, domain: &[u8]) -> Result<InlineBytes<(), 44>, AllocError>
     ensures { IfOk result (λ text. text.bytes ≡ local_of cut.now ++ 64 ∷ folded domain.now) }
 {
-    let mut text = cut.local(alloc)?;
-    let start = text.as_slice().len();
-    text.append(alloc, b"@")?;
-    text.append(alloc, domain)?;
-    text.fold_from(start);
-    Ok(text)
+    let local: InlineBytes<(), 44> = cut.local(alloc)?;
+    let row = InlineBytes::joined_folded_of(alloc, (), local.as_slice(), b'@', domain);
+    drop(local);
+    row
 }

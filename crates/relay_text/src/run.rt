@@ -5,14 +5,14 @@ ghost use Rattle.relay_text.specs.Runs.{part_byte, run_len, run_in, is_joined};
 use crate::class::{is_atext, is_label_byte};
 
 /// The parts of an address that has no quotes.
-#[derive(Clone, Copy, Debug)]
+#[derive(Clone, Copy)]
 pub(crate) enum Part {
     Local,
     Domain,
 }
 
 /// The bytes at the front of a text that may stand in a part, dots among them.
-#[derive(Clone, Copy, Debug)]
+#[derive(Clone, Copy)]
 pub(crate) struct Run {
     pub(crate) len: usize,
     /// Whether the dots join runs that aren't empty, as in a Dot-string and in a domain name.

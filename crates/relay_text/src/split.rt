@@ -1,7 +1,9 @@
 //! Address extensions.
 ghost use Rattle.std.specs.Prelude.{◌≡◌, ◌<◌, ◌==◌, ◌∷◌, [], length, codes, position, IfSome};
 ghost use Rattle.relay_text.specs.Bytes.{folded, begins_with, ends_with, has_text};
-ghost use Rattle.relay_text.specs.Addresses.{is_unsplit, leftmost_inside, split_place_of};
+ghost use Rattle.relay_text.specs.Addresses.{is_unsplit, split_place_of};
+
+use crate::place::place_of;
 
 /// Whether a local part is one of the names that no delimiter splits.
 fn is_reserved(local: &[u8]) -> bool
@@ -35,22 +37,6 @@ fn is_unsplit(delimiter: u8, local: &[u8]) -> bool
     is_reserved(local) || (delimiter == b'-' && (is_owner(local) || is_request(local)))
 }
 
-/// The index of the leftmost delimiter.
-fn leftmost(delimiter: u8, local: &[u8]) -> Option<usize>
-    ensures { result ≡ position (λ b. b == delimiter) local.now }
-{
-    local.iter().position(|byte| *byte == delimiter)
-}
-
-/// The same, unless it's the first byte.
-fn leftmost_inside(delimiter: u8, local: &[u8]) -> Option<usize>
-    ensures place { result ≡ leftmost_inside delimiter local.now }
-    ensures inside { IfSome result (λ place. place < length local.now) }
-{
-    let place = leftmost(delimiter, local)?;
-    if place == 0 { None } else { Some(place) }
-}
-
 /// Where a local part is split into a base and an extension: the index of its leftmost delimiter (local(8), "address
 /// extension"). `None` where there is no delimiter or it is the first byte, and for the names that aren't split: postmaster,
 /// mailer-daemon and double-bounce, and with the delimiter `-` those that begin with `owner-` or end with `-request`, all in any
@@ -61,8 +47,8 @@ pub fn split_place(local: &[u8], delimiter: Option<u8>) -> Option<usize>
     ensures inside { IfSome result (λ place. place < length local.now) }
 {
     let delimiter = delimiter?;
-    let place = leftmost_inside(delimiter, local)?;
-    if is_unsplit(delimiter, local) {
+    let place = place_of(delimiter, local)?;
+    if place == 0 || is_unsplit(delimiter, local) {
         None
     } else {
         Some(place)

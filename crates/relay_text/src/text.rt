@@ -5,9 +5,15 @@ use std::default::MadeWith;
 use std::marker::Model;
 
 /// Bytes, of any value. Up to 46 of them lie in the value itself, more in memory of their own.
-#[derive(Drop)]
 pub struct Text {
     bytes: InlineBytes<(), 46>,
+}
+
+// Written out: what becomes of a derived drop's parts is followed in each proof that has such a value to its end.
+impl Drop for Text {
+    fn drop(self) {
+        let Text { bytes: _ } = self;
+    }
 }
 
 impl Model for Text {
@@ -95,7 +101,8 @@ impl Text {
     pub fn into_bytes(self, alloc: Global) -> Result<Vec<u8>, AllocError>
         ensures { IfOk result (λ bytes. bytes.items ≡ self) }
     {
-        self.bytes.into_vec(alloc)
+        let Text { bytes } = self;
+        bytes.into_vec(alloc)
     }
 
     /// How many bytes there are.

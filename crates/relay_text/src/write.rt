@@ -7,17 +7,8 @@ ghost use Rattle.relay_text.specs.Addresses.{is_address, is_atext, is_dot_string
 
 use crate::address::Address;
 use crate::local::{is_dot_string, local_text_len, needs_escape, quoted_len};
+use crate::room::put_bytes;
 use std::alloc::AllocError;
-
-/// Writes bytes into room that is there.
-fn put_bytes(bytes: &[u8], out: &mut Vec<u8>)
-    requires { vec_len out.old + length bytes.now ≤ vec_capacity out.old }
-    ensures items { out.new.items ≡ out.old.items ++ bytes.now }
-    ensures len { vec_len out.new ≡ vec_len out.old + length bytes.now }
-    ensures capacity { vec_capacity out.old ≤ vec_capacity out.new }
-{
-    let _ = out.extend_from_slice(bytes);
-}
 
 /// Writes a byte of a local part as it stands between quotes into room that is there.
 #[inline]

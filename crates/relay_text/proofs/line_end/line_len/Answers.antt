@@ -21,4 +21,4 @@ returns-then-len-lt16 c =
 pub overflow_add-result-2 : goal.overflow_add-result-2
 overflow_add-result-2 c =
     let few : length c.args.bytes.now < 2 ^ 64 = search rules in
-    omega (arith, few, c.short_len.ensures, prefix_len-le-length (λ b. not (is_line_feed b)) c.loop-group.rest.now, c.loop-group.invariant.counted)
+    omega (arith, few, c.place_or_len.ensures.place, prefix_len-le-length (λ b. not (is_line_feed b)) c.loop-group.rest.now, c.loop-group.invariant.counted)

@@ -1,23 +1,19 @@
-use Rattle.std.proofs.Common.{ap, length, refl, subst, sym, ◌∙◌}
+use Rattle.std.proofs.Common.{◌≡◌, List, ℕ, subst, sym}
 use Rattle.std.specs.Bool.{IsTrue}
+use Rattle.std.specs.Result.{IfOk}
 use Rattle.relay_text.specs.AddressParts.{AddressParts}
 use Rattle.relay_text.specs.Addresses.{is_address}
-use Rattle.relay_text.specs.JoinedAddresses.{joined_text_of}
-use Rattle.relay_text.proofs.JoinedAddresses.{row_parts}
+use Rattle.relay_text.proofs.Paths.{good_parts}
 use Rattle.relay_text.proofs.address.Address.new.Goals as goal
 
-pub from_joined-requires-clause-joined : goal.from_joined-requires-clause-joined
-from_joined-requires-clause-joined c =
-    let parts = row_parts c.in_ok-text.text.bytes c.args.local.now c.args.domain.now (length c.args.local.now) c.in_ok-text.ensures.bytes refl in
-    c.in_ok-text.ensures.bytes ∙ sym (ap joined_text_of parts)
-
-pub from_joined-requires-clause-valid : goal.from_joined-requires-clause-valid
-from_joined-requires-clause-valid c =
-    let parts = row_parts c.in_ok-text.text.bytes c.args.local.now c.args.domain.now (length c.args.local.now) c.in_ok-text.ensures.bytes refl in
-    let P : AddressParts → Type 0 = λ p. IsTrue (is_address p) in
-    subst P (sym parts) c.requires
+pub of_spelled-requires-clause-valid : goal.of_spelled-requires-clause-valid
+of_spelled-requires-clause-valid c =
+    let parts : AddressParts = record { local = c.args.local.now; domain = c.args.domain.now } in
+    let P : List ℕ → Type 0 = λ domain. IsTrue (is_address (record { local = c.args.local.now; domain = domain })) in
+    subst P (sym (good_parts parts c.requires).is_folded) c.requires
 
 pub returns : goal.returns
 returns c =
-    c.from_joined.ensures
-    ∙ row_parts c.in_ok-text.text.bytes c.args.local.now c.args.domain.now (length c.args.local.now) c.in_ok-text.ensures.bytes refl
+    let parts : AddressParts = record { local = c.args.local.now; domain = c.args.domain.now } in
+    let P : List ℕ → Type 0 = λ domain. IfOk c.of_spelled.result (λ (a : AddressParts). a ≡ record { local = c.args.local.now; domain = domain }) in
+    subst P (good_parts parts c.requires).is_folded c.of_spelled.ensures
