@@ -1,9 +1,8 @@
 //! The entries of an alias file while they are gathered.
-ghost use Rattle.std.specs.Prelude.{◌≡◌, ◌<◌, ◌+◌, ◌^◌, ◌++◌, ◌∷◌, [], All, drop, map, option_map, OnOk};
+ghost use Rattle.std.specs.Prelude.{◌≡◌, ◌<◌, ◌+◌, ◌^◌, ◌++◌, ◌∷◌, [], All, drop, map, OnOk};
 ghost use Rattle.relay_aliasfile.specs.AliasFiles.{heading_of, list_faults, orphan_fault};
 ghost use Rattle.relay_aliasfile.specs.AliasTables.{new_entry, new_entries, new_faults, next_repeat, repeats_behind};
 ghost use Rattle.relay_aliasfile.specs.Headings.{heading_value};
-ghost use Rattle.relay_aliasfile.specs.MailboxFiles.{fault};
 
 use crate::aliases::AliasFile;
 use crate::entry::Entry;
@@ -45,7 +44,7 @@ impl<'a> AliasTable<'a> {
         ensures faults { OnOk result (self.new.faults.items ≡ self.old.faults.items ++ map orphan_fault (map (λ n. passed + n) numbers.now)) }
     {
         for number in numbers {
-            self.add_fault(passed + *number, FaultKind::BadLine)?;
+            add_fault(passed + *number, FaultKind::BadLine, &mut self.faults)?;
         }
         Ok(())
     }
@@ -61,26 +60,12 @@ impl<'a> AliasTable<'a> {
         ensures repeats { OnOk result (self.new.repeats.now ≡ repeats_behind (heading_of text.now) self.old.repeats.now) }
         ensures faults { OnOk result (self.new.faults.items ≡ self.old.faults.items ++ new_faults (next_repeat self.old.repeats.now) number (heading_of text.now)) }
     {
-        let heading = heading_in(alloc, text)?;
-        self.add_heading(alloc, number, heading)
-    }
-
-    /// The same where its heading was read.
-    fn add_heading(
-        &mut self,
-        alloc: Global,
-        number: usize,
-        heading: Option<Heading<'_>>,
-    ) -> Result<(), AllocError>
-        ensures entries { OnOk result (self.new.entries.items ≡ self.old.entries.items ++ new_entries (next_repeat self.old.repeats.now) number (option_map heading_value heading.entry)) }
-        ensures repeats { OnOk result (self.new.repeats.now ≡ repeats_behind (option_map heading_value heading.entry) self.old.repeats.now) }
-        ensures faults { OnOk result (self.new.faults.items ≡ self.old.faults.items ++ new_faults (next_repeat self.old.repeats.now) number (option_map heading_value heading.entry)) }
-    {
-        let Some(heading) = heading else {
-            return self.add_fault(number, FaultKind::BadLine);
+        let Some(heading) = heading_in(alloc, text)? else {
+            return add_fault(number, FaultKind::BadLine, &mut self.faults);
         };
         if self.take_repeat() {
-            return self.add_fault(number, FaultKind::Duplicate);
+            drop(heading.name);
+            return add_fault(number, FaultKind::Duplicate, &mut self.faults);
         }
         self.add_entry(alloc, number, heading)
     }
@@ -111,22 +96,17 @@ impl<'a> AliasTable<'a> {
         ensures faults { OnOk result (self.new.faults.items ≡ self.old.faults.items ++ list_faults line heading.entry.list.now) }
     {
         let mut items = Items::new(alloc);
-        read_list(alloc, line, heading.list, &mut items, &mut self.faults)?;
+        let Ok(()) = read_list(alloc, line, heading.list, &mut items, &mut self.faults) else {
+            drop(items);
+            drop(heading.name);
+            return Err(AllocError);
+        };
         self.entries.push(Entry {
             name: heading.name,
             line,
             items,
         })?;
         Ok(())
-    }
-
-    /// Adds a fault.
-    fn add_fault(&mut self, line: usize, kind: FaultKind) -> Result<(), AllocError>
-        ensures entries { self.new.entries ≡ self.old.entries }
-        ensures repeats { self.new.repeats ≡ self.old.repeats }
-        ensures faults { OnOk result (self.new.faults.items ≡ self.old.faults.items ++ fault line kind ∷ []) }
-    {
-        add_fault(line, kind, &mut self.faults)
     }
 
     /// The file, without taking memory.

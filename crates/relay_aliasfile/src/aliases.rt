@@ -153,24 +153,23 @@ fn read_file_by<R: Threads + Sync>(
             ensures { IfOk result (λ file. file ≡ file_behind behind [] back.entry.now) }
         { read_file_by(rt, alloc, rest, behind, back) },
     );
-    both_read(here, there)
+    both_files(here, there)
 }
 
 /// The files of two parts of a text as one, where both were read.
-fn both_read(
+fn both_files(
     here: Result<AliasFile, AllocError>,
     there: Result<AliasFile, AllocError>,
 ) -> Result<AliasFile, AllocError>
     ensures { IfOk result (IsBoth (result_ok here) (result_ok there)) }
 {
-    let first = here?;
-    both_files(first, there?)
-}
-
-/// The files of two parts of a text as one.
-fn both_files(first: AliasFile, second: AliasFile) -> Result<AliasFile, AllocError>
-    ensures { IfOk result (λ file. file ≡ record { entries = first.entries ++ second.entries; faults = first.faults ++ second.faults }) }
-{
+    let Ok(first) = here else {
+        return Err(AllocError);
+    };
+    let Ok(second) = there else {
+        drop(first);
+        return Err(AllocError);
+    };
     let mut entries = first.entries.into_vec();
     entries.append(&mut second.entries.into_vec())?;
     let mut faults = first.faults.into_vec();

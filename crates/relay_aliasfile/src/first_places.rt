@@ -69,6 +69,7 @@ pub(crate) fn first_places(alloc: Global, texts: &[&[u8]]) -> Result<Vec<usize>,
 {
     let hashes = text_hashes(alloc, texts)?;
     let twins = twin_places(alloc, &hashes)?;
+    drop(hashes);
     let firsts = firsts_among(alloc, texts, &twins)?;
     let mut places = all_places(alloc, texts.len())?;
     put_firsts(&twins, &firsts, &mut places);

@@ -69,7 +69,10 @@ pub fn entry_list<'a>(alloc: Global, text: &'a [u8]) -> Result<Option<&'a [u8]>,
     ensures { IfOk result (λ list. option_map (λ list. list.now) list ≡ option_map heading_list (heading_of text.now)) }
 {
     match heading_in(alloc, text)? {
-        Some(heading) => Ok(Some(heading.list)),
+        Some(heading) => {
+            drop(heading.name);
+            Ok(Some(heading.list))
+        }
         None => Ok(None),
     }
 }

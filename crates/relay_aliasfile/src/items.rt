@@ -6,9 +6,15 @@ use std::marker::Model;
 
 /// The items of an entry, in order, which contracts see as their list. One lies in the value itself, more of them in memory of
 /// their own.
-#[derive(Drop)]
 pub struct Items {
     items: SmallVec<Item, 1, Global>,
+}
+
+// Written out: what becomes of a derived drop's parts is followed in each proof that has such a value to its end.
+impl Drop for Items {
+    fn drop(self) {
+        let Items { items: _ } = self;
+    }
 }
 
 impl Model for Items {
@@ -52,13 +58,13 @@ impl Items {
     pub fn len(&self) -> usize
         ensures { result ≡ length self.now }
     {
-        self.items.len()
+        self.as_slice().len()
     }
 
     /// Whether there is none.
     pub fn is_empty(&self) -> bool
         ensures { result ≡ (length self.now == 0) }
     {
-        self.items.is_empty()
+        self.as_slice().is_empty()
     }
 }

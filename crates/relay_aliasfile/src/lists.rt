@@ -14,7 +14,8 @@ use crate::item_texts::ItemTexts;
 use crate::items::Items;
 use std::alloc::{AllocError, Global};
 
-/// Reads the items and the faults of an entry's list. A list that has no item, good or bad, is a fault too.
+/// Reads the items and the faults of an entry's list. A bad item is a fault at the line, and doesn't touch the others; a list that has no
+/// item, good or bad, is a fault too.
 pub(crate) fn read_list(
     alloc: Global,
     line: usize,
@@ -25,25 +26,6 @@ pub(crate) fn read_list(
     ensures items { OnOk result (items.new ≡ items.old ++ good_items list.now) }
     ensures faults { OnOk result (faults.new.items ≡ faults.old.items ++ list_faults line list.now) }
 {
-    if read_entry_items(alloc, line, list, items, faults)? {
-        return Ok(());
-    }
-    add_fault(line, FaultKind::Empty, faults)
-}
-
-/// Reads the items of an entry's list, and answers whether it has any, good or bad. A bad item is a fault at the line, and doesn't touch
-/// the others.
-fn read_entry_items(
-    alloc: Global,
-    line: usize,
-    list: &[u8],
-    items: &mut Items,
-    faults: &mut Vec<LineFault>,
-) -> Result<bool, AllocError>
-    ensures some { IfOk result (λ has_items. has_items ≡ not (is_empty (item_texts list.now))) }
-    ensures items { OnOk result (items.new ≡ items.old ++ good_items list.now) }
-    ensures faults { OnOk result (faults.new.items ≡ faults.old.items ++ bad_item_faults line list.now) }
-{
     let mut has_items = false;
     let mut texts = ItemTexts::new(list);
     while let Some(text) = texts.next_text() {
@@ -52,7 +34,10 @@ fn read_entry_items(
             items.push(item)?;
         }
     }
-    Ok(has_items)
+    if has_items {
+        return Ok(());
+    }
+    add_fault(line, FaultKind::Empty, faults)
 }
 
 /// The item that a text is; where it is none, a fault at the line.

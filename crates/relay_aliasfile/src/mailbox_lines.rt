@@ -44,10 +44,10 @@ impl MailboxLines {
         ensures names { OnOk result (self.new.names.items ≡ self.old.names.items ++ option_to_list (name_in (record { number = number; text = text.now }))) }
         ensures faults { OnOk result (self.new.faults.items ≡ self.old.faults.items ++ faults_in (record { number = number; text = text.now })) }
     {
-        match folded_name(alloc, trimmed(text))? {
-            Some(name) => self.names.push(name)?,
-            None => add_fault(number, FaultKind::BadLine, &mut self.faults)?,
-        }
+        let Some(name) = folded_name(alloc, trimmed(text))? else {
+            return add_fault(number, FaultKind::BadLine, &mut self.faults);
+        };
+        self.names.push(name)?;
         Ok(())
     }
 
@@ -89,8 +89,13 @@ impl MailboxLines {
     ) -> Result<MailboxLines, AllocError>
         ensures { IfOk result (AreBoth (result_ok here) (result_ok there)) }
     {
-        let mut lines = here?;
-        lines.append(there?)?;
+        let Ok(mut lines) = here else {
+            return Err(AllocError);
+        };
+        let Ok(more) = there else {
+            return Err(AllocError);
+        };
+        lines.append(more)?;
         Ok(lines)
     }
 

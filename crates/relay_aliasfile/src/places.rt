@@ -9,7 +9,7 @@ use relay_text::{KeptLines, Line};
 use std::alloc::{AllocError, Global};
 
 /// A good item as its file has it.
-#[derive(Clone, Copy, Debug)]
+#[derive(Clone, Copy)]
 pub struct ItemPlace<'a> {
     /// The number of its line, from 1; of the first one where a logical line has several.
     pub line: usize,

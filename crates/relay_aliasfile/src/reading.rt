@@ -4,7 +4,7 @@ ghost use Rattle.std.specs.List.{list_all};
 ghost use Rattle.relay_text.specs.Bytes.{ends_with};
 ghost use Rattle.relay_text.specs.Addresses.{Fails, name_of, is_quotable, is_local_too_long, is_empty};
 ghost use Rattle.relay_text.specs.declared.fault.TextFault.TheVariants.{BadDomain};
-ghost use Rattle.relay_aliasfile.specs.Items.{item_of, is_well_quoted, is_item_byte, content_item, named_item, bracketed_item, address_item};
+ghost use Rattle.relay_aliasfile.specs.Items.{item_of, is_well_quoted, is_item_byte, content_item, named_item, address_item};
 ghost use Rattle.relay_aliasfile.specs.Specials.{plain_item, is_local_part};
 ghost use Rattle.relay_aliasfile.specs.ItemReasons.{in_brackets};
 
@@ -59,11 +59,14 @@ fn named_item(alloc: Global, content: Text) -> Result<Option<Item>, AllocError>
     ensures { IfOk result (λ item. item ≡ named_item content) }
 {
     if content.as_bytes().contains(&b'@') {
-        return address_item(alloc, content.as_bytes());
+        let item = address_item(alloc, content.as_bytes());
+        drop(content);
+        return item;
     }
     if is_local_part(content.as_bytes()) {
         Ok(Some(Item::Bare(content)))
     } else {
+        drop(content);
         Ok(None)
     }
 }
@@ -95,20 +98,12 @@ fn plain_item(alloc: Global, text: &[u8]) -> Result<Option<Item>, AllocError>
     if let Some(special) = Special::of(text) {
         return Ok(Some(special.copied(alloc, text)?));
     }
-    if let Some(item) = bracketed_item(alloc, text)? {
+    if let Some(address) = in_brackets(text)
+        && let Some(item) = address_item(alloc, address)?
+    {
         return Ok(Some(item));
     }
     address_item(alloc, text)
-}
-
-/// The address between the last `<` outside quotes and a `>` at the end.
-fn bracketed_item(alloc: Global, text: &[u8]) -> Result<Option<Item>, AllocError>
-    ensures { IfOk result (λ item. item ≡ bracketed_item text.now) }
-{
-    match in_brackets(text) {
-        Some(address) => address_item(alloc, address),
-        None => Ok(None),
-    }
 }
 
 /// What stands between the last `<` outside quotes and a `>` at the end.

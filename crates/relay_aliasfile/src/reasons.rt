@@ -23,8 +23,13 @@ pub fn item_reason(alloc: Global, text: &[u8]) -> Result<Option<ItemReason>, All
     }
     match quoted_content(alloc, text)? {
         Some(content) => {
-            let fault = content_fault(alloc, content.as_bytes())?;
-            Ok(form_reason(content.as_bytes(), fault))
+            let Ok(fault) = content_fault(alloc, content.as_bytes()) else {
+                drop(content);
+                return Err(AllocError);
+            };
+            let reason = form_reason(content.as_bytes(), fault);
+            drop(content);
+            Ok(reason)
         }
         None => {
             let fault = spelling_fault(alloc, address_in(text))?;
@@ -84,7 +89,10 @@ fn spelling_fault(alloc: Global, text: &[u8]) -> Result<Option<TextFault>, Alloc
     ensures { IfOk result (λ fault. fault ≡ spelling_fault text.now) }
 {
     match parse_address(alloc, text, b"localhost") {
-        Ok(_) => Ok(None),
+        Ok(address) => {
+            drop(address);
+            Ok(None)
+        }
         Err(TextFault::Memory) => Err(AllocError),
         Err(fault) => Ok(Some(fault)),
     }

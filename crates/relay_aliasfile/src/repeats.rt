@@ -8,22 +8,14 @@ use crate::entry::Entry;
 use crate::first_places::first_places;
 use std::alloc::{AllocError, Global};
 
-/// The names of entries.
-fn names_of<'e>(alloc: Global, entries: &'e [Entry]) -> Result<Vec<&'e [u8]>, AllocError>
-    ensures { IfOk result (λ names. texts_of names.items ≡ map entry_name entries.now) }
+/// For each entry the place of the first that has its name.
+fn places_of(alloc: Global, entries: &[Entry]) -> Result<Vec<usize>, AllocError>
+    ensures { IfOk result (λ places. places.items ≡ map (first_place (map entry_name entries.now)) (map entry_name entries.now)) }
 {
     let mut names = Vec::with_capacity(alloc, entries.len())?;
     for entry in entries {
         names.push_reserved(entry.name.as_bytes());
     }
-    Ok(names)
-}
-
-/// For each entry the place of the first that has its name.
-fn places_of(alloc: Global, entries: &[Entry]) -> Result<Vec<usize>, AllocError>
-    ensures { IfOk result (λ places. places.items ≡ map (first_place (map entry_name entries.now)) (map entry_name entries.now)) }
-{
-    let names = names_of(alloc, entries)?;
     first_places(alloc, &names)
 }
 
@@ -34,7 +26,7 @@ pub(crate) fn repeats_of(alloc: Global, entries: &[Entry]) -> Result<Vec<bool>, 
     let places = places_of(alloc, entries)?;
     let mut repeats = Vec::with_capacity(alloc, places.len())?;
     for (place, first) in places.iter().enumerate() {
-        repeats.push(*first != place)?;
+        repeats.push_reserved(*first != place);
     }
     Ok(repeats)
 }

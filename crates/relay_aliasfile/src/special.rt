@@ -1,5 +1,5 @@
 //! Items that are no addresses.
-ghost use Rattle.std.specs.Prelude.{◌≡◌, ◌∷◌, [], IfOk, drop, option_map};
+ghost use Rattle.std.specs.Prelude.{◌≡◌, ◌∷◌, [], IfOk, option_map};
 ghost use Rattle.relay_text.specs.Bytes.{begins_with};
 ghost use Rattle.relay_aliasfile.specs.Items.{include_path, special_item};
 ghost use Rattle.relay_aliasfile.specs.Specials.{special_as, is_include};
@@ -56,8 +56,9 @@ impl Special {
             Special::Path => Ok(Item::File(text)),
             Special::Program => Ok(Item::Command(text)),
             Special::Members => {
-                let path = Text::copy_of(alloc, include_path(text.as_bytes()))?;
-                Ok(Item::Include(path))
+                let path = Text::copy_of(alloc, include_path(text.as_bytes()));
+                drop(text);
+                Ok(Item::Include(path?))
             }
         }
     }
@@ -94,16 +95,6 @@ pub(crate) fn is_relative_include(text: &[u8]) -> bool
 fn include_path(text: &[u8]) -> &[u8]
     ensures { result.now ≡ include_path text.now }
 {
-    trimmed_end(past_word(text))
-}
-
-/// What follows as many bytes as `:include:` has.
-fn past_word(text: &[u8]) -> &[u8]
-    ensures { result.now ≡ drop 9 text.now }
-{
-    if text.len() < 9 {
-        &text[text.len()..]
-    } else {
-        &text[9..]
-    }
+    let word_len = text.len().min(b":include:".len());
+    trimmed_end(&text[word_len..])
 }

@@ -12,6 +12,6 @@ returns g t c =
     let behind = c.args.passed + c.line_count.result in
     let one : IfOk c.join-here.result.0 (λ file. file ≡ file_behind c.args.passed [] front) = search rules in
     let two : IfOk c.join-here.result.1 (λ file. file ≡ file_behind behind [] back) = search rules in
-    IfOk-weaker c.both_read.result (IsBoth (result_ok c.join-here.result.0) (result_ok c.join-here.result.1)) (λ file. file ≡ file_behind c.args.passed [] c.args.bytes.now)
+    IfOk-weaker c.both_files.result (IsBoth (result_ok c.join-here.result.0) (result_ok c.join-here.result.1)) (λ file. file ≡ file_behind c.args.passed [] c.args.bytes.now)
     (λ file h. file_both c.args.passed behind c.args.bytes.now front back c.join-here.result.0 c.join-here.result.1 file
-    c.in-Some.ensures.bytes c.in-Some.ensures.front c.in-Some.ensures.back (ap (λ n. c.args.passed + n) c.line_count.ensures.lines) one two h) c.both_read.ensures
+    c.in-Some.ensures.bytes c.in-Some.ensures.front c.in-Some.ensures.back (ap (λ n. c.args.passed + n) c.line_count.ensures.lines) one two h) c.both_files.ensures

@@ -17,6 +17,14 @@ index-requires c =
     let long : length c.in_ok-places.places.items ≡ length texts = ap length c.in_ok-places.ensures ∙ length-map c.as_slice.result.now (first_place c.as_slice.result.now) ∙ ap length same in
     omega (arith, long, turn.0, c.loop-text.invariant.counted, c.in_ok-places.places.ok.0)
 
+pub put_first-requires : goal.put_first-requires
+put_first-requires c =
+    let texts = c.args.texts.items in
+    let given = c.into_iter-text-iterator.ensures.into_iter_gives in
+    let road = YieldsList-from_vec {s = c.into_iter-text-iterator.result} texts given.0 (given.1 ∙ c.args.texts.ok.0) in
+    let turn = YieldsList-turn road c.loop-text.yielded c.loop-text.text-iterator c.loop-text.yielded_by c.next.result c.next.new.self c.in-Some.text c.in-Some.is c.next.ensures.steps in
+    omega (arith, turn.0, c.loop-text.invariant.counted, c.loop-text.invariant.few, c.loop-text.invariant.room)
+
 pub loop-text-preserved : goal.loop-text-preserved
 loop-text-preserved c =
     let texts = c.args.texts.items in
@@ -34,7 +42,9 @@ loop-text-preserved c =
     c.index.ensures ∙ ap (λ l. get_or l place c.index.result.now) firsts ∙ get_or-map (first_place texts) texts place x c.index.result.now inside ∙ ap (first_place texts) (sym is) in
     record {
       counted = omega (arith, counted, length_push c.loop-text.yielded x);
-      kept = kept_more texts c.loop-text.distinct.items c.put_first.new.distinct.items x place c.index.result.now inside is c.loop-text.invariant.kept first c.in_ok-put_first.ensures;
+      kept = kept_more texts c.loop-text.distinct.items c.put_first.new.distinct.items x place c.index.result.now inside is c.loop-text.invariant.kept first c.put_first.ensures.items;
+      few = omega (arith, c.loop-text.invariant.few, c.put_first.ensures.len);
+      room = omega (arith, c.loop-text.invariant.room, c.put_first.ensures.capacity);
     }
 
 pub returns : goal.returns

@@ -1,4 +1,4 @@
-use Rattle.std.proofs.Common.{◌≡◌, [], length, take}
+use Rattle.std.proofs.Common.{◌≡◌, ◌≤◌, [], length, take, vec_len, vec_capacity}
 use Rattle.relay_aliasfile.specs.DistinctTexts.{with_texts}
 use Rattle.relay_aliasfile.proofs.distinct.distinct_texts.Given as goal
 
@@ -7,4 +7,6 @@ abbrev pub invariant-loop-text : goal.invariant-loop-text
 invariant-loop-text l = record {
   counted : l.place ≡ length l.yielded;
   kept : l.distinct.items ≡ with_texts [] (take l.place l.fn.texts.items);
+  few : vec_len l.distinct ≤ l.place;
+  room : length l.fn.texts.items ≤ vec_capacity l.distinct;
 }

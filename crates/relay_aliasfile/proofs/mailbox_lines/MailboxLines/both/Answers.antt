@@ -1,4 +1,4 @@
 use Rattle.relay_aliasfile.proofs.mailbox_lines.MailboxLines.both.Goals as goal
 
 pub returns : goal.returns
-returns c = rw (c.in_ok-lines.was, c.in_ok-there.was) (c.in_ok-append.ensures.names, c.in_ok-append.ensures.faults)
+returns c = rw (c.in-Ok.is, c.in-Ok-there.is) (c.in_ok-append.ensures.names, c.in_ok-append.ensures.faults)

@@ -1,6 +1,6 @@
 use Rattle.std.proofs.Common.{◌≡◌, ◌+◌, ◌-◌, ◌≤◌, length, take, vec_capacity, vec_len}
 use Rattle.relay_aliasfile.specs.Twins.{texts_of}
-use Rattle.relay_aliasfile.proofs.distinct.bytes_of.Given as goal
+use Rattle.relay_aliasfile.proofs.distinct.places_of.Given as goal
 
 abbrev pub invariant-loop-text : goal.invariant-loop-text
 invariant-loop-text l = record {

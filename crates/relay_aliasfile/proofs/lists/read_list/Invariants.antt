@@ -4,7 +4,7 @@ use Rattle.relay_aliasfile.specs.Items.{good_items, item_texts}
 use Rattle.relay_aliasfile.specs.IncludeFiles.{bad_item_faults}
 use Rattle.relay_aliasfile.specs.ItemTexts.{texts_left}
 use Rattle.relay_aliasfile.specs.Lists.{items_of, faults_of}
-use Rattle.relay_aliasfile.proofs.lists.read_entry_items.Given as goal
+use Rattle.relay_aliasfile.proofs.lists.read_list.Given as goal
 
 -- what was read so far, with what the texts left give, is what all texts give
 abbrev pub invariant-loop-text : goal.invariant-loop-text

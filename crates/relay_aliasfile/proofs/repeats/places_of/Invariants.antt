@@ -1,7 +1,7 @@
 use Rattle.std.proofs.Common.{◌≡◌, ◌+◌, ◌-◌, ◌≤◌, length, map, take, vec_capacity, vec_len}
 use Rattle.relay_aliasfile.specs.Repeats.{entry_name}
 use Rattle.relay_aliasfile.specs.Twins.{texts_of}
-use Rattle.relay_aliasfile.proofs.repeats.names_of.Given as goal
+use Rattle.relay_aliasfile.proofs.repeats.places_of.Given as goal
 
 abbrev pub invariant-loop-entry : goal.invariant-loop-entry
 invariant-loop-entry l = record {
