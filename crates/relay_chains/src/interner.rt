@@ -23,13 +23,25 @@ const ANY_KEY: u64 = 0x243f_6a88_85a3_08d3;
 /// two or three nodes where the hashes spread. Who chooses the texts and knows the key can put them all in one bucket, and then a call
 /// may walk all of them: where texts come from strangers, take a key that they didn't know when they wrote them. Memory is 4 bytes for
 /// each head, which are doubled when there are half as many texts, 16 for each text and the texts' own bytes, which grow by doubling.
-#[derive(Drop)]
 pub struct Interner {
     links: Links,
     ends: Vec<usize>,
     bytes: Vec<u8>,
     key: u64,
     limit: usize,
+}
+
+// Written out: what becomes of a derived drop's parts is followed in each proof that has such a value to its end.
+impl Drop for Interner {
+    fn drop(self) {
+        let Interner {
+            links: _,
+            ends: _,
+            bytes: _,
+            key: _,
+            limit: _,
+        } = self;
+    }
 }
 
 impl Model for Interner {
