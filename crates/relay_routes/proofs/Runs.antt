@@ -1,16 +1,15 @@
 -- Exchangers in rising preference, one run of equal preference after another.
 use Rattle.std.proofs.Common.{◌≡◌, ℕ, suc, ◌+◌, ◌<◌, ◌≤◌, ◌⊎◌, inl, inr, Bool, true, false, not, ◌||◌, ◌&&◌, cond, eqb, ltb, List, [], ◌∷◌, ◌++◌, length, take, drop, map, get_or, Bor, refl, sym, ap, ◌∙◌, subst, filter, arith}
-use Rattle.std.specs.Prelude.{flat_map, Some, None, position, unwrap_or}
+use Rattle.std.specs.Prelude.{flat_map}
 use Rattle.std.specs.List.{list_any, position_or_len}
 use Rattle.std.specs.List.Sorted.{IsPermutation, IsStableBy, IsNonDecreasingBy}
 use Rattle.std.specs.Ordering.{nat_cmp, is_lt}
 use Rattle.std.specs.Str.{bytes_eq}
 use Rattle.std.proofs.lemmas.Bool.{true≢false, eqb-true, eqb-false, ne_eqb, eq-eqb, lt-ltb, ltb-true, ltb-false, cases_order}
 use Rattle.std.proofs.lemmas.Bool.Decides.{nat_tests}
-use Rattle.std.proofs.lemmas.List.{take-append-drop, append-nil, length-take, length-drop, take-map, drop-map}
+use Rattle.std.proofs.lemmas.List.{at_drop_more, at_drop_all, take-append-drop, append-nil, length-take, length-drop, take-map, drop-map}
 use Rattle.std.proofs.lemmas.List.Elements.{filter-append}
 use Rattle.std.proofs.lemmas.List.Sorted.{list_any-IsPermutation}
-use Rattle.std.proofs.lemmas.List.Sums.{prefix_len-le-length}
 use Rattle.relay_text.specs.Bytes.{firsts}
 use Rattle.relay_routes.specs.declared.exchange.Exchange.{Exchange}
 use Rattle.relay_routes.specs.Exchanges.{with_number, ascending_numbers, rotated, hosts_at, in_preference_order}
@@ -291,25 +290,37 @@ end_behind q [] = refl
 end_behind q (r ∷ rs) = ap (λ n. cond (not (q r.now)) (1 + n) 0) (end_behind q rs)
 
 -- The exchangers before the first of another preference are a run.
-pub run_found : (rs : List (Bor Exchange)) (first : Bor Exchange) (n : ℕ) → 0 < length rs → first ≡ get_or rs 0 first → IsRising (preferences (exchanges_of rs))
-    → n ≡ position_or_len (λ r. is_later first.now.preference r.now) rs
+pub run_found : (rs : List (Bor Exchange)) (first : Bor Exchange) (p n : ℕ) → 0 < length rs → first ≡ get_or rs 0 first → p ≡ first.now.preference → IsRising (preferences (exchanges_of rs))
+    → n ≡ position_or_len (λ r. is_later p r.now) rs
     → IsFirstRun (exchanges_of rs) (exchanges_of (take n rs)) (exchanges_of (drop n rs))
-run_found [] first n some is up place = absurd (omega arith)
-run_found (r ∷ rs) first n some is up place =
-    let p = first.now.preference in
-    let same : p ≡ r.now.preference = ap (λ (x : Bor Exchange). x.now.preference) is in
+run_found [] first p n some is p_is up place = absurd (omega arith)
+run_found (r ∷ rs) first p n some is p_is up place =
+    let same : p ≡ r.now.preference = p_is ∙ ap (λ (x : Bor Exchange). x.now.preference) is in
     let at_end : n ≡ run_end p (exchanges_of (r ∷ rs)) = place ∙ end_behind (is_later p) (r ∷ rs) in
     let long : run_end p (exchanges_of (r ∷ rs)) ≡ 1 + run_end p (exchanges_of rs) = ap (λ t. cond (not (not t)) (1 + run_end p (exchanges_of rs)) 0) (eq-eqb r.now.preference p (sym same)) in
     let low : AtLeast p (preferences (exchanges_of (r ∷ rs))) = (omega arith, subst (λ m. AtLeast m (preferences (exchanges_of rs))) (sym same) up.0) in
     rw (← take-map (λ (x : Bor Exchange). x.now) n (r ∷ rs), ← drop-map (λ (x : Bor Exchange). x.now) n (r ∷ rs))
     (first_run p n (exchanges_of (r ∷ rs)) (omega arith) at_end low up (omega arith))
 
--- the first place that passes, or the length
-pub place_of_later : (q : Bor Exchange → Bool) (rs : List (Bor Exchange)) → unwrap_or (position q rs) (length rs) ≡ position_or_len q rs
-place_of_later q rs = by_test (ltb (position_or_len q rs) (length rs)) refl where
-  by_test : (t : Bool) → ltb (position_or_len q rs) (length rs) ≡ t → unwrap_or (cond t (Some (position_or_len q rs)) None) (length rs) ≡ position_or_len q rs
-  by_test true h = refl
-  by_test false h = omega (arith, ltb-false _ _ h, prefix_len-le-length (λ x. not (q x)) rs)
+-- the first place that passes, or the length, while places are tried one after another
+at_place : {X : Type 0} (p : X → Bool) (xs : List X) (n : ℕ) (x : X) → n < length xs → x ≡ get_or xs n x → position_or_len p (drop n xs) ≡ cond (not (p x)) (1 + position_or_len p (drop (n + 1) xs)) 0
+at_place p xs n x within is = at_drop_more (position_or_len p) xs n x within ∙ ap (λ y. position_or_len p (y ∷ drop (n + 1) xs)) (sym is)
+
+pub place_here : {X : Type 0} (p : X → Bool) (xs : List X) (n : ℕ) (x : X) → n < length xs → x ≡ get_or xs n x → p x ≡ true → n + position_or_len p (drop n xs) ≡ position_or_len p xs → n ≡ position_or_len p xs
+place_here p xs n x within is found passed =
+    let here : position_or_len p (drop n xs) ≡ 0 = at_place p xs n x within is ∙ ap (λ t. cond (not t) (1 + position_or_len p (drop (n + 1) xs)) 0) found in
+    omega (arith, here, passed)
+
+pub place_past : {X : Type 0} (p : X → Bool) (xs : List X) (n : ℕ) (x : X) → n < length xs → x ≡ get_or xs n x → p x ≡ false → n + position_or_len p (drop n xs) ≡ position_or_len p xs
+    → (n + 1) + position_or_len p (drop (n + 1) xs) ≡ position_or_len p xs
+place_past p xs n x within is other passed =
+    let past : position_or_len p (drop n xs) ≡ 1 + position_or_len p (drop (n + 1) xs) = at_place p xs n x within is ∙ ap (λ t. cond (not t) (1 + position_or_len p (drop (n + 1) xs)) 0) other in
+    omega (arith, past, passed)
+
+pub place_end : {X : Type 0} (p : X → Bool) (xs : List X) (n : ℕ) → length xs ≤ n → n ≤ length xs → n + position_or_len p (drop n xs) ≡ position_or_len p xs → length xs ≡ position_or_len p xs
+place_end p xs n over within passed =
+    let none : position_or_len p (drop n xs) ≡ 0 = at_drop_all (position_or_len p) xs n over in
+    omega (arith, over, within, none, passed)
 
 -- ---- exchangers whose distinct hosts are the same at each preference
 abbrev pub hosts_of_preference : ℕ → List Exchange → List (List ℕ)

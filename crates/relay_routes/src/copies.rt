@@ -22,10 +22,3 @@ pub(crate) fn joined(alloc: Global, first: &[u8], second: &[u8]) -> Result<Vec<u
     text.extend_from_slice(second)?;
     Ok(text)
 }
-
-/// Two texts in one, folded.
-pub(crate) fn folded_joined(alloc: Global, first: &[u8], second: &[u8]) -> Result<Text, AllocError>
-    ensures { IfOk result (λ text. text ≡ folded first.now ++ folded second.now) }
-{
-    Ok(folded_text(joined(alloc, first, second)?))
-}

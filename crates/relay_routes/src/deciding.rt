@@ -6,7 +6,6 @@ ghost use Rattle.relay_text.specs.Lines.{logical_lines_of};
 ghost use Rattle.relay_text.specs.LogicalLines.{logical_line};
 ghost use Rattle.relay_routes.specs.Transports.{address_key, base_keys, choice_for, choice_of, keys_of, parent_keys, transport_table_of};
 ghost use Rattle.relay_routes.specs.DecidingLines.{deciding_line_of, first_line_at, line_at, good_line_in, result_of};
-ghost use Rattle.relay_routes.specs.TableSteps.{domain_keys};
 
 use crate::pattern::{address_key, is_literal};
 use crate::transport_line::line_of;
@@ -99,16 +98,6 @@ fn add_address_keys(
     Ok(())
 }
 
-// Adds a domain, its parents and `*`.
-fn add_domain_keys(alloc: Global, domain: &[u8], keys: &mut Vec<Text>) -> Result<(), AllocError>
-    ensures { OnOk result (keys.new.items ≡ keys.old.items ++ domain_keys domain.now) }
-{
-    keys.push(Text::copy_of(alloc, domain)?)?;
-    add_parents(alloc, domain, keys)?;
-    keys.push(Text::copy_of(alloc, b"*")?)?;
-    Ok(())
-}
-
 // The keys of an address in the order in which they are tried.
 fn address_keys(
     alloc: Global,
@@ -119,7 +108,9 @@ fn address_keys(
 {
     let mut keys = Vec::new(alloc);
     add_address_keys(alloc, address, delimiter, &mut keys)?;
-    add_domain_keys(alloc, address.domain(), &mut keys)?;
+    keys.push(Text::copy_of(alloc, address.domain())?)?;
+    add_parents(alloc, address.domain(), &mut keys)?;
+    keys.push(Text::copy_of(alloc, b"*")?)?;
     Ok(keys)
 }
 

@@ -65,12 +65,15 @@ impl DomainLines {
             MxRecord::Mx(exchange) => {
                 if exchange.domain.as_bytes() == domain {
                     self.exchangers.push(Numbered { line, exchange })?;
+                } else {
+                    drop(exchange);
                 }
             }
             MxRecord::Address(name) => {
                 if self.address.is_none() && name.as_bytes() == domain {
                     self.address = Some(line);
                 }
+                drop(name);
             }
         }
         Ok(())
@@ -114,23 +117,6 @@ fn own_limit(
     Ok(own_preference(&good, own_names))
 }
 
-// The preference of an exchanger, which takes no more than 16 bits.
-fn preference_of(exchange: &Exchange) -> u16
-    ensures value { result ≡ exchange.now.preference }
-    ensures fits { result < 2 ^ 16 }
-{
-    exchange.preference
-}
-
-// A text that no exchanger of another preference or host has.
-fn key_of(alloc: Global, exchange: &Exchange) -> Result<Vec<u8>, AllocError>
-    ensures { IfOk result (λ key. key.items ≡ exchange_key exchange.now) }
-{
-    let mut key = Vec::from_slice(alloc, &exchange.preference.to_be_bytes())?;
-    key.extend_from_slice(exchange.host.as_bytes())?;
-    Ok(key)
-}
-
 // What becomes of an exchanger, where this is what is known of it.
 fn fate_of(is_null: bool, is_own: bool, is_before: bool, is_new: bool) -> Fate
     ensures { result ≡ fate_by is_null is_own is_before is_new }
@@ -160,7 +146,10 @@ fn with_fates(
     let mut seen = TextSet::new(alloc);
     let mut lines = Vec::with_capacity(alloc, exchangers.len())?;
     for numbered in exchangers {
-        let fate = fate_behind(alloc, &numbered.exchange, limit, own_names, &mut seen)?;
+        let Ok(fate) = fate_behind(alloc, &numbered.exchange, limit, own_names, &mut seen) else {
+            drop(numbered);
+            return Err(AllocError);
+        };
         lines.push(line_with(numbered, fate))?;
     }
     Ok(lines)
@@ -179,9 +168,12 @@ fn fate_behind(
     ensures fate { IfOk result (λ fate. fate ≡ fate_behind own_names.now limit seen.old exchange.now) }
     ensures seen { OnOk result ((q : List ℕ) → has_text seen.new q ≡ (bytes_eq q (exchange_key exchange.now) || has_text seen.old q)) }
 {
-    let is_before = is_within(limit, preference_of(exchange));
+    let is_before = is_within(limit, exchange.preference);
     let is_own = own_names.contains(exchange.host.as_bytes());
-    let is_new = seen.insert(key_of(alloc, exchange)?)?;
+    // No exchanger of another preference or host has this key.
+    let mut key = Vec::from_slice(alloc, &exchange.preference.to_be_bytes())?;
+    key.extend_from_slice(exchange.host.as_bytes())?;
+    let is_new = seen.insert(key)?;
     Ok(fate_of(exchange.is_null(), is_own, is_before, is_new))
 }
 

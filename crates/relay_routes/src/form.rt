@@ -39,8 +39,7 @@ pub(crate) fn form_of(transport: Transport, text: &[u8]) -> Option<Form<'_>>
     ensures { option_map nexthop_from result ≡ nexthop_of transport text.now }
 {
     match transport {
-        Transport::Smtp => Some(Form::Host(host_form(text)?)),
-        Transport::Relay => Some(Form::Host(host_form(text)?)),
+        Transport::Smtp | Transport::Relay => Some(Form::Host(host_form(text)?)),
         Transport::Lmtp => lmtp_form(text),
     }
 }
@@ -64,25 +63,27 @@ fn lmtp_form(text: &[u8]) -> Option<Form<'_>>
     }))
 }
 
-/// The path of `unix:path`.
+/// The path of `unix:path`: a run of at least one byte that prints.
+#[tactic(auto, using(crate::proofs::Readings::is_run_of_some))]
 fn unix_form(text: &[u8]) -> Option<&[u8]>
     ensures { option_map (λ path. at_path path.now) result ≡ unix_form text.now }
 {
     let path = after_word(b"unix:", text)?;
-    if is_path(path) { Some(path) } else { None }
-}
-
-/// A run of at least one byte that prints.
-#[tactic(auto, using(crate::proofs::Readings::is_run_of_some))]
-fn is_path(path: &[u8]) -> bool
-    ensures { result ≡ is_run_of is_ascii_graphic path.now }
-{
-    !path.is_empty() && all_graphic(path)
+    if !path.is_empty() && all_graphic(path) {
+        Some(path)
+    } else {
+        None
+    }
 }
 
 /// Whether every byte prints.
 fn all_graphic(text: &[u8]) -> bool
     ensures { result ≡ list_all is_ascii_graphic text.now }
 {
-    text.iter().all(u8::is_ascii_graphic)
+    for byte in text {
+        if !byte.is_ascii_graphic() {
+            return false;
+        }
+    }
+    true
 }

@@ -112,34 +112,34 @@ pub(crate) fn place_of(byte: u8, text: &[u8]) -> usize
     ensures place { result ≡ position_or_len (λ b. b == byte) text.now }
     ensures within { result ≤ length text.now }
 {
-    text.iter()
-        .position(|other| *other == byte)
-        .unwrap_or(text.len())
+    for (place, other) in text.iter().enumerate() {
+        if *other == byte {
+            return place;
+        }
+    }
+    text.len()
 }
 
-/// Whether a text is nothing, or `:` and a port.
+/// Whether a text is nothing, or `:` and a run of at least one letter, digit or hyphen: a number or a service's name.
+#[tactic(auto, using(crate::proofs::Readings::is_run_of_some))]
 fn is_port(text: &[u8]) -> bool
     ensures { result ≡ is_port text.now }
 {
     match text {
         [] => true,
-        [b':', port @ ..] => is_port_name(port),
+        [b':', port @ ..] => !port.is_empty() && all_port_bytes(port),
         _ => false,
     }
-}
-
-/// A run of at least one letter, digit or hyphen: a number or a service's name.
-#[tactic(auto, using(crate::proofs::Readings::is_run_of_some))]
-fn is_port_name(port: &[u8]) -> bool
-    ensures { result ≡ is_run_of (λ b. is_ascii_alphanumeric b || (b == 45)) port.now }
-{
-    !port.is_empty() && all_port_bytes(port)
 }
 
 /// Whether every byte is a letter, a digit or a hyphen.
 fn all_port_bytes(text: &[u8]) -> bool
     ensures { result ≡ list_all (λ b. is_ascii_alphanumeric b || (b == 45)) text.now }
 {
-    text.iter()
-        .all(|byte| byte.is_ascii_alphanumeric() || *byte == b'-')
+    for byte in text {
+        if !byte.is_ascii_alphanumeric() && *byte != b'-' {
+            return false;
+        }
+    }
+    true
 }

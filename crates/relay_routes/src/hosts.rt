@@ -6,9 +6,15 @@ use std::marker::Model;
 
 /// Host names in the order in which they are tried, each with its `:port` if one is given. Contracts see them as their list. Up to two
 /// lie in the value itself, more of them in memory of their own.
-#[derive(Drop)]
 pub struct Hosts {
     hosts: SmallVec<Text, 2, Global>,
+}
+
+// Written out: what becomes of a derived drop's parts is followed in each proof that has such a value to its end.
+impl Drop for Hosts {
+    fn drop(self) {
+        let Hosts { hosts: _ } = self;
+    }
 }
 
 impl Model for Hosts {
@@ -67,7 +73,9 @@ impl Hosts {
             return Ok(self);
         }
         let port = Text::folded_copy_of(alloc, port)?;
-        self.each_followed_by(alloc, port.as_bytes())
+        let hosts = self.each_followed_by(alloc, port.as_bytes());
+        drop(port);
+        hosts
     }
 
     /// The hosts, each with a text behind it.
@@ -89,13 +97,6 @@ impl Hosts {
         let mut longer = host;
         longer.append(alloc, text)?;
         self.push(longer)
-    }
-
-    /// Whether there is none.
-    pub(crate) fn is_empty(&self) -> bool
-        ensures { result ≡ (length self.now == 0) }
-    {
-        self.hosts.is_empty()
     }
 
     /// Copies of the hosts.

@@ -35,15 +35,13 @@ impl DistinctHosts {
     pub(crate) fn with_room(alloc: Global, count: usize) -> Result<DistinctHosts, AllocError>
         ensures { IfOk result (λ hosts. hosts ≡ []) }
     {
+        let hosts = Vec::with_capacity(alloc, count)?;
         let seen = if count > FEW_HOSTS {
             Some(TextSet::new(alloc))
         } else {
             None
         };
-        Ok(DistinctHosts {
-            hosts: Vec::with_capacity(alloc, count)?,
-            seen,
-        })
+        Ok(DistinctHosts { hosts, seen })
     }
 
     /// Adds a host, where it isn't there already.
@@ -55,7 +53,10 @@ impl DistinctHosts {
         }
         self.hosts.reserve(1)?;
         let text = Text::copy_of(alloc, host)?;
-        see(alloc, &mut self.seen, host)?;
+        let Ok(()) = see(alloc, &mut self.seen, host) else {
+            drop(text);
+            return Err(AllocError);
+        };
         self.hosts.push_reserved(text);
         Ok(())
     }
@@ -64,10 +65,15 @@ impl DistinctHosts {
     fn has(&self, host: &[u8]) -> bool
         ensures { result ≡ has_text self.now host.now }
     {
-        match &self.seen {
-            Some(seen) => seen.contains(host),
-            None => self.hosts.iter().any(|text| text.as_bytes() == host),
+        if let Some(seen) = &self.seen {
+            return seen.contains(host);
         }
+        for text in &self.hosts {
+            if host == text.as_bytes() {
+                return true;
+            }
+        }
+        false
     }
 
     pub(crate) fn into_vec(self) -> Vec<Text>

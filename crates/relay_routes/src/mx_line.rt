@@ -64,7 +64,10 @@ fn exchange_record(
     match preference_of(number) {
         Some(preference) if domain.is_domain_name() && is_exchange_host(preference, host) => {
             let domain = domain.folded_copy(alloc)?;
-            let host = host.folded_copy(alloc)?;
+            let Ok(host) = host.folded_copy(alloc) else {
+                drop(domain);
+                return Err(AllocError);
+            };
             Ok(Some(MxRecord::Mx(Exchange {
                 domain,
                 preference,

@@ -115,21 +115,11 @@ fn has_address_at(records: &[MxRecord], places: Walk<'_>) -> bool
     ensures { result ≡ list_any (is_address_at records.now) (walk_rest places.entry) }
 {
     for place in places {
-        if is_address_at(records, place as usize) {
+        if let Some(MxRecord::Address(_)) = records.get(place as usize) {
             return true;
         }
     }
     false
-}
-
-/// Whether the record at a place says that its domain has an address.
-fn is_address_at(records: &[MxRecord], place: usize) -> bool
-    ensures { result ≡ is_address_at records.now place }
-{
-    match records.get(place) {
-        Some(MxRecord::Address(_)) => true,
-        _ => false,
-    }
 }
 
 /// The number of each record's domain. New domains get the next numbers.

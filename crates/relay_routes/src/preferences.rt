@@ -3,7 +3,7 @@ ghost use Rattle.std.specs.Prelude.{◌≡◌, ◌<◌, ◌≤◌, ◌++◌, not
 ghost use Rattle.std.specs.Str.{bytes_eq};
 ghost use Rattle.relay_text.specs.Bytes.{firsts};
 ghost use Rattle.relay_routes.specs.Exchanges.{is_null, in_preference_order, rotated};
-ghost use Rattle.relay_routes.specs.Preferences.{exchanges_of, is_within, with_hosts, with_own, least_own, IsRising, IsFirstRun};
+ghost use Rattle.relay_routes.specs.Preferences.{exchanges_of, is_within, least_own, IsRising, IsFirstRun};
 
 use crate::exchange::Exchange;
 use crate::hosts::Hosts;
@@ -37,20 +37,11 @@ pub(crate) fn own_preference(exchangers: &[&Exchange], own_names: &TextSet) -> O
 {
     let mut least = None;
     for exchange in exchangers {
-        least = with_own(own_names, least, exchange);
+        if own_names.contains(exchange.host.as_bytes()) && is_within(least, exchange.preference) {
+            least = Some(exchange.preference);
+        }
     }
     least
-}
-
-/// The least such preference so far, with one more exchanger.
-fn with_own(own_names: &TextSet, least: Option<u16>, exchange: &Exchange) -> Option<u16>
-    ensures { result ≡ with_own own_names.now least exchange.now }
-{
-    if own_names.contains(exchange.host.as_bytes()) && is_within(least, exchange.preference) {
-        Some(exchange.preference)
-    } else {
-        least
-    }
 }
 
 /// Whether a preference comes before a limit, if there is one.
@@ -100,10 +91,12 @@ fn run_len(exchangers: &[&Exchange]) -> usize
     ensures run { IsFirstRun (exchanges_of exchangers.now) (exchanges_of (take result exchangers.now)) (exchanges_of (drop result exchangers.now)) }
 {
     let preference = exchangers[0].preference;
-    exchangers
-        .iter()
-        .position(|exchange| exchange.preference != preference)
-        .unwrap_or(exchangers.len())
+    for (place, exchange) in exchangers.iter().enumerate() {
+        if exchange.preference != preference {
+            return place;
+        }
+    }
+    exchangers.len()
 }
 
 /// Puts the hosts of exchangers of one preference at the end: each once, rotated.
@@ -122,31 +115,12 @@ fn rotated_hosts(alloc: Global, run: &[&Exchange], seed: u64) -> Result<Vec<Text
     requires { 0 < length run.now }
     ensures { IfOk result (λ hosts. hosts.items ≡ rotated seed (firsts bytes_eq (map (λ e. e.host) (exchanges_of run.now)))) }
 {
-    let mut hosts = distinct_hosts(alloc, run)?;
+    let mut distinct = DistinctHosts::with_room(alloc, run.len())?;
+    for exchange in run {
+        distinct.add(alloc, exchange.host.as_bytes())?;
+    }
+    let mut hosts = distinct.into_vec();
     let turn = seed % hosts.len() as u64;
     hosts.rotate_left(turn as usize);
     Ok(hosts)
-}
-
-/// The hosts of exchangers, each by its first place.
-fn distinct_hosts(alloc: Global, exchangers: &[&Exchange]) -> Result<Vec<Text>, AllocError>
-    ensures { IfOk result (λ hosts. hosts.items ≡ firsts bytes_eq (map (λ e. e.host) (exchanges_of exchangers.now))) }
-{
-    let mut hosts = DistinctHosts::with_room(alloc, exchangers.len())?;
-    add_hosts(alloc, exchangers, &mut hosts)?;
-    Ok(hosts.into_vec())
-}
-
-/// Adds the hosts of exchangers.
-fn add_hosts(
-    alloc: Global,
-    exchangers: &[&Exchange],
-    hosts: &mut DistinctHosts,
-) -> Result<(), AllocError>
-    ensures { OnOk result (hosts.new ≡ with_hosts hosts.old (map (λ e. e.host) (exchanges_of exchangers.now))) }
-{
-    for exchange in exchangers {
-        hosts.add(alloc, exchange.host.as_bytes())?;
-    }
-    Ok(())
 }

@@ -8,7 +8,7 @@ ghost use Rattle.relay_routes.specs.Routing.{Routing};
 ghost use Rattle.relay_routes.specs.Routes.{route_to, route_with, route_of, route_via_of};
 ghost use Rattle.relay_routes.specs.Destinations.{destination_of, destination_via_of, Determines};
 
-use crate::copies::{folded_joined, joined};
+use crate::copies::{folded_text, joined};
 use crate::host_form::HostForm;
 use crate::hosts::Hosts;
 use crate::transport::Transport;
@@ -29,10 +29,15 @@ impl Route {
     pub fn copy(&self, alloc: Global) -> Result<Route, AllocError>
         ensures { IfOk result (λ route. route ≡ self.now) }
     {
+        let nexthop = Text::copy_of(alloc, self.nexthop.as_bytes())?;
+        let Ok(hosts) = self.hosts.copy(alloc) else {
+            drop(nexthop);
+            return Err(AllocError);
+        };
         Ok(Route {
             transport: self.transport,
-            nexthop: Text::copy_of(alloc, self.nexthop.as_bytes())?,
-            hosts: self.hosts.copy(alloc)?,
+            nexthop,
+            hosts,
         })
     }
 }
@@ -70,8 +75,14 @@ pub(crate) fn route_to_host(
     ensures { IfOk result (λ r. r ≡ record { transport = transport; nexthop = (hosted form.now).text; hosts = ((hosted form.now).host ++ (hosted form.now).port) ∷ [] }) }
 {
     let nexthop = Text::folded_copy_of(alloc, form.text)?;
-    let host = folded_joined(alloc, form.host, form.port)?;
-    let hosts = Hosts::one(alloc, host)?;
+    let Ok(host) = joined(alloc, form.host, form.port) else {
+        drop(nexthop);
+        return Err(AllocError);
+    };
+    let Ok(hosts) = Hosts::one(alloc, folded_text(host)) else {
+        drop(nexthop);
+        return Err(AllocError);
+    };
     Ok(Route {
         transport,
         nexthop,

@@ -101,18 +101,12 @@ impl<'r> RouteFinder<'r> {
         ensures route { Answers result (route_by self.old transport (Some (hosted form.now))) }
         ensures kept { self.new ≡ self.old }
     {
-        let exchangers = self.exchangers(alloc, form.host)?;
+        let domain = Text::folded_copy_of(alloc, form.host)?;
+        let exchangers = self.exchangers_of_domain(alloc, domain.as_bytes());
+        drop(domain);
+        let exchangers = exchangers?;
         let route = route_to_exchangers(alloc, transport, form, exchangers)?;
         Ok(route)
-    }
-
-    /// The mail exchangers of a host.
-    fn exchangers(&mut self, alloc: Global, host: &[u8]) -> Result<Hosts, Unrouted>
-        ensures exchangers { Answers result (exchangers_of self.old (folded host.now)) }
-        ensures kept { self.new ≡ self.old }
-    {
-        let domain = Text::folded_copy_of(alloc, host)?;
-        self.exchangers_of_domain(alloc, domain.as_bytes())
     }
 
     /// The mail exchangers of a domain, which is given in lower case.
@@ -123,14 +117,6 @@ impl<'r> RouteFinder<'r> {
         if let Some(number) = self.domains.find(domain) {
             return copy_of(alloc, &self.found[number as usize])?;
         }
-        self.looked_up(alloc, domain)
-    }
-
-    /// The same, where they were not looked up yet.
-    fn looked_up(&mut self, alloc: Global, domain: &[u8]) -> Result<Hosts, Unrouted>
-        ensures exchangers { Answers result (exchangers_of self.old domain.now) }
-        ensures kept { self.new ≡ self.old }
-    {
         let found = self.router.exchangers(alloc, domain);
         if let Err(Unrouted::Memory) = found {
             return found;
@@ -139,7 +125,7 @@ impl<'r> RouteFinder<'r> {
         found
     }
 
-    /// Keeps a copy of what was found of a domain.
+    /// Keeps a copy of what was found of a domain. `Err` where memory runs out, or the numbers of domains do.
     fn keep_copy(
         &mut self,
         alloc: Global,
@@ -150,20 +136,12 @@ impl<'r> RouteFinder<'r> {
         ensures { self.new ≡ self.old }
     {
         let copy = copy_of(alloc, found)?;
-        self.keep(domain, copy)
-    }
-
-    /// Keeps what was found of a domain. `Err` where memory runs out, or the numbers of domains do.
-    fn keep(&mut self, domain: &[u8], found: Result<Hosts, Unrouted>) -> Result<(), AllocError>
-        requires { found ≡ exchangers_of self.old domain.now }
-        ensures { self.new ≡ self.old }
-    {
         self.found.reserve(1)?;
         let Ok((_, is_new)) = self.domains.intern(domain) else {
             return Err(AllocError);
         };
         if is_new {
-            self.found.push_reserved(found);
+            self.found.push_reserved(copy);
         }
         Ok(())
     }

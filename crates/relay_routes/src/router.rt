@@ -15,12 +15,23 @@ use std::alloc::{AllocError, Global};
 use std::marker::Model;
 
 /// What finds the route of an address.
-#[derive(Drop)]
 pub struct Router {
     settings: RouteSettings,
     own_names: TextSet,
     transports: TransportTable,
     exchanges: MxTable,
+}
+
+// Written out: what becomes of a derived drop's parts is followed in each proof that has such a value to its end.
+impl Drop for Router {
+    fn drop(self) {
+        let Router {
+            settings: _,
+            own_names: _,
+            transports: _,
+            exchanges: _,
+        } = self;
+    }
 }
 
 impl Model for Router {
@@ -118,7 +129,9 @@ impl Router {
         ensures { Answers result (route_of self.now address.now) }
     {
         let to = self.destination(alloc, address)?;
-        self.route_to(alloc, to.transport, to.nexthop.as_bytes())
+        let route = self.route_to(alloc, to.transport, to.nexthop.as_bytes());
+        drop(to.nexthop);
+        route
     }
 
     /// The route of a mailbox, by its setting.
@@ -128,7 +141,9 @@ impl Router {
         ensures { Answers result (route_via_of self.now via.now address.now) }
     {
         let to = self.destination_via(alloc, via, address)?;
-        self.route_to(alloc, to.transport, to.nexthop.as_bytes())
+        let route = self.route_to(alloc, to.transport, to.nexthop.as_bytes());
+        drop(to.nexthop);
+        route
     }
 
     /// The route by a transport to a nexthop, which may stand as a table or a setting writes it or as the plan does.
@@ -179,7 +194,9 @@ impl Router {
             return Ok(route);
         }
         let domain = Text::folded_copy_of(alloc, form.host)?;
-        let exchangers = self.exchangers(alloc, domain.as_bytes())?;
+        let exchangers = self.exchangers(alloc, domain.as_bytes());
+        drop(domain);
+        let exchangers = exchangers?;
         let route = route_to_exchangers(alloc, transport, form, exchangers)?;
         Ok(route)
     }

@@ -12,7 +12,6 @@ ghost use Rattle.std.specs.Prelude.{◌≡◌, ◌&&◌, not, drop, Some, None, 
 ghost use Rattle.std.specs.List.{list_all};
 ghost use Rattle.relay_text.specs.Bytes.{is_white, begins_with};
 ghost use Rattle.relay_routes.specs.Transports.{line_of, is_result, is_result_byte};
-ghost use Rattle.relay_routes.specs.TableSteps.{line_with};
 
 use crate::field::Field;
 use crate::pattern::pattern_of;
@@ -25,23 +24,15 @@ pub(crate) fn line_of(alloc: Global, line: &[u8]) -> Result<Option<TransportLine
 {
     let field = Field::at_front(line);
     let text = trimmed(&line[field.text().len()..]);
-    line_with(alloc, &field, text)
-}
-
-/// The line of a pattern's field and the text of a result. `None` where they are none.
-fn line_with(
-    alloc: Global,
-    field: &Field<'_>,
-    text: &[u8],
-) -> Result<Option<TransportLine>, AllocError>
-    ensures { IfOk result (λ read. read ≡ line_with field.now text.now) }
-{
     if !is_result(text) {
         return Ok(None);
     }
-    match pattern_of(alloc, field)? {
+    match pattern_of(alloc, &field)? {
         Some(pattern) => {
-            let result = Text::copy_of(alloc, text)?;
+            let Ok(result) = Text::copy_of(alloc, text) else {
+                drop(pattern);
+                return Err(AllocError);
+            };
             Ok(Some(TransportLine { pattern, result }))
         }
         None => Ok(None),
@@ -66,13 +57,22 @@ fn is_result(text: &[u8]) -> bool
 fn all_visible(text: &[u8]) -> bool
     ensures { result ≡ list_all (λ b. is_result_byte b && not (is_white b)) text.now }
 {
-    text.iter().all(|byte| *byte > b' ' && *byte <= 126)
+    for byte in text {
+        if *byte <= b' ' || *byte > 126 {
+            return false;
+        }
+    }
+    true
 }
 
 /// Whether every byte prints, or is white space.
 fn all_result_bytes(text: &[u8]) -> bool
     ensures { result ≡ list_all is_result_byte text.now }
 {
-    text.iter()
-        .all(|byte| *byte == b'\t' || (*byte >= 32 && *byte <= 126))
+    for byte in text {
+        if *byte != b'\t' && (*byte < 32 || *byte > 126) {
+            return false;
+        }
+    }
+    true
 }

@@ -5,13 +5,24 @@ use relay_chains::Interner;
 use std::marker::Model;
 
 /// A transport table (transport(5)): patterns, each with what it says of the addresses that it fits, and the lines at fault.
-#[derive(Drop)]
 pub struct TransportTable {
     entries: Vec<TransportLine>,
     patterns: Interner,
     faults: Vec<LineFault>,
     /// Whether a pattern has an `@`, as that of an address has. Most tables have none, and then no address is written as a key.
     has_addresses: bool,
+}
+
+// Written out: what becomes of a derived drop's parts is followed in each proof that has such a value to its end.
+impl Drop for TransportTable {
+    fn drop(self) {
+        let TransportTable {
+            entries: _,
+            patterns: _,
+            faults: _,
+            has_addresses: _,
+        } = self;
+    }
 }
 
 impl Model for TransportTable {
@@ -104,29 +115,21 @@ impl TransportTable {
             return Ok(self.found_at_domain(address.domain()));
         }
         let key = address_key(alloc, address.local(), address.domain())?;
-        match self.result_at(key.as_bytes()) {
-            Some(result) => Ok(Some(result)),
-            None => self.found_later(alloc, address, delimiter),
+        let found = self.result_at(key.as_bytes());
+        drop(key);
+        if found.is_some() {
+            return Ok(found);
         }
-    }
-
-    /// The same, past the whole address.
-    fn found_later(
-        &self,
-        alloc: Global,
-        address: &Address,
-        delimiter: Option<u8>,
-    ) -> Result<Option<&[u8]>, AllocError>
-        ensures { IfOk result (λ found. option_map (λ text. text.now) found ≡ found_result self.now.entries (later_keys address.now delimiter)) }
-    {
         let Some(place) = split_place(address.local(), delimiter) else {
             return Ok(self.found_at_domain(address.domain()));
         };
         let key = address_key(alloc, &address.local()[..place], address.domain())?;
-        match self.result_at(key.as_bytes()) {
-            Some(result) => Ok(Some(result)),
-            None => Ok(self.found_at_domain(address.domain())),
+        let found = self.result_at(key.as_bytes());
+        drop(key);
+        if found.is_some() {
+            return Ok(found);
         }
+        Ok(self.found_at_domain(address.domain()))
     }
 
     /// The same, of a domain, its parents and `*`.
@@ -177,7 +180,13 @@ impl TransportTable {
         ensures { IfOk result (λ table. table ≡ record { entries = []; faults = map (λ number. fault number BadLine) orphans.now }) }
     {
         let heads = bytes.len() / BYTES_FOR_HEAD + 1;
-        let faults = faults_of(alloc, orphans)?;
+        let mut faults = Vec::with_capacity(alloc, orphans.len())?;
+        for number in orphans {
+            faults.push(LineFault {
+                line: *number,
+                kind: FaultKind::BadLine,
+            })?;
+        }
         Ok(TransportTable {
             entries: Vec::with_capacity(alloc, bytes.len() / BYTES_FOR_LINE)?,
             patterns: Interner::with_key(alloc, key_of(bytes), heads, MOST_TEXTS)?,
@@ -200,11 +209,16 @@ impl TransportTable {
     fn add_entry(&mut self, number: usize, entry: TransportLine) -> Result<(), AllocError>
         ensures { OnOk result (self.new ≡ with_line self.old number (Some entry)) }
     {
-        self.entries.reserve(1)?;
+        let Ok(()) = self.entries.reserve(1) else {
+            drop(entry);
+            return Err(AllocError);
+        };
         let Ok((_, is_new)) = self.patterns.intern(entry.pattern.as_bytes()) else {
+            drop(entry);
             return Err(AllocError);
         };
         if !is_new {
+            drop(entry);
             return self.add_fault(number, FaultKind::Duplicate);
         }
         self.has_addresses = self.has_addresses || entry.pattern.as_bytes().contains(&b'@');
@@ -219,18 +233,4 @@ impl TransportTable {
         self.faults.push(LineFault { line: number, kind })?;
         Ok(())
     }
-}
-
-/// The faults of lines that continue none.
-fn faults_of(alloc: Global, orphans: &[usize]) -> Result<Vec<LineFault>, AllocError>
-    ensures { IfOk result (λ faults. faults.items ≡ map (λ number. fault number BadLine) orphans.now) }
-{
-    let mut faults = Vec::with_capacity(alloc, orphans.len())?;
-    for number in orphans {
-        faults.push(LineFault {
-            line: *number,
-            kind: FaultKind::BadLine,
-        })?;
-    }
-    Ok(faults)
 }

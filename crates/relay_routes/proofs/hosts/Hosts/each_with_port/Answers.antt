@@ -16,4 +16,4 @@ returns-then-is_empty c =
 
 pub returns : goal.returns
 returns c =
-    IfOk-weaker c.each_followed_by.result _ _ (λ made is. is ∙ ap (λ (port : List ℕ). map (λ (host : List ℕ). host ++ port) c.args.self) (c.as_bytes.ensures ∙ c.in_ok-port.ensures)) c.each_followed_by.ensures
+    IfOk-weaker c.each_followed_by-hosts.result _ _ (λ made is. is ∙ ap (λ (port : List ℕ). map (λ (host : List ℕ). host ++ port) c.args.self) (c.as_bytes.ensures ∙ c.in_ok-port.ensures)) c.each_followed_by-hosts.ensures

@@ -8,4 +8,4 @@ returns-in_err-to c =
     not_found (of_mailbox c.args.self.now c.args.via.now c.args.address.now) left.1 left.2 c.in_err-to.ensures
 
 pub returns : goal.returns
-returns c = answered c.route_to.result (of_mailbox c.args.self.now c.args.via.now c.args.address.now) c.in_ok-to.ensures c.as_bytes.ensures c.route_to.ensures
+returns c = answered c.route_to-route.result (of_mailbox c.args.self.now c.args.via.now c.args.address.now) c.in_ok-to.ensures c.as_bytes.ensures c.route_to-route.ensures
