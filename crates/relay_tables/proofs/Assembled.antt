@@ -1,10 +1,9 @@
 -- The parts of a graph put together.
-use Rattle.std.proofs.Common.{◌≡◌, ◌≢◌, ℕ, zero, suc, ◌+◌, ◌-◌, ◌<◌, ◌≤◌, Bool, false, cond, eqb, ltb, Option, Some, None, Result, Ok, Err, List, [], ◌∷◌, ◌++◌, length, map, get_or, slice_get, refl, sym, ap, ◌∙◌, subst, arith, inl, inr}
-use Rattle.std.specs.Prelude.{AllPairs, Contains, filter, unwrap_or, option_and_then, OnOk}
+use Rattle.std.proofs.Common.{◌≡◌, ◌≢◌, ℕ, zero, suc, ◌+◌, ◌-◌, ◌<◌, ◌≤◌, Bool, false, cond, eqb, ltb, Option, Some, None, Err, List, [], ◌∷◌, ◌++◌, length, map, get_or, slice_get, refl, sym, ap, ◌∙◌, subst, arith, inl, inr}
+use Rattle.std.specs.Prelude.{AllPairs, Contains, filter, unwrap_or, option_and_then}
 use Rattle.std.specs.List.{All, concat, flat_map, list_any, range_with_len}
 use Rattle.std.proofs.lemmas.Bool.{cases_lt, cond-true, cond-false, lt-ltb, le-ltb}
-use Rattle.std.proofs.lemmas.List.{append-nil, append_assoc, map-append, length-map, length-append, get_or-map, get_or_append_left}
-use Rattle.std.proofs.lemmas.List.Concat.{flat_map-append}
+use Rattle.std.proofs.lemmas.List.{append-nil, append_assoc, length-map, length-append, get_or-map, get_or_append_left}
 use Rattle.std.proofs.lemmas.List.Elements.{All-nil, All-cons, All-append, filter-append}
 use Rattle.std.proofs.lemmas.List.FromFn.{get_or-map-range_with_len}
 use Rattle.std.proofs.lemmas.Option.{same_Some, slice_get_past, slice_get_within, slice_get-get_or, get_or_from_slice_get, unwrap_or-slice_get}
@@ -22,7 +21,7 @@ use Rattle.relay_tables.specs.Targets.{alias_number, item_target, items_of_entry
 use Rattle.relay_tables.specs.Senders.{Sender, owner_name, owner_entry, sender_or, sender_past}
 use Rattle.relay_tables.specs.Graphs.{entry_nodes, nodes_of, owner_count, refusal_of, IsGraphOf, Refuses}
 use Rattle.relay_tables.specs.Numbering.{Numbered, Numbers, with_nodes, with_all}
-use Rattle.relay_tables.specs.Rowing.{nodes_in, some_of, LeadTo, Adds}
+use Rattle.relay_tables.specs.Rowing.{nodes_in, some_of, LeadTo}
 use Rattle.relay_tables.specs.Sending.{IsOwnedBy, AreOwned}
 use Rattle.relay_tables.specs.Building.{AreParents, AreRows}
 use Rattle.relay_tables.proofs.Cuts.{row-past}
@@ -30,7 +29,7 @@ use Rattle.relay_tables.proofs.Runs.{range_more}
 use Rattle.relay_tables.proofs.Turning.{map_after}
 use Rattle.relay_tables.proofs.Firsts.{firsts-from, firsts-distinct, grows, no_fewer, with_nodes-append}
 use Rattle.relay_tables.proofs.Numbers.{length-entries, entry_alias, entry_include}
-use Rattle.relay_tables.proofs.RowSteps.{rows_stay, too_many, refused, with_all-none, with_all-more}
+use Rattle.relay_tables.proofs.RowSteps.{rows_stay, too_many, with_all-more}
 
 -- numbers past the rows are in none
 filter_past : (q : ℕ → Bool) (a m : ℕ) → ((k : ℕ) → a ≤ k → q k ≡ false) → filter q (range_with_len 0 (a + m)) ≡ filter q (range_with_len 0 a)
@@ -232,52 +231,8 @@ module _ (d : Directory) where
       ∙ cond-false (ltb owners (owner_count d)) (Some TooManyOwners) None (le-ltb owners (owner_count d) fewer)
 
 module _ (d : Directory) where
-  abbrev alias_rows : List (List Node)
-  alias_rows = map (λ n. targets_of d (Alias n)) (range_with_len 0 (length d.aliases))
-
-  abbrev include_rows : List (List Node)
-  include_rows = map (λ n. targets_of d (Include n)) (range_with_len 0 (length d.includes))
-
-  abbrev alias_all : List Node
-  alias_all = flat_map (λ n. targets_of d (Alias n)) (range_with_len 0 (length d.aliases))
-
-  abbrev include_all : List Node
-  include_all = flat_map (λ n. targets_of d (Include n)) (range_with_len 0 (length d.includes))
-
   abbrev pub entries_all : List Node
   entries_all = flat_map (targets_of d) (entry_nodes d)
-
-  flat_made : (f : ℕ → Node) (ks : List ℕ) → flat_map (targets_of d) (map f ks) ≡ flat_map (λ n. targets_of d (f n)) ks
-  flat_made f [] = refl
-  flat_made f (k ∷ ks) = ap (λ (xs : List Node). targets_of d (f k) ++ xs) (flat_made f ks)
-
-  flat_entries : entries_all ≡ alias_all ++ include_all
-  flat_entries =
-      flat_map-append (targets_of d) (map Alias (range_with_len 0 (length d.aliases))) (map Include (range_with_len 0 (length d.includes)))
-      ∙ ap (λ (xs : List Node). xs ++ flat_map (targets_of d) (map Include (range_with_len 0 (length d.includes)))) (flat_made Alias (range_with_len 0 (length d.aliases)))
-      ∙ ap (λ (xs : List Node). alias_all ++ xs) (flat_made Include (range_with_len 0 (length d.includes)))
-
-  rows_entries : map (targets_of d) (entry_nodes d) ≡ alias_rows ++ include_rows
-  rows_entries =
-      map-append (targets_of d) (map Alias (range_with_len 0 (length d.aliases))) (map Include (range_with_len 0 (length d.includes)))
-      ∙ ap (λ (xs : List (List Node)). xs ++ map (targets_of d) (map Include (range_with_len 0 (length d.includes)))) (map_after (targets_of d) Alias (λ n. targets_of d (Alias n)) (λ n. refl) (range_with_len 0 (length d.aliases)))
-      ∙ ap (λ (xs : List (List Node)). alias_rows ++ xs) (map_after (targets_of d) Include (λ n. targets_of d (Include n)) (λ n. refl) (range_with_len 0 (length d.includes)))
-
-  -- where the aliases' targets aren't numbered, those of the entries aren't
-  pub aliases_refused : (e : TableFault) (s end new : Numbered) → Numbers {A = Unit {0}} s alias_all (Err e) end → Numbers {A = Unit {0}} s entries_all (Err e) new
-  aliases_refused e s end new h = refused (Unit {0}) (Unit {0}) e s s end new [] alias_all include_all entries_all (sym (with_all-none s)) flat_entries h
-
-  -- the include files' targets after those of the aliases
-  pub entries_numbered : (r : Result (Unit {0}) TableFault) (s s1 s2 : Numbered) → s1 ≡ with_all s alias_all → Numbers s1 include_all r s2 → Numbers s entries_all r s2
-  entries_numbered (Ok x) s s1 s2 one two = with_all-more s s1 s2 alias_all include_all entries_all one two flat_entries
-  entries_numbered (Err e) s s1 s2 one h =
-      refused (Unit {0}) (Unit {0}) e s s1 s2 s2 alias_all include_all [] entries_all one (flat_entries ∙ sym (append-nil (alias_all ++ include_all))) h
-
-  -- the rows of the include files after those of the aliases
-  pub entries_lead : (r : Result (Unit {0}) TableFault) (nodes nodes1 nodes2 : List Node) (r0 r1 r2 : List (List ℕ)) → r0 ≡ [] → Adds nodes r0 alias_rows nodes1 r1 → OnOk r (Adds nodes1 r1 include_rows nodes2 r2)
-      → OnOk r (LeadTo nodes2 r2 (map (targets_of d) (entry_nodes d)))
-  entries_lead (Ok x) nodes nodes1 nodes2 r0 r1 r2 none first second = second alias_rows (first [] (ap (map (nodes_in nodes)) none)) ∙ ap (map some_of) (sym rows_entries)
-  entries_lead (Err e) nodes nodes1 nodes2 r0 r1 r2 none first second = tt
 
 module _ (d : Directory) (recipients : List AddressParts) where
   abbrev pub roots_all : List Node

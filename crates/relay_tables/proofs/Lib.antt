@@ -22,3 +22,4 @@ pub mod GraphsFrom
 pub mod Counts
 pub mod Found
 pub mod Looks
+pub mod EntrySteps

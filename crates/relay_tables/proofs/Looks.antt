@@ -12,13 +12,11 @@ use Rattle.relay_text.specs.Bytes.{folded}
 use Rattle.relay_text.specs.AddressParts.{AddressParts}
 use Rattle.relay_aliasfile.specs.declared.item.Item.{Item}
 use Rattle.relay_aliasfile.specs.declared.item.Item.TheVariants.{Bare, Full, Include as Included, Command as Piped, File as Stored}
-use Rattle.relay_aliasfile.specs.declared.entry.Entry.{Entry}
-use Rattle.relay_tables.specs.declared.include_entry.IncludeEntry.{IncludeEntry}
 use Rattle.relay_tables.specs.declared.target.Target.{Target}
 use Rattle.relay_tables.specs.declared.node.Node.{Node}
 use Rattle.relay_tables.specs.declared.node.Node.TheVariants.{Alias, Include, Remote}
 use Rattle.relay_tables.specs.Directory.{Directory}
-use Rattle.relay_tables.specs.Targets.{is_local_address, name_target, address_target, item_target, items_of_entry, items_of_include}
+use Rattle.relay_tables.specs.Targets.{is_local_address, name_target, address_target, item_target}
 use Rattle.relay_tables.specs.Graphs.{entry_nodes}
 use Rattle.relay_tables.specs.Rowing.{nodes_in, some_of}
 use Rattle.relay_tables.specs.Looking.{name_found, address_found, item_found, node_found, found_from, address_node, item_node, AreFirst}
@@ -62,19 +60,6 @@ module _ (d : Directory) where
   unfolding found_from
   found_none k past = ap (flat_map (node_found d)) (drop_all k (entry_nodes d) (omega (arith, length-entries (length d.aliases) (length d.includes))))
 
--- what is found for the items of an alias, and of an include file
-pub alias_found : (d : Directory) (k : ℕ) (entries : List Entry) (x : Entry) (items : List Item) → entries ≡ d.aliases → k < length entries → x ≡ get_or entries k x → items ≡ (get_or entries k x).items
-    → node_found d (Alias k) ≡ map (item_found d (Some k)) items
-alias_found d k entries x items are below at is =
-    let there : slice_get d.aliases k ≡ Some x = ap (λ (es : List Entry). slice_get es k) (sym are) ∙ slice_get_read entries (length entries) k x refl below at in
-    ap (λ (e : Option Entry). map (item_found d (Some k)) (items_of_entry d e)) there ∙ ap (map (item_found d (Some k))) (sym (is ∙ ap (λ (e : Entry). e.items) (sym at)))
-
-pub include_found : (d : Directory) (k : ℕ) (entries : List IncludeEntry) (x : IncludeEntry) (items : List Item) → entries ≡ d.includes → k < length entries → x ≡ get_or entries k x → items ≡ (get_or entries k x).items
-    → node_found d (Include k) ≡ map (item_found d None) items
-include_found d k entries x items are below at is =
-    let there : slice_get d.includes k ≡ Some x = ap (λ (es : List IncludeEntry). slice_get es k) (sym are) ∙ slice_get_read entries (length entries) k x refl below at in
-    ap (λ (e : Option IncludeEntry). map (item_found d None) (items_of_include d e)) there ∙ ap (map (item_found d None)) (sym (is ∙ ap (λ (e : IncludeEntry). e.items) (sym at)))
-
 -- The first of some are the first of all.
 pub first_whole : (found all : List (Option Target)) → AreFirst found all → all ≡ found ++ drop (length found) all
 first_whole found all first = sym (take-append-drop (length found) all) ∙ ap (λ (xs : List (Option Target)). xs ++ drop (length found) all) (sym first)
@@ -117,21 +102,6 @@ first_cut found xs ys k at first = pick (cases_lt (length found) (length xs)) wh
       let front : take k found ≡ xs = sym (take-append-le k found (drop (length found) (xs ++ ys)) within) ∙ ap (take k) (sym whole) ∙ take_at xs ys k (sym is) in
       let back : drop k found ++ drop (length found) (xs ++ ys) ≡ ys = sym (drop-append-le k found (drop (length found) (xs ++ ys)) within) ∙ ap (drop k) (sym whole) ∙ drop_at xs ys k (sym is) in
       (first_from (take k found) [] xs (sym front ∙ sym (append-nil (take k found))), first_from (drop k found) (drop (length found) (xs ++ ys)) ys (sym back))
-
--- cut behind the items of an alias, and of an include file
-pub alias_cut : (d : Directory) (k : ℕ) (entries : List Entry) (x : Entry) (items : List Item) (rest : List (Option Target)) (cut : ℕ) → entries ≡ d.aliases → k < length entries → x ≡ get_or entries k x → items ≡ (get_or entries k x).items
-    → cut ≡ min (length items) (length rest) → AreFirst rest (found_from d k) → AreFirst (take cut rest) (map (item_found d (Some k)) items) × AreFirst (drop cut rest) (found_from d (k + 1))
-alias_cut d k entries x items rest cut are below at is place first =
-    let more : found_from d k ≡ map (item_found d (Some k)) items ++ found_from d (k + 1) =
-    alias_found_more d k (omega (arith, ap length are)) ∙ ap (λ (found : List (Option Target)). found ++ found_from d (k + 1)) (alias_found d k entries x items are below at is) in
-    first_cut rest (map (item_found d (Some k)) items) (found_from d (k + 1)) cut (omega (arith, length-map items (item_found d (Some k)))) (subst (AreFirst rest) more first)
-
-pub include_cut : (d : Directory) (k : ℕ) (entries : List IncludeEntry) (x : IncludeEntry) (items : List Item) (rest : List (Option Target)) (cut : ℕ) → entries ≡ d.includes → k < length entries → x ≡ get_or entries k x → items ≡ (get_or entries k x).items
-    → cut ≡ min (length items) (length rest) → AreFirst rest (found_from d (length d.aliases + k)) → AreFirst (take cut rest) (map (item_found d None) items) × AreFirst (drop cut rest) (found_from d (length d.aliases + (k + 1)))
-include_cut d k entries x items rest cut are below at is place first =
-    let more : found_from d (length d.aliases + k) ≡ map (item_found d None) items ++ found_from d (length d.aliases + (k + 1)) =
-    include_found_more d k (omega (arith, ap length are)) ∙ ap (λ (found : List (Option Target)). found ++ found_from d (length d.aliases + (k + 1))) (include_found d k entries x items are below at is) in
-    first_cut rest (map (item_found d None) items) (found_from d (length d.aliases + (k + 1))) cut (omega (arith, length-map items (item_found d None))) (subst (AreFirst rest) more first)
 
 -- a target that stands in a place is what is found for what stands there
 pub found_here : {X : Type 0} (f : X → Option Target) (xs : List X) (found : List (Option Target)) (k : ℕ) (x : X) → AreFirst found (map f xs) → k < length xs → x ≡ get_or xs k x → IfSome (slice_get found k) (λ t. t ≡ f x)

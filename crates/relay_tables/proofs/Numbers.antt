@@ -1,8 +1,8 @@
 -- Lemmas on nodes by their numbers.
-use Rattle.std.proofs.Common.{◌≡◌, ℕ, zero, suc, eqb, ◌+◌, ◌<◌, ◌≤◌, ◌^◌, false, Some, None, List, [], ◌∷◌, ◌++◌, length, map, get_or, slice_get, position, refl, sym, ap, ◌∙◌, arith}
+use Rattle.std.proofs.Common.{◌≡◌, ℕ, zero, suc, eqb, ◌+◌, ◌-◌, ◌<◌, ◌≤◌, ◌^◌, false, inl, inr, Some, None, List, [], ◌∷◌, ◌++◌, length, map, take, get_or, slice_get, position, refl, sym, ap, ◌∙◌, subst, arith}
 use Rattle.std.specs.List.{list_any, range_with_len}
-use Rattle.std.proofs.lemmas.Bool.{or_from, ne_eqb}
-use Rattle.std.proofs.lemmas.List.{append_assoc, append-nil, length-append, length_push, drop-append-le, drop_all, map_push, get_or_append_left, get_or-append-add, get_or_push}
+use Rattle.std.proofs.lemmas.Bool.{cases_lt, or_from, ne_eqb}
+use Rattle.std.proofs.lemmas.List.{append_assoc, append-nil, length-append, length_push, drop-append-le, drop_all, take_more, map_push, get_or_append_left, get_or-append-add, get_or_push}
 use Rattle.std.proofs.lemmas.List.Folds.{list_any-append}
 use Rattle.std.proofs.lemmas.List.FromFn.{length-map-range_with_len, get_or-map-range_with_len}
 use Rattle.std.proofs.lemmas.List.Quantifiers.{position-Some}
@@ -35,6 +35,21 @@ entry_include aliases includes k below =
     ap (λ (i : ℕ). get_or (entries_of aliases includes) i (Include k)) (sym size)
     ∙ get_or-append-add (map Alias (range_with_len 0 aliases)) (map Include (range_with_len 0 includes)) k (Include k)
     ∙ get_or-map-range_with_len Include 0 includes k k (Include k) below (omega arith)
+
+-- the first entries and one more
+pub entries_more : (aliases includes k : ℕ) (n : Node) → k < aliases + includes → (k < aliases → n ≡ Alias k) → (aliases ≤ k → n ≡ Include (k - aliases))
+    → take (k + 1) (entries_of aliases includes) ≡ take k (entries_of aliases includes) ++ n ∷ []
+entries_more aliases includes k n below alias include =
+    take_more (entries_of aliases includes) k n (omega (arith, length-entries aliases includes)) ∙ ap (λ (m : Node). take k (entries_of aliases includes) ++ m ∷ []) there where
+      there : get_or (entries_of aliases includes) k n ≡ n
+      there =
+          elim (cases_lt k aliases) [
+            | inl front ↦ subst (λ (m : Node). get_or (entries_of aliases includes) k m ≡ m) (sym (alias front)) (entry_alias aliases includes k front)
+            | inr behind ↦
+                let sum : aliases + (k - aliases) ≡ k = omega arith in
+                subst (λ (m : Node). get_or (entries_of aliases includes) k m ≡ m) (sym (include behind))
+                (ap (λ (j : ℕ). get_or (entries_of aliases includes) j (Include (k - aliases))) (sym sum) ∙ entry_include aliases includes (k - aliases) (omega arith))
+          ]
 
 -- no other nodes than the entries yet
 pub numbered_none : (aliases includes limit key : ℕ) (nodes : List Node) → nodes ≡ entries_of aliases includes → aliases + includes ≤ limit → limit ≤ 2 ^ 24

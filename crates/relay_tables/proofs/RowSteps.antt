@@ -1,25 +1,15 @@
 -- Lemmas on rows of node numbers.
-use Rattle.std.proofs.Common.{◌≡◌, ℕ, zero, suc, ◌+◌, ◌-◌, ◌<◌, ◌≤◌, Bool, Option, Some, None, Result, Err, List, [], ◌∷◌, ◌++◌, length, map, get_or, take, drop, slice_get, refl, sym, ap, ◌∙◌, subst, arith}
+use Rattle.std.proofs.Common.{◌≡◌, ℕ, zero, suc, ◌+◌, ◌<◌, ◌≤◌, Bool, Option, Some, Result, Err, List, [], ◌∷◌, ◌++◌, length, map, get_or, take, drop, slice_get, refl, sym, ap, ◌∙◌, arith}
 use Rattle.std.specs.Prelude.{IsTrue}
-use Rattle.std.specs.List.{list_all, range_with_len, flat_map}
+use Rattle.std.specs.List.{list_all}
 use Rattle.std.proofs.lemmas.Bool.{and_parts}
-use Rattle.std.proofs.lemmas.List.{append_assoc, append-nil, map-append, map_more, take-append-drop}
-use Rattle.std.proofs.lemmas.Option.{slice_get_read}
-use Rattle.relay_aliasfile.specs.declared.item.Item.{Item}
-use Rattle.relay_aliasfile.specs.declared.entry.Entry.{Entry}
-use Rattle.relay_tables.specs.declared.include_entry.IncludeEntry.{IncludeEntry}
+use Rattle.std.proofs.lemmas.List.{map-append, map_more, take-append-drop}
 use Rattle.relay_tables.specs.declared.node.Node.{Node}
-use Rattle.relay_tables.specs.declared.node.Node.TheVariants.{Alias, Include}
-use Rattle.relay_tables.specs.Parts.{is_good_item, is_good_include}
-use Rattle.relay_tables.specs.Tables.{IsLawful}
-use Rattle.relay_tables.specs.Targets.{item_target, items_of_entry, items_of_include, targets_of}
 use Rattle.relay_tables.specs.declared.fault.TableFault.{TableFault}
 use Rattle.relay_tables.specs.declared.fault.TableFault.TheVariants.{TooManyNames, TooManyOwners, Memory}
-use Rattle.relay_tables.specs.Directory.{Directory}
 use Rattle.relay_tables.specs.Numbering.{Numbered, with_nodes, with_all, Numbers}
-use Rattle.relay_tables.specs.Rowing.{nodes_in, some_of, LeadTo, Adds}
+use Rattle.relay_tables.specs.Rowing.{nodes_in, some_of, LeadTo}
 use Rattle.relay_tables.proofs.Firsts.{with_nodes-none, with_nodes-append, no_fewer, stays}
-use Rattle.relay_tables.proofs.Runs.{flat_run_more}
 
 abbrev with_these : Numbered → List Node → Numbered
 with_these s ns = record { nodes = ns; aliases = s.aliases; includes = s.includes; limit = s.limit }
@@ -96,14 +86,6 @@ rows_push nodes new rows tss row ts before is at =
     ∙ ap (λ (o : List (Option Node)). map some_of tss ++ o ∷ []) at
     ∙ sym (map-append some_of tss (ts ∷ []))
 
-pub adds_none : (nodes : List Node) (rows : List (List ℕ)) → Adds nodes rows [] nodes rows
-adds_none nodes rows = λ before h. h ∙ ap (map some_of) (sym (append-nil before))
-
-pub adds_more : (first nodes new : List Node) (rows0 rows : List (List ℕ)) (done : List (List Node)) (row : List ℕ) (ts : List Node) → Adds first rows0 done nodes rows → new ≡ with_nodes nodes ts
-    → nodes_in new row ≡ some_of ts → Adds first rows0 (done ++ ts ∷ []) new (rows ++ row ∷ [])
-adds_more first nodes new rows0 rows done row ts added is at = λ before h.
-    rows_push nodes new rows (before ++ done) row ts (added before h) is at ∙ ap (map some_of) (append_assoc before done (ts ∷ []))
-
 -- each of the items is a good one
 pub passes_at : {X : Type 0} (p : X → Bool) (xs : List X) (k : ℕ) (d : X) → IsTrue (list_all p xs) → k < length xs → IsTrue (p (get_or xs k d))
 passes_at p [] k d all below = absurd (omega arith)
@@ -117,20 +99,6 @@ map_split {X} {Y} f xs i d below =
     ∙ map-append f (take (i + 1) xs) (drop (i + 1) xs)
     ∙ ap (λ (ys : List Y). ys ++ map f (drop (i + 1) xs)) (map_more f xs i d below)
 
--- those of the entries so far and one more, among all
-flat_range_from : {X : Type 0} (f : ℕ → List X) (n m : ℕ) → (rest : List X) × (flat_map f (range_with_len 0 (n + m)) ≡ flat_map f (range_with_len 0 n) ++ rest)
-flat_range_from {X} f n zero = ([], ap (λ (k : ℕ). flat_map f (range_with_len 0 k)) (omega arith) ∙ sym (append-nil (flat_map f (range_with_len 0 n))))
-flat_range_from {X} f n (suc m) =
-    let before = flat_range_from f n m in
-    let count : n + suc m ≡ n + m + 1 = omega arith in
-    (before.0 ++ f (n + m), ap (λ (k : ℕ). flat_map f (range_with_len 0 k)) count ∙ flat_run_more f (n + m) ∙ ap (λ (xs : List X). xs ++ f (n + m)) before.1 ∙ append_assoc (flat_map f (range_with_len 0 n)) before.0 (f (n + m)))
-
-pub flat_split : {X : Type 0} (f : ℕ → List X) (n count : ℕ) → n < count → (rest : List X) × (flat_map f (range_with_len 0 count) ≡ flat_map f (range_with_len 0 n) ++ f n ++ rest)
-flat_split {X} f n count below =
-    let tail = flat_range_from f (n + 1) (count - (n + 1)) in
-    let whole : n + 1 + (count - (n + 1)) ≡ count = omega arith in
-    (tail.0, ap (λ (k : ℕ). flat_map f (range_with_len 0 k)) (sym whole) ∙ tail.1 ∙ ap (λ (xs : List X). xs ++ tail.0) (flat_run_more f n))
-
 pub map_split_at : {X Y : Type 0} (f : X → Y) (xs : List X) (i : ℕ) (x : X) → i < length xs → x ≡ get_or xs i x → map f xs ≡ map f (take i xs) ++ (f x ∷ []) ++ map f (drop (i + 1) xs)
 map_split_at {X} {Y} f xs i x below is =
     map_split f xs i x below ∙ ap (λ (y : X). map f (take i xs) ++ (f y ∷ []) ++ map f (drop (i + 1) xs)) (sym is)
@@ -138,26 +106,6 @@ map_split_at {X} {Y} f xs i x below is =
 pub map_more_at : {X Y : Type 0} (f : X → Y) (xs : List X) (i : ℕ) (x : X) → i < length xs → x ≡ get_or xs i x → map f (take (i + 1) xs) ≡ map f (take i xs) ++ f x ∷ []
 map_more_at {X} {Y} f xs i x below is =
     map_more f xs i x below ∙ ap (λ (y : X). map f (take i xs) ++ f y ∷ []) (sym is)
-
--- the targets of an alias, and of an include file, are those of its items
-pub alias_targets : (d : Directory) (k : ℕ) (entries : List Entry) (x : Entry) (items : List Item) → entries ≡ d.aliases → k < length entries → x ≡ get_or entries k x → items ≡ (get_or entries k x).items
-    → targets_of d (Alias k) ≡ map (item_target d (Some k)) items
-alias_targets d k entries x items are below at is =
-    let there : slice_get d.aliases k ≡ Some x = ap (λ (es : List Entry). slice_get es k) (sym are) ∙ slice_get_read entries (length entries) k x refl below at in
-    ap (λ (e : Option Entry). map (item_target d (Some k)) (items_of_entry d e)) there ∙ ap (map (item_target d (Some k))) (sym (is ∙ ap (λ (e : Entry). e.items) (sym at)))
-
-pub include_targets : (d : Directory) (k : ℕ) (entries : List IncludeEntry) (x : IncludeEntry) (items : List Item) → entries ≡ d.includes → k < length entries → x ≡ get_or entries k x → items ≡ (get_or entries k x).items
-    → targets_of d (Include k) ≡ map (item_target d None) items
-include_targets d k entries x items are below at is =
-    let there : slice_get d.includes k ≡ Some x = ap (λ (es : List IncludeEntry). slice_get es k) (sym are) ∙ slice_get_read entries (length entries) k x refl below at in
-    ap (λ (e : Option IncludeEntry). map (item_target d None) (items_of_include d e)) there ∙ ap (map (item_target d None)) (sym (is ∙ ap (λ (e : IncludeEntry). e.items) (sym at)))
-
-pub include_items_good : (d : Directory) (k : ℕ) (entries : List IncludeEntry) (x : IncludeEntry) (items : List Item) → IsLawful d → entries ≡ d.includes → k < length entries → x ≡ get_or entries k x → items ≡ (get_or entries k x).items
-    → IsTrue (list_all is_good_item items)
-include_items_good d k entries x items lawful are below at is =
-    let all : IsTrue (list_all is_good_include entries) = subst (λ (es : List IncludeEntry). IsTrue (list_all is_good_include es)) (sym are) lawful.items in
-    let good : IsTrue (is_good_include (get_or entries k x)) = passes_at is_good_include entries k x all below in
-    subst (λ (xs : List Item). IsTrue (list_all is_good_item xs)) (sym is) good
 
 pub same_fault : {A : Type 0} (e f : TableFault) → ◌≡◌ {A = Result A TableFault} (Err e) (Err f) → e ≡ f
 same_fault e f is = cc

@@ -78,7 +78,7 @@ impl Adjacency {
         match row {
             [] => self.records.push(EMPTY)?,
             [number] if *number < LONG => self.records.push(*number)?,
-            _ => self.push_long(row)?,
+            _ => return self.push_long(row),
         }
         Ok(())
     }
@@ -135,10 +135,12 @@ fn append(row: &[u32], numbers: &mut Vec<u32>) -> Result<(), AllocError>
     ensures err { OnErr result (numbers.new.items ≡ numbers.old.items) }
 {
     match row {
-        [number] => numbers.push(*number)?,
-        _ => numbers.extend_from_slice(row)?,
+        [number] => {
+            numbers.push(*number)?;
+            Ok(())
+        }
+        _ => numbers.extend_from_slice(row),
     }
-    Ok(())
 }
 
 // Where a row begins.

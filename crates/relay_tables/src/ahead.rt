@@ -67,39 +67,26 @@ impl Block {
         }
     }
 
-    // What an address is looked up by. Whether it's local is only guessed.
-    fn put_address(&mut self, tables: &Tables, address: &Address) {
-        if tables.may_be_local(address) {
-            self.names.put(hash_text(tables.key(), address.local()));
-        } else {
-            self.nodes.put(hash_text(tables.key(), address.joined()));
-        }
-    }
-
-    // What an item is looked up by. Files and commands are few.
-    fn put_item(&mut self, tables: &Tables, item: &Item) {
-        match item {
-            Item::Bare(name) => self.names.put(hash_text(tables.key(), name.as_bytes())),
-            Item::Full(address) => self.put_address(tables, address),
-            Item::Include(_) | Item::Command(_) | Item::File(_) => {}
-        }
-    }
-
-    // What the node of an address is looked up by, where it's known what the address stands for. An alias isn't looked up.
-    fn put_address_node(&mut self, tables: &Tables, address: &Address, found: Option<Target>) {
+    // What an address is looked up by, among the nodes alone where it's known what it stands for: an alias isn't looked up. Where it isn't
+    // known, whether the address is local is only guessed.
+    fn put_address(&mut self, tables: &Tables, address: &Address, found: Option<&Option<Target>>) {
         match found {
-            Some(Target::Alias(_)) => {}
-            Some(_) => self.nodes.put(hash_text(tables.key(), address.local())),
-            None => self.nodes.put(hash_text(tables.key(), address.joined())),
+            Some(Some(Target::Alias(_))) => {}
+            Some(Some(_)) => self.nodes.put(hash_text(tables.key(), address.local())),
+            None if tables.may_be_local(address) => {
+                self.names.put(hash_text(tables.key(), address.local()));
+            }
+            _ => self.nodes.put(hash_text(tables.key(), address.joined())),
         }
     }
 
-    // The same of an item.
-    fn put_item_node(&mut self, tables: &Tables, item: &Item, found: Option<Target>) {
+    // The same of an item. Files and commands are few.
+    fn put_item(&mut self, tables: &Tables, item: &Item, found: Option<&Option<Target>>) {
         match (item, found) {
-            (Item::Bare(_), Some(Target::Alias(_))) => {}
-            (Item::Bare(name), _) => self.nodes.put(hash_text(tables.key(), name.as_bytes())),
-            (Item::Full(address), _) => self.put_address_node(tables, address, found),
+            (Item::Bare(_), Some(Some(Target::Alias(_)))) => {}
+            (Item::Bare(name), Some(_)) => self.nodes.put(hash_text(tables.key(), name.as_bytes())),
+            (Item::Bare(name), None) => self.names.put(hash_text(tables.key(), name.as_bytes())),
+            (Item::Full(address), _) => self.put_address(tables, address, found),
             _ => {}
         }
     }
@@ -174,20 +161,18 @@ fn read_nodes(names: Option<&Numbering>, hashes: &[u32]) -> usize {
     seen
 }
 
-// Reads for the first items, of which it may be known what they stand for.
+// Reads for the items from one on, of which it may be known what they stand for.
 #[inline(never)]
 fn read_items(
     tables: &Tables,
     names: Option<&Numbering>,
     items: &[Item],
     found: &[Option<Target>],
+    start: usize,
 ) -> usize {
     let mut block = Block::none();
-    for place in 0..items.len().min(BLOCK) {
-        match found.get(place) {
-            Some(target) => block.put_item_node(tables, &items[place], *target),
-            None => block.put_item(tables, &items[place]),
-        }
+    for place in start..items.len().min(start.saturating_add(BLOCK)) {
+        block.put_item(tables, &items[place], found.get(place));
     }
     block.read(tables, names)
 }
@@ -204,37 +189,28 @@ fn read_entries(
     let mut place = 0usize;
     for entry in entries.iter().take(BLOCK) {
         let items = entry.items.as_slice();
-        match (items.first(), found.get(place)) {
-            (Some(item), Some(target)) => block.put_item_node(tables, item, *target),
-            (Some(item), None) => block.put_item(tables, item),
-            (None, _) => {}
+        if let Some(item) = items.first() {
+            block.put_item(tables, item, found.get(place));
         }
         place = place.wrapping_add(items.len());
     }
     block.read(tables, names)
 }
 
-// The same for recipients.
+// The same for the recipients from one on.
 #[inline(never)]
 fn read_recipients(
     tables: &Tables,
     names: Option<&Numbering>,
     recipients: &[Address],
     found: &[Option<Target>],
+    start: usize,
 ) -> usize {
     let mut block = Block::none();
-    for place in 0..recipients.len().min(BLOCK) {
-        match found.get(place) {
-            Some(target) => block.put_address_node(tables, &recipients[place], *target),
-            None => block.put_address(tables, &recipients[place]),
-        }
+    for place in start..recipients.len().min(start.saturating_add(BLOCK)) {
+        block.put_address(tables, &recipients[place], found.get(place));
     }
     block.read(tables, names)
-}
-
-// What there is from a place on.
-fn rest_of(found: &[Option<Target>], start: usize) -> &[Option<Target>] {
-    &found[start.min(found.len())..]
 }
 
 /// Whether look-ups are read for ahead, and a sum of what was read last, which means nothing: it's kept so that no read is left out.
@@ -273,7 +249,7 @@ impl Ahead {
         start: usize,
     ) {
         if self.is_worth && items.len() > 1 && start % BLOCK == 0 && start < items.len() {
-            self.seen = read_items(tables, names, &items[start..], rest_of(found, start));
+            self.seen = read_items(tables, names, items, found, start);
         }
     }
 
@@ -303,7 +279,7 @@ impl Ahead {
         start: usize,
     ) {
         if self.is_worth && start % BLOCK == 0 && start < recipients.len() {
-            self.seen = read_recipients(tables, names, &recipients[start..], rest_of(found, start));
+            self.seen = read_recipients(tables, names, recipients, found, start);
         }
     }
 }

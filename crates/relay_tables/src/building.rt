@@ -1,17 +1,15 @@
 //! The nodes of a graph, and a row of numbers for each entry.
-ghost use Rattle.std.specs.Prelude.{◌≡◌, ◌<◌, ◌≤◌, ◌+◌, ◌^◌, [], length, map, flat_map, IfOk, OnOk, Err};
-ghost use Rattle.relay_tables.specs.Targets.{targets_of};
+ghost use Rattle.std.specs.Prelude.{◌≡◌, ◌<◌, ◌≤◌, ◌+◌, ◌^◌, [], length, map, IfOk, OnOk, Err};
 ghost use Rattle.relay_tables.specs.Graphs.{entry_nodes, nodes_of};
 ghost use Rattle.relay_tables.specs.Looking.{recipient_found, found_from, AreFirst};
-ghost use Rattle.relay_tables.specs.Numbering.{Numbers};
-ghost use Rattle.relay_tables.specs.Rowing.{LeadTo};
 ghost use Rattle.relay_tables.specs.Building.{AreRows};
 
 use crate::adjacency::Adjacency;
 use crate::fault::TableFault;
+use crate::listed::{entry_count, list_of};
 use crate::node::Node;
 use crate::numbering::Numbering;
-use crate::rowing::{Scratch, number_aliases, number_includes, number_recipients};
+use crate::rowing::{Scratch, number_entries, number_recipients};
 use crate::tables::Tables;
 use crate::target::Target;
 use relay_text::Address;
@@ -25,27 +23,13 @@ pub(crate) struct Rows {
     pub(crate) roots: Vec<u32>,
 }
 
-// How many items the aliases have.
-fn alias_items(tables: &Tables) -> usize {
-    let mut count = 0usize;
-    for entry in tables.aliases() {
-        count = count.saturating_add(entry.items.len());
-    }
-    count
-}
-
-// How many items the include files have.
-fn include_items(tables: &Tables) -> usize {
-    let mut count = 0usize;
-    for include in tables.includes() {
-        count = count.saturating_add(include.items.len());
-    }
-    count
-}
-
 /// How many items all entries have.
 pub(crate) fn item_count(tables: &Tables) -> usize {
-    alias_items(tables).saturating_add(include_items(tables))
+    let mut count = 0usize;
+    for number in 0..entry_count(tables) {
+        count = count.saturating_add(list_of(tables, number).items.len());
+    }
+    count
 }
 
 // How many targets are expected: as many as there are items and recipients, but no more than `most`, and at least 1.
@@ -94,37 +78,6 @@ fn begin(alloc: Global, tables: &Tables, heads: usize, names: usize) -> Result<B
     })
 }
 
-// A row for each entry, in order: the targets of its items. What is found for the first items may be given.
-fn number_entries(
-    alloc: Global,
-    tables: &Tables,
-    items: &[Option<Target>],
-    begun: &mut Begun,
-) -> Result<(), TableFault>
-    requires none { begun.old.children ≡ [] }
-    requires few { length tables.now.aliases + length tables.now.includes ≤ 2 ^ 24 }
-    requires items { AreFirst items.now (found_from tables.now 0) }
-    ensures rows { OnOk result (LeadTo begun.new.names.nodes begun.new.children (map (targets_of tables.now) (entry_nodes tables.now))) }
-    ensures numbers { Numbers begun.old.names (flat_map (targets_of tables.now) (entry_nodes tables.now)) result begun.new.names }
-{
-    let rest = number_aliases(
-        alloc,
-        tables,
-        items,
-        &mut begun.names,
-        &mut begun.scratch,
-        &mut begun.children,
-    )?;
-    number_includes(
-        alloc,
-        tables,
-        rest,
-        &mut begun.names,
-        &mut begun.scratch,
-        &mut begun.children,
-    )
-}
-
 /// The rows of the tables and recipients, where there are at most `names` nodes. What is found for the first items and for the first
 /// recipients may be given; the others are looked up.
 pub(crate) fn number_all(
@@ -147,7 +100,14 @@ pub(crate) fn number_all(
     let count = known_count(tables, items);
     let heads = expected(count, recipients.len(), names);
     let mut begun = begin(alloc, tables, heads, names)?;
-    number_entries(alloc, tables, items, &mut begun)?;
+    number_entries(
+        alloc,
+        tables,
+        items,
+        &mut begun.names,
+        &mut begun.scratch,
+        &mut begun.children,
+    )?;
     let roots = number_recipients(
         alloc,
         tables,

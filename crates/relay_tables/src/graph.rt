@@ -19,13 +19,25 @@ use std::marker::Model;
 ///
 /// Children are rows of numbers: 4 bytes for an entry of one or none, and for another 12, and 4 for each number. Most entries have one,
 /// which then takes one read of memory.
-#[derive(Drop)]
 pub struct Graph {
     nodes: Vec<Node>,
     pub(crate) children: Adjacency,
     roots: Vec<u32>,
     senders: Vec<Option<Address>>,
     owners: Vec<Option<u32>>,
+}
+
+// Written out: what becomes of a derived drop's parts is followed in each proof that has such a value to its end.
+impl Drop for Graph {
+    fn drop(self) {
+        let Graph {
+            nodes: _,
+            children: _,
+            roots: _,
+            senders: _,
+            owners: _,
+        } = self;
+    }
 }
 
 impl Model for Graph {

@@ -2,126 +2,108 @@
 ghost use Rattle.std.specs.Prelude.{◌≡◌, ℕ, ◌<◌, ◌-◌, ◌^◌, length, map, position, slice_get, option_map, Some, IfOk};
 ghost use Rattle.std.specs.Str.{bytes_eq};
 ghost use Rattle.relay_chains.specs.TextHash.{text_hash};
-ghost use Rattle.relay_tables.specs.Indices.{name_hash, path_hash};
+ghost use Rattle.relay_tables.specs.Tables.{IsLawful, AreTables};
 
 use crate::include_entry::IncludeEntry;
+use crate::local::Local;
+use crate::marking::{MARKS, marks_of};
+use crate::named::Named;
+use crate::owning::entry_owners;
 use relay_aliasfile::Entry;
 use relay_chains::{Links, hash_text};
-use relay_text::{Text, same_bytes};
+use relay_text::{Text, TextSet, same_bytes};
 use std::alloc::{AllocError, Global};
+
+/// What is found by the local domains and by the names of entries, include files and mailboxes, and the owner of each entry.
+#[derive(Drop)]
+pub(crate) struct Indices {
+    pub(crate) domains: TextSet,
+    pub(crate) marks: [bool; MARKS],
+    pub(crate) key: u64,
+    pub(crate) aliases: Links,
+    pub(crate) includes: Links,
+    pub(crate) mailboxes: Links,
+    pub(crate) owners: Vec<Option<u32>>,
+}
+
+impl Indices {
+    /// Those of the tables of these settings and lists. `Err` where memory runs out.
+    pub(crate) fn of(
+        alloc: Global,
+        local: &Local,
+        entries: &[Entry],
+        includes: &[IncludeEntry],
+        mailboxes: &[Text],
+    ) -> Result<Indices, AllocError>
+        requires lawful { IsLawful (record { local = local.now; aliases = entries.now; includes = includes.now; mailboxes = mailboxes.now }) }
+        requires few_mailboxes { length mailboxes.now < 2 ^ 32 - 2 }
+        ensures { IfOk result (λ made. AreTables (record { local = local.now; aliases = entries.now; includes = includes.now; mailboxes = mailboxes.now }) made.key made.domains made.marks made.aliases made.includes made.mailboxes made.owners.items) }
+    {
+        let domains = TextSet::of(alloc, local.domains.as_slice())?;
+        let marks = marks_of(local);
+        let key = key_of(entries, mailboxes);
+        let aliases = links_of(alloc, key, entries)?;
+        let includes = links_of(alloc, key, includes)?;
+        let mailboxes = links_of(alloc, key, mailboxes)?;
+        let owners = entry_owners(alloc, key, entries, &aliases)?;
+        Ok(Indices {
+            domains,
+            marks,
+            key,
+            aliases,
+            includes,
+            mailboxes,
+            owners,
+        })
+    }
+}
 
 // An odd number whose bits look drawn at random, another than that of the hashes themselves: the first 64 bits of the root of 3.
 const MULTIPLIER: u64 = 0xbb67_ae85_84ca_a73b;
 
-/// A key for the hashes of a job, from the names that are looked up in it.
-///
-/// Texts that have one hash under this key have as many as any others under the key of a job with other names.
-pub(crate) fn key_of(entries: &[Entry], mailboxes: &[Text]) -> u64 {
-    let names = entries.iter().map(|entry| &entry.name);
-    names.chain(mailboxes).fold(MULTIPLIER, |key, name| {
-        key.wrapping_mul(MULTIPLIER) ^ u64::from(hash_text(key, name.as_bytes()))
-    })
+// A key for the hashes of a job, from the names that are looked up in it.
+//
+// Texts that have one hash under this key have as many as any others under the key of a job with other names.
+fn key_of(entries: &[Entry], mailboxes: &[Text]) -> u64 {
+    key_after(key_after(MULTIPLIER, entries), mailboxes)
 }
 
-/// The hashes of the entries' names.
-pub(crate) fn entry_links(alloc: Global, key: u64, entries: &[Entry]) -> Result<Links, AllocError>
-    requires { length entries.now < 2 ^ 32 - 2 }
-    ensures { IfOk result (λ links. links ≡ map (name_hash key) entries.now) }
+// What a key becomes by the names of these.
+fn key_after<T: Named>(start: u64, items: &[T]) -> u64 {
+    let mut key = start;
+    for item in items {
+        key = key.wrapping_mul(MULTIPLIER) ^ u64::from(hash_text(key, item.name_bytes()));
+    }
+    key
+}
+
+// The hashes of the names of these.
+fn links_of<T: Named>(alloc: Global, key: u64, items: &[T]) -> Result<Links, AllocError>
+    requires { length items.now < 2 ^ 32 - 2 }
+    ensures { IfOk result (λ links. links ≡ map (λ item. text_hash key (T.name_in item)) items.now) }
 {
-    let mut hashes = Vec::with_capacity(alloc, entries.len())?;
-    for entry in entries {
-        hashes.push_reserved(hash_text(key, entry.name.as_bytes()));
+    let mut hashes = Vec::with_capacity(alloc, items.len())?;
+    for item in items {
+        hashes.push_reserved(hash_text(key, item.name_bytes()));
     }
     Links::of(alloc, &hashes)
 }
 
-/// The hashes of the include files' paths.
-pub(crate) fn include_links(
-    alloc: Global,
-    key: u64,
-    includes: &[IncludeEntry],
-) -> Result<Links, AllocError>
-    requires { length includes.now < 2 ^ 32 - 2 }
-    ensures { IfOk result (λ links. links ≡ map (path_hash key) includes.now) }
-{
-    let mut hashes = Vec::with_capacity(alloc, includes.len())?;
-    for include in includes {
-        hashes.push_reserved(hash_text(key, include.path.as_bytes()));
-    }
-    Links::of(alloc, &hashes)
-}
-
-/// The hashes of the mailboxes' names.
-pub(crate) fn mailbox_links(alloc: Global, key: u64, names: &[Text]) -> Result<Links, AllocError>
-    requires { length names.now < 2 ^ 32 - 2 }
-    ensures { IfOk result (λ links. links ≡ map (text_hash key) names.now) }
-{
-    let mut hashes = Vec::with_capacity(alloc, names.len())?;
-    for name in names {
-        hashes.push_reserved(hash_text(key, name.as_bytes()));
-    }
-    Links::of(alloc, &hashes)
-}
-
-/// The place of the first entry of a name with this hash.
-pub(crate) fn entry_named(
-    entries: &[Entry],
+/// The place of the first of these with a name.
+pub(crate) fn place_named<T: Named>(
+    items: &[T],
     links: &Links,
     key: u64,
-    hash: u32,
     name: &[u8],
 ) -> Option<u32>
-    requires hashed { links.now ≡ map (name_hash key) entries.now }
-    requires hash { hash ≡ text_hash key name.now }
-    ensures { result ≡ position (λ e. bytes_eq name.now e.name) entries.now }
+    requires { links.now ≡ map (λ item. text_hash key (T.name_in item)) items.now }
+    ensures { result ≡ position (λ item. bytes_eq name.now (T.name_in item)) items.now }
 {
     links.find(
-        hash,
+        hash_text(key, name),
         |number: u32| -> bool
-            requires { number < length entries.now }
-            ensures { option_map (λ e. bytes_eq name.entry.now e.name) (slice_get entries.entry.now number) ≡ Some result }
-        { same_bytes(name, entries[number as usize].name.as_bytes()) },
-    )
-}
-
-/// The place of the first include file of a path with this hash.
-pub(crate) fn include_at(
-    includes: &[IncludeEntry],
-    links: &Links,
-    key: u64,
-    hash: u32,
-    path: &[u8],
-) -> Option<u32>
-    requires hashed { links.now ≡ map (path_hash key) includes.now }
-    requires hash { hash ≡ text_hash key path.now }
-    ensures { result ≡ position (λ e. bytes_eq path.now e.path) includes.now }
-{
-    links.find(
-        hash,
-        |number: u32| -> bool
-            requires { number < length includes.now }
-            ensures { option_map (λ e. bytes_eq path.entry.now e.path) (slice_get includes.entry.now number) ≡ Some result }
-        { same_bytes(path, includes[number as usize].path.as_bytes()) },
-    )
-}
-
-/// The place of the first mailbox of a name with this hash.
-pub(crate) fn mailbox_named(
-    names: &[Text],
-    links: &Links,
-    key: u64,
-    hash: u32,
-    name: &[u8],
-) -> Option<u32>
-    requires hashed { links.now ≡ map (text_hash key) names.now }
-    requires hash { hash ≡ text_hash key name.now }
-    ensures { result ≡ position (bytes_eq name.now) names.now }
-{
-    links.find(
-        hash,
-        |number: u32| -> bool
-            requires { number < length names.now }
-            ensures { option_map (bytes_eq name.entry.now) (slice_get names.entry.now number) ≡ Some result }
-        { same_bytes(name, names[number as usize].as_bytes()) },
+            requires { number < length items.now }
+            ensures { option_map (λ item. bytes_eq name.entry.now (T.name_in item)) (slice_get items.entry.now number) ≡ Some result }
+        { same_bytes(name, items[number as usize].name_bytes()) },
     )
 }

@@ -19,6 +19,7 @@ pub mod local;
 pub mod looked_up;
 mod looking;
 mod marking;
+mod named;
 pub mod node;
 mod numbering;
 mod owning;

@@ -1,8 +1,10 @@
 //! What an alias or an include file lists.
-ghost use Rattle.std.specs.Prelude.{◌≡◌, ◌<◌, ◌+◌, ◌++◌, length, map, IfSome, IsTrue};
+ghost use Rattle.std.specs.Prelude.{◌≡◌, ◌<◌, ◌+◌, ◌++◌, length, map, slice_get, option_map, Some, IfSome, IsTrue};
 ghost use Rattle.std.specs.List.{list_all};
+ghost use Rattle.relay_tables.specs.declared.node.Node.TheVariants.{Alias, Include};
 ghost use Rattle.relay_tables.specs.Parts.{is_good_item};
 ghost use Rattle.relay_tables.specs.Targets.{item_target, targets_of};
+ghost use Rattle.relay_tables.specs.Graphs.{entry_nodes};
 ghost use Rattle.relay_tables.specs.Looking.{item_found, node_found, found_from};
 
 use crate::node::Node;
@@ -23,39 +25,73 @@ pub(crate) fn items_of<'a>(tables: &'a Tables, node: &Node) -> Listed<'a>
     ensures good { IsTrue (list_all is_good_item result.items.now) }
     ensures parent { IfSome result.parent (λ number. number < length tables.now.aliases) }
 {
-    let none = Listed {
-        items: &[],
-        parent: None,
-    };
     match node {
-        Node::Alias(number) => match tables.aliases().get(*number as usize) {
-            Some(entry) => Listed {
-                items: entry.items.as_slice(),
-                parent: Some(*number),
-            },
-            None => none,
+        Node::Alias(number) => alias_list(tables, *number),
+        Node::Include(number) => include_list(tables, *number),
+        _ => Listed {
+            items: &[],
+            parent: None,
         },
-        Node::Include(number) => match tables.includes().get(*number as usize) {
-            Some(include) => Listed {
-                items: include.items.as_slice(),
-                parent: None,
-            },
-            None => none,
-        },
-        _ => none,
     }
+}
+
+// The items of an alias of the tables.
+fn alias_list(tables: &Tables, number: u32) -> Listed<'_>
+    ensures targets { targets_of tables.now (Alias number) ≡ map (item_target tables.now result.parent) result.items.now }
+    ensures found { node_found tables.now (Alias number) ≡ map (item_found tables.now result.parent) result.items.now }
+    ensures good { IsTrue (list_all is_good_item result.items.now) }
+    ensures parent { IfSome result.parent (λ alias. alias < length tables.now.aliases) }
+{
+    match tables.aliases().get(number as usize) {
+        Some(entry) => Listed {
+            items: entry.items.as_slice(),
+            parent: Some(number),
+        },
+        None => Listed {
+            items: &[],
+            parent: None,
+        },
+    }
+}
+
+// The items of an include file of the tables.
+fn include_list(tables: &Tables, number: u32) -> Listed<'_>
+    ensures targets { targets_of tables.now (Include number) ≡ map (item_target tables.now result.parent) result.items.now }
+    ensures found { node_found tables.now (Include number) ≡ map (item_found tables.now result.parent) result.items.now }
+    ensures good { IsTrue (list_all is_good_item result.items.now) }
+    ensures parent { IfSome result.parent (λ alias. alias < length tables.now.aliases) }
+{
+    match tables.includes().get(number as usize) {
+        Some(include) => Listed {
+            items: include.items.as_slice(),
+            parent: None,
+        },
+        None => Listed {
+            items: &[],
+            parent: None,
+        },
+    }
+}
+
+/// How many aliases and include files there are.
+pub(crate) fn entry_count(tables: &Tables) -> usize
+    ensures { result ≡ length tables.now.aliases + length tables.now.includes }
+{
+    tables.aliases().len() + tables.includes().len()
 }
 
 /// What an entry lists, by its number: that of an alias, or behind all aliases that of an include file.
 pub(crate) fn list_of(tables: &Tables, number: usize) -> Listed<'_>
     requires { number < length tables.now.aliases + length tables.now.includes }
+    ensures targets { option_map (targets_of tables.now) (slice_get (entry_nodes tables.now) number) ≡ Some (map (item_target tables.now result.parent) result.items.now) }
+    ensures good { IsTrue (list_all is_good_item result.items.now) }
     ensures found { found_from tables.now number ≡ map (item_found tables.now result.parent) result.items.now ++ found_from tables.now (number + 1) }
     ensures parent { IfSome result.parent (λ number. number < length tables.now.aliases) }
 {
     let aliases = tables.aliases().len();
     if number < aliases {
-        items_of(tables, &Node::Alias(number as u32))
+        alias_list(tables, number as u32)
     } else {
-        items_of(tables, &Node::Include((number - aliases) as u32))
+        include_list(tables, (number - aliases) as u32)
     }
 }

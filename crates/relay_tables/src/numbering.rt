@@ -1,6 +1,5 @@
 //! Nodes by their numbers.
-ghost use Rattle.std.specs.Prelude.{◌≡◌, ◌<◌, ◌≤◌, ◌+◌, ◌^◌, ◌∷◌, ◌++◌, [], length, map, slice_get, Some, None, IfOk, IfSome, OnOk, Err};
-ghost use Rattle.std.specs.List.{range_with_len};
+ghost use Rattle.std.specs.Prelude.{◌≡◌, ◌<◌, ◌≤◌, ◌+◌, ◌-◌, ◌^◌, ◌∷◌, ◌++◌, [], length, slice_get, Some, None, IfOk, IfSome, OnOk, OnErr, Err};
 ghost use Rattle.relay_tables.specs.declared.node.Node.TheVariants.{Alias, Include};
 ghost use Rattle.relay_tables.specs.Numbering.{node_of, entries_of, with_all, with_nodes, Numbers, HasGoodAddress, IsBehind};
 
@@ -59,9 +58,7 @@ impl Numbering {
         }
         let links = Links::new(alloc, heads)?;
         let expected = heads.min(limit - aliases - includes);
-        let mut nodes = Vec::with_capacity(alloc, aliases + includes + expected)?;
-        push_aliases(aliases, &mut nodes)?;
-        push_includes(includes, &mut nodes)?;
+        let nodes = nodes_in_front(alloc, aliases, includes, expected)?;
         Ok(Numbering {
             nodes,
             links,
@@ -125,11 +122,7 @@ impl Numbering {
         if number == self.limit {
             return Err(TableFault::TooManyNames);
         }
-        // What can fail comes first, and changes nothing that is seen.
-        let node = make_node(alloc, lead)?;
-        self.nodes.reserve(1)?;
-        self.links.push(hash)?;
-        self.nodes.push_reserved(node);
+        push_node(alloc, lead, hash, &mut self.nodes, &mut self.links)?;
         Ok(number as u32)
     }
 
@@ -171,24 +164,61 @@ impl Numbering {
     }
 }
 
-// Puts so many aliases at the end.
-fn push_aliases(count: usize, nodes: &mut Vec<Node>) -> Result<(), AllocError>
-    requires { count ≤ 2 ^ 24 }
-    ensures { OnOk result (nodes.new.items ≡ nodes.old.items ++ map Alias (range_with_len 0 count)) }
+// The nodes of so many aliases and so many include files, and room for so many others.
+fn nodes_in_front(
+    alloc: Global,
+    aliases: usize,
+    includes: usize,
+    others: usize,
+) -> Result<Vec<Node>, AllocError>
+    requires { aliases + includes + others ≤ 2 ^ 24 }
+    ensures { IfOk result (λ nodes. nodes.items ≡ entries_of aliases includes) }
 {
-    for number in 0..count {
-        nodes.push(Node::Alias(number as u32))?;
+    let mut nodes = Vec::with_capacity(alloc, aliases + includes + others)?;
+    for number in 0..aliases + includes {
+        nodes.push_reserved(node_in_front(aliases, number));
     }
-    Ok(())
+    Ok(nodes)
 }
 
-// Puts so many include files at the end.
-fn push_includes(count: usize, nodes: &mut Vec<Node>) -> Result<(), AllocError>
-    requires { count ≤ 2 ^ 24 }
-    ensures { OnOk result (nodes.new.items ≡ nodes.old.items ++ map Include (range_with_len 0 count)) }
+// The node of a number in front: the aliases stand before the include files.
+fn node_in_front(aliases: usize, number: usize) -> Node
+    requires { number < 2 ^ 24 }
+    ensures alias { number < aliases → result ≡ Alias number }
+    ensures include { aliases ≤ number → result ≡ Include (number - aliases) }
 {
-    for number in 0..count {
-        nodes.push(Node::Include(number as u32))?;
+    if number < aliases {
+        Node::Alias(number as u32)
+    } else {
+        Node::Include((number - aliases) as u32)
     }
+}
+
+// Puts the node of a lead at the end, and its hash. `Err` where memory runs out: then nothing is put.
+fn push_node(
+    alloc: Global,
+    lead: Lead<'_>,
+    hash: u32,
+    nodes: &mut Vec<Node>,
+    links: &mut Links,
+) -> Result<(), AllocError>
+    requires good { HasGoodAddress (node_of lead) }
+    requires few { length links.old < 2 ^ 32 - 2 }
+    ensures nodes { OnOk result (nodes.new.items ≡ nodes.old.items ++ node_of lead.entry ∷ []) }
+    ensures links { OnOk result (links.new ≡ links.old ++ hash ∷ []) }
+    ensures no_node { OnErr result (nodes.new.items ≡ nodes.old.items) }
+    ensures no_hash { OnErr result (links.new ≡ links.old) }
+{
+    // What can fail comes first, and changes nothing that is seen.
+    let node = make_node(alloc, lead)?;
+    let Ok(()) = nodes.reserve(1) else {
+        drop(node);
+        return Err(AllocError);
+    };
+    let Ok(()) = links.push(hash) else {
+        drop(node);
+        return Err(AllocError);
+    };
+    nodes.push_reserved(node);
     Ok(())
 }

@@ -1,18 +1,18 @@
 //! Rows of node numbers: the children of each entry, and the recipients' targets.
-ghost use Rattle.std.specs.Prelude.{◌≡◌, ◌<◌, ◌+◌, ◌^◌, ◌++◌, [], length, map, flat_map, slice_get, IfOk, OnOk, IfSome, IsTrue};
-ghost use Rattle.std.specs.List.{list_all, range_with_len};
-ghost use Rattle.relay_tables.specs.declared.node.Node.TheVariants.{Alias, Include};
+ghost use Rattle.std.specs.Prelude.{◌≡◌, ◌<◌, ◌≤◌, ◌+◌, ◌^◌, [], length, map, flat_map, slice_get, IfOk, OnOk, IfSome, IsTrue};
+ghost use Rattle.std.specs.List.{list_all};
 ghost use Rattle.relay_tables.specs.Parts.{is_good_item};
 ghost use Rattle.relay_tables.specs.Targets.{item_target, recipient_target, targets_of};
+ghost use Rattle.relay_tables.specs.Graphs.{entry_nodes};
 ghost use Rattle.relay_tables.specs.Looking.{item_found, recipient_found, found_from, AreFirst};
 ghost use Rattle.relay_tables.specs.Numbering.{Numbers};
-ghost use Rattle.relay_tables.specs.Rowing.{nodes_in, some_of, Adds};
+ghost use Rattle.relay_tables.specs.Rowing.{nodes_in, some_of, LeadTo};
 
 use crate::adjacency::Adjacency;
 use crate::ahead::Ahead;
 use crate::fault::TableFault;
 use crate::leading::{number_address, number_item};
-use crate::listed::Listed;
+use crate::listed::{Listed, entry_count, list_of};
 use crate::looking::{target_of_address, target_of_item};
 use crate::numbering::Numbering;
 use crate::tables::Tables;
@@ -106,48 +106,9 @@ pub(crate) fn number_items(
     Ok(())
 }
 
-/// A row behind these for each alias, in order: the targets of its items. What is found for the first items of all entries may be given;
-/// what is found for the include files comes back.
-pub(crate) fn number_aliases<'a>(
-    alloc: Global,
-    tables: &Tables,
-    found: &'a [Option<Target>],
-    names: &mut Numbering,
-    scratch: &mut Scratch,
-    rows: &mut Adjacency,
-) -> Result<&'a [Option<Target>], TableFault>
-    requires room { length rows.old + length tables.now.aliases < 2 ^ 31 }
-    requires found { AreFirst found.now (found_from tables.now 0) }
-    ensures rest { IfOk result (λ rest. AreFirst rest.now (found_from tables.now (length tables.now.aliases))) }
-    ensures count { OnOk result (length rows.new ≡ length rows.old + length tables.now.aliases) }
-    ensures rows { OnOk result (Adds names.old.nodes rows.old (map (λ n. targets_of tables.now (Alias n)) (range_with_len 0 (length tables.now.aliases))) names.new.nodes rows.new) }
-    ensures numbers { Numbers names.old (flat_map (λ n. targets_of tables.now (Alias n)) (range_with_len 0 (length tables.now.aliases))) result names.new }
-{
-    let entries = tables.aliases();
-    let mut rest = found;
-    for number in 0..entries.len() {
-        scratch
-            .ahead
-            .read_entries(tables, Some(names), rest, number);
-        let items = entries[number].items.as_slice();
-        let parent = Some(number as u32);
-        let (part, others) = rest.split_at(items.len().min(rest.len()));
-        number_items(
-            alloc,
-            tables,
-            Listed { items, parent },
-            part,
-            names,
-            scratch,
-        )?;
-        rows.push(&scratch.row)?;
-        rest = others;
-    }
-    Ok(rest)
-}
-
-/// A row behind these for each include file, in order: the targets of its items. What is found for the first of them may be given.
-pub(crate) fn number_includes(
+/// A row for each alias and then for each include file, where there are none yet: the targets of its items. What is found for the first
+/// items of all may be given; the others are looked up.
+pub(crate) fn number_entries(
     alloc: Global,
     tables: &Tables,
     found: &[Option<Target>],
@@ -155,61 +116,22 @@ pub(crate) fn number_includes(
     scratch: &mut Scratch,
     rows: &mut Adjacency,
 ) -> Result<(), TableFault>
-    requires room { length rows.old + length tables.now.includes < 2 ^ 31 }
-    requires found { AreFirst found.now (found_from tables.now (length tables.now.aliases)) }
-    ensures rows { OnOk result (Adds names.old.nodes rows.old (map (λ n. targets_of tables.now (Include n)) (range_with_len 0 (length tables.now.includes))) names.new.nodes rows.new) }
-    ensures numbers { Numbers names.old (flat_map (λ n. targets_of tables.now (Include n)) (range_with_len 0 (length tables.now.includes))) result names.new }
+    requires none { rows.old ≡ [] }
+    requires few { length tables.now.aliases + length tables.now.includes ≤ 2 ^ 24 }
+    requires found { AreFirst found.now (found_from tables.now 0) }
+    ensures rows { OnOk result (LeadTo names.new.nodes rows.new (map (targets_of tables.now) (entry_nodes tables.now))) }
+    ensures numbers { Numbers names.old (flat_map (targets_of tables.now) (entry_nodes tables.now)) result names.new }
 {
-    let includes = tables.includes();
     let mut rest = found;
-    for number in 0..includes.len() {
-        let items = includes[number].items.as_slice();
-        let parent = None;
-        let (part, others) = rest.split_at(items.len().min(rest.len()));
-        number_items(
-            alloc,
-            tables,
-            Listed { items, parent },
-            part,
-            names,
-            scratch,
-        )?;
-        rows.push(&scratch.row)?;
-        rest = others;
-    }
-    Ok(())
-}
-
-// Recipients, and what is found for the first of them.
-#[derive(Clone, Copy)]
-struct Recipients<'a> {
-    addresses: &'a [Address],
-    found: &'a [Option<Target>],
-}
-
-// Puts the recipients' targets, in order, where there are none yet.
-fn push_targets(
-    alloc: Global,
-    tables: &Tables,
-    recipients: Recipients<'_>,
-    names: &mut Numbering,
-    scratch: &mut Scratch,
-    roots: &mut Vec<u32>,
-) -> Result<(), TableFault>
-    requires none { roots.old.items ≡ [] }
-    requires found { AreFirst recipients.found.now (map (recipient_found tables.now) recipients.addresses.now) }
-    ensures roots { OnOk result (nodes_in names.new.nodes roots.new.items ≡ some_of (map (recipient_target tables.now) recipients.entry.addresses.now)) }
-    ensures numbers { Numbers names.old (map (recipient_target tables.now) recipients.entry.addresses.now) result names.new }
-{
-    let Recipients { addresses, found } = recipients;
-    for address in addresses {
-        let start = roots.len();
+    for number in 0..entry_count(tables) {
         scratch
             .ahead
-            .read_recipients(tables, Some(names), addresses, found, start);
-        let target = recipient_found_at(tables, found, start, address, &mut scratch.name)?;
-        let number = number_address(alloc, tables, address, target, names, &mut scratch.name)?;
-        roots.push(number)?;
+            .read_entries(tables, Some(names), rest, number);
+        let list = list_of(tables, number);
+        let (part, others) = rest.split_at(list.items.len().min(rest.len()));
+        number_items(alloc, tables, list, part, names, scratch)?;
+        rows.push(&scratch.row)?;
+        rest = others;
     }
     Ok(())
 }
@@ -228,10 +150,14 @@ pub(crate) fn number_recipients(
     ensures numbers { Numbers names.old (map (recipient_target tables.now) recipients.now) result names.new }
 {
     let mut roots = Vec::with_capacity(alloc, recipients.len())?;
-    let recipients = Recipients {
-        addresses: recipients,
-        found,
-    };
-    push_targets(alloc, tables, recipients, names, scratch, &mut roots)?;
+    for address in recipients {
+        let start = roots.len();
+        scratch
+            .ahead
+            .read_recipients(tables, Some(names), recipients, found, start);
+        let target = recipient_found_at(tables, found, start, address, &mut scratch.name)?;
+        let number = number_address(alloc, tables, address, target, names, &mut scratch.name)?;
+        roots.push_reserved(number);
+    }
     Ok(roots)
 }

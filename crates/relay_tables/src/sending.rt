@@ -60,13 +60,21 @@ impl SenderList {
         ensures number { IfOk result (λ number. slice_get self.new number ≡ Some sender) }
         ensures added { OnOk result (MayAdd self.old sender self.new) }
     {
-        put_key(&sender, &mut self.key)?;
+        let Ok(()) = put_key(&sender, &mut self.key) else {
+            drop(sender);
+            return Err(AllocError);
+        };
         if let Some(number) = self.texts.find(&self.key) {
+            drop(sender);
             return Ok(number);
         }
         let number = self.senders.len() as u32;
-        self.senders.reserve(1)?;
+        let Ok(()) = self.senders.reserve(1) else {
+            drop(sender);
+            return Err(AllocError);
+        };
         if self.texts.intern(&self.key).is_err() {
+            drop(sender);
             return Err(AllocError);
         }
         self.senders.push_reserved(sender);

@@ -11,7 +11,7 @@ ghost use Rattle.std.specs.Prelude.{◌≡◌, ◌<◌, ◌≤◌, ◌+◌, ◌+
 ghost use Rattle.relay_tables.specs.Looking.{item_found, found_from};
 
 use crate::ahead::Ahead;
-use crate::listed::{Listed, list_of};
+use crate::listed::{Listed, entry_count, list_of};
 use crate::looking::target_of_item;
 use crate::sought::{Sought, part_of};
 use crate::target::Target;
@@ -22,13 +22,6 @@ use std::alloc::{AllocError, Global};
 struct Place {
     entry: usize,
     item: usize,
-}
-
-// How many aliases and include files there are.
-fn entry_count(tables: &Tables) -> usize
-    ensures { result ≡ length tables.now.aliases + length tables.now.includes }
-{
-    tables.aliases().len() + tables.includes().len()
 }
 
 // The place of an item among those of all entries.

@@ -35,7 +35,7 @@ fn recipients_found(
     for (place, address) in part.iter().enumerate() {
         ahead.read_recipients(tables, None, part, &[], place);
         let target = target_of_address(tables, address, None, &mut name)?;
-        found.push(target)?;
+        found.push_reserved(target);
     }
     Ok(found)
 }

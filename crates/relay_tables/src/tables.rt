@@ -1,16 +1,12 @@
 //! The tables by which names are resolved.
 use crate::domain_kind::DomainKind;
 use crate::include_entry::IncludeEntry;
-use crate::indexing::{
-    entry_links, entry_named, include_at, include_links, key_of, mailbox_links, mailbox_named,
-};
+use crate::indexing::{Indices, place_named};
 use crate::local::Local;
-use crate::marking::{MARKS, domain_mark, marks_of};
-use crate::owning::entry_owners;
+use crate::marking::domain_mark;
 use crate::target::Target;
 use relay_aliasfile::{AliasFile, Entry, Item, MailboxFile};
-use relay_chains::{Links, hash_text};
-use relay_text::{Address, Seq, Text, TextSet, same_bytes, split_place};
+use relay_text::{Address, Seq, Text, same_bytes, split_place};
 use std::alloc::{AllocError, Global};
 use std::marker::Model;
 
@@ -18,19 +14,25 @@ use std::marker::Model;
 ///
 /// An index holds the hashes of its texts alone, under a key that depends on all names of entries and mailboxes. Look-ups take no memory
 /// and need about one comparison, whatever the size of the tables; a domain takes as many as the logarithm of their number.
-#[derive(Drop)]
 pub struct Tables {
     local: Local,
     aliases: Seq<Entry>,
     includes: Seq<IncludeEntry>,
     mailboxes: Seq<Text>,
-    domains: TextSet,
-    marks: [bool; MARKS],
-    key: u64,
-    alias_links: Links,
-    include_links: Links,
-    mailbox_links: Links,
-    owners: Vec<Option<u32>>,
+    indices: Indices,
+}
+
+// Written out: what becomes of a derived drop's parts is followed in each proof that has such a value to its end.
+impl Drop for Tables {
+    fn drop(self) {
+        let Tables {
+            local: _,
+            aliases: _,
+            includes: _,
+            mailboxes: _,
+            indices: _,
+        } = self;
+    }
 }
 
 impl Model for Tables {
@@ -41,18 +43,18 @@ impl Model for Tables {
 
     ghost view = { λ a. record { local = a.local; aliases = a.aliases; includes = a.includes; mailboxes = a.mailboxes } };
 
-    ghost invariant = { λ a. AreTables (record { local = a.local; aliases = a.aliases; includes = a.includes; mailboxes = a.mailboxes }) a.key a.domains a.marks a.alias_links a.include_links a.mailbox_links a.owners.items };
+    ghost invariant = { λ a. AreTables (record { local = a.local; aliases = a.aliases; includes = a.includes; mailboxes = a.mailboxes }) a.indices.key a.indices.domains a.indices.marks a.indices.aliases a.indices.includes a.indices.mailboxes a.indices.owners.items };
 }
 
 ghost use Rattle.std.specs.Prelude.{◌≡◌, ◌≢◌, ◌<◌, ◌-◌, ◌^◌, ◌||◌, length, map, Some, option_map, option_and_then, option_to_list, IsTrue, IsSome, IfOk, IfSome, All, AllPairs};
 ghost use Rattle.std.specs.List.{list_all, list_any};
 ghost use Rattle.relay_text.specs.Bytes.{folded};
 ghost use Rattle.relay_text.specs.Addresses.{is_origin};
-ghost use Rattle.relay_tables.specs.Parts.{is_local_part, is_good_item, is_good_entry, is_good_include};
+ghost use Rattle.relay_tables.specs.Parts.{is_local_part, is_good_entry, is_good_include};
 ghost use Rattle.relay_tables.specs.DomainKind.{IsOfKind};
 ghost use Rattle.relay_tables.specs.Tables.{IsLawful};
 ghost use Rattle.relay_tables.specs.Targets.{resolved, is_local_address, include_number, alias_beside, base_name, has_mailbox, at_origin};
-ghost use Rattle.relay_tables.specs.Senders.{owner_number, owner_entry, one_address, sender_by};
+ghost use Rattle.relay_tables.specs.Senders.{owner_number, owner_entry, sender_by};
 
 impl Tables {
     /// The tables of these settings and files.
@@ -77,27 +79,17 @@ impl Tables {
         requires few_mailboxes { length mailboxes.names < 2 ^ 32 - 2 }
         ensures { IfOk result (λ tables. tables ≡ record { local = local; aliases = aliases.entries; includes = includes.items; mailboxes = mailboxes.names }) }
     {
+        let entries = aliases.entries.as_slice();
+        let names = mailboxes.names.as_slice();
+        let indices = Indices::of(alloc, &local, entries, &includes, names)?;
         let AliasFile { entries, faults: _ } = aliases;
         let MailboxFile { names, faults: _ } = mailboxes;
-        let domains = TextSet::of(alloc, local.domains.as_slice())?;
-        let marks = marks_of(&local);
-        let key = key_of(entries.as_slice(), names.as_slice());
-        let alias_links = entry_links(alloc, key, entries.as_slice())?;
-        let include_links = include_links(alloc, key, &includes)?;
-        let mailbox_links = mailbox_links(alloc, key, names.as_slice())?;
-        let owners = entry_owners(alloc, key, entries.as_slice(), &alias_links)?;
         Ok(Tables {
             local,
             aliases: entries,
             includes: Seq::of(includes),
             mailboxes: names,
-            domains,
-            marks,
-            key,
-            alias_links,
-            include_links,
-            mailbox_links,
-            owners,
+            indices,
         })
     }
 
@@ -137,7 +129,7 @@ impl Tables {
         requires { alias < length self.now.aliases }
         ensures { result ≡ owner_number self.now alias }
     {
-        match self.owners.get(alias as usize) {
+        match self.indices.owners.get(alias as usize) {
             Some(owner) => *owner,
             None => None,
         }
@@ -171,7 +163,7 @@ impl Tables {
     {
         let mut addresses = Vec::with_capacity(alloc, self.aliases.len())?;
         for entry in self.aliases() {
-            addresses.push(self.at_origin(alloc, entry.name.as_bytes())?)?;
+            addresses.push_reserved(self.at_origin(alloc, entry.name.as_bytes())?);
         }
         Ok(addresses)
     }
@@ -189,13 +181,13 @@ impl Tables {
         ensures { IsOfKind self.now.local address.now result }
     {
         let domain = address.domain();
-        if !self.marks[domain_mark(domain)] {
+        if !self.indices.marks[domain_mark(domain)] {
             return DomainKind::Remote;
         }
         if same_bytes(domain, self.local.origin.as_bytes()) {
             return DomainKind::Origin;
         }
-        if self.domains.contains(domain) {
+        if self.indices.domains.contains(domain) {
             return DomainKind::Local;
         }
         DomainKind::Remote
@@ -203,17 +195,17 @@ impl Tables {
 
     // Whether an address has the mark of a local domain: it's remote where it hasn't.
     pub(crate) fn may_be_local(&self, address: &Address) -> bool {
-        self.marks[domain_mark(address.domain())]
+        self.indices.marks[domain_mark(address.domain())]
     }
 
     // The word of the newest entry whose name has a hash.
     pub(crate) fn newest_entry(&self, hash: u32) -> u32 {
-        self.alias_links.newest(hash)
+        self.indices.aliases.newest(hash)
     }
 
     // The word of the newest mailbox whose name has a hash.
     pub(crate) fn newest_mailbox(&self, hash: u32) -> u32 {
-        self.mailbox_links.newest(hash)
+        self.indices.mailboxes.newest(hash)
     }
 
     // The length of the name of the entry of a word.
@@ -238,21 +230,15 @@ impl Tables {
 
     // The key of the hashes, which depends on all names of entries and mailboxes.
     pub(crate) fn key(&self) -> u64 {
-        self.key
+        self.indices.key
     }
 
     // The number of the include file of a path.
     pub(crate) fn include_of(&self, path: &[u8]) -> Option<u32>
         ensures { result ≡ include_number self.now path.now }
     {
-        let hash = hash_text(self.key, path);
-        include_at(
-            self.includes.as_slice(),
-            &self.include_links,
-            self.key,
-            hash,
-            path,
-        )
+        let includes = self.includes.as_slice();
+        place_named(includes, &self.indices.includes, self.indices.key, path)
     }
 
     // The domain of a name that has none.
@@ -276,29 +262,10 @@ impl Tables {
         requires { IsTrue (is_good_entry owner.now) }
         ensures { IfOk result (λ a. a ≡ sender_by self.now owner.now) }
     {
-        if self.local.expand
-            && let Some(address) = self.one_address(alloc, owner.items.as_slice())?
-        {
-            return Ok(address);
-        }
-        self.at_origin(alloc, owner.name.as_bytes())
-    }
-
-    // The one address that a list of items is.
-    fn one_address(&self, alloc: Global, items: &[Item]) -> Result<Option<Address>, AllocError>
-        requires { IsTrue (list_all is_good_item items.now) }
-        ensures { IfOk result (λ a. a ≡ one_address self.now items.now) }
-    {
-        match items {
-            [Item::Bare(name)] => {
-                let address = self.at_origin(alloc, name.as_bytes())?;
-                Ok(Some(address))
-            }
-            [Item::Full(address)] => {
-                let address = address.copy(alloc)?;
-                Ok(Some(address))
-            }
-            _ => Ok(None),
+        match owner.items.as_slice() {
+            [Item::Bare(name)] if self.local.expand => self.at_origin(alloc, name.as_bytes()),
+            [Item::Full(address)] if self.local.expand => address.copy(alloc),
+            _ => self.at_origin(alloc, owner.name.as_bytes()),
         }
     }
 
@@ -314,9 +281,8 @@ impl Tables {
     fn alias_beside(&self, name: &[u8], parent: Option<u32>) -> Option<u32>
         ensures { result ≡ alias_beside self.now parent name.now }
     {
-        let hash = hash_text(self.key, name);
         let entries = self.aliases.as_slice();
-        let number = entry_named(entries, &self.alias_links, self.key, hash, name)?;
+        let number = place_named(entries, &self.indices.aliases, self.indices.key, name)?;
         if parent == Some(number) {
             None
         } else {
@@ -335,9 +301,8 @@ impl Tables {
     fn has_mailbox(&self, name: &[u8]) -> bool
         ensures { result ≡ has_mailbox self.now name.now }
     {
-        let hash = hash_text(self.key, name);
         let names = self.mailboxes.as_slice();
-        mailbox_named(names, &self.mailbox_links, self.key, hash, name).is_some()
+        place_named(names, &self.indices.mailboxes, self.indices.key, name).is_some()
     }
 
     // Whether there is one of a name or of its base.

@@ -18,7 +18,7 @@ returns-in_err-number_entries-clause-full c =
     let s = c.in_ok-begun.begun.names in
     let start : IsStart d rs c.args.names s = record { nodes_are = c.in_ok-begun.ensures.nodes; limit_is = c.in_ok-begun.ensures.limit } in
     let p = err_from_is_err_and c.from_residual-in_err-number_entries.result c.from_residual-in_err-number_entries.ensures.1 in
-    rw (p.1, p.2) (λ e. step_too_many d rs (Unit {0}) c.in_err-number_entries.field-0.0 c.args.names s s c.number_entries.new.begun.names [] (entries_all d) (roots_all d rs)
+    rw (p.1, p.2) (λ e. step_too_many d rs (Unit {0}) c.in_err-number_entries.field-0.0 c.args.names s s c.number_entries.new.names [] (entries_all d) (roots_all d rs)
     start (sym (with_all-none s)) refl c.in_err-number_entries.ensures.numbers (same_fault _ _ e))
 
 pub returns-in_err-roots-clause-full : goal.returns-in_err-roots-clause-full
@@ -28,7 +28,7 @@ returns-in_err-roots-clause-full c =
     let s = c.in_ok-begun.begun.names in
     let start : IsStart d rs c.args.names s = record { nodes_are = c.in_ok-begun.ensures.nodes; limit_is = c.in_ok-begun.ensures.limit } in
     let p = err_from_is_err_and c.from_residual-in_err-roots.result c.from_residual-in_err-roots.ensures.1 in
-    rw (p.1, p.2) (λ e. step_too_many d rs (Vec ℕ Global) c.in_err-roots.field-0.0 c.args.names s c.number_entries.new.begun.names c.number_recipients.new.names (entries_all d) (roots_all d rs) []
+    rw (p.1, p.2) (λ e. step_too_many d rs (Vec ℕ Global) c.in_err-roots.field-0.0 c.args.names s c.number_entries.new.names c.number_recipients.new.names (entries_all d) (roots_all d rs) []
     start c.in_ok-number_entries.ensures.numbers (sym (append-nil (entries_all d ++ roots_all d rs))) c.in_err-roots.ensures.numbers (same_fault _ _ e))
 
 pub returns-clause-rows : goal.returns-clause-rows
@@ -37,7 +37,7 @@ returns-clause-rows c =
     let rs = c.args.recipients.now in
     let s = c.in_ok-begun.begun.names in
     let start : IsStart d rs c.args.names s = record { nodes_are = c.in_ok-begun.ensures.nodes; limit_is = c.in_ok-begun.ensures.limit } in
-    rows_made d rs c.args.names s c.number_entries.new.begun.names c.number_recipients.new.names _ c.in_ok-roots.roots.items _
+    rows_made d rs c.args.names s c.number_entries.new.names c.number_recipients.new.names _ c.in_ok-roots.roots.items _
     start c.in_ok-number_entries.ensures.numbers c.in_ok-roots.ensures.numbers c.in_ok-number_entries.ensures.rows c.in_ok-roots.ensures.roots c.into_nodes.ensures.nodes
 
 pub returns-clause-within : goal.returns-clause-within
@@ -46,5 +46,5 @@ returns-clause-within c =
     let rs = c.args.recipients.now in
     let s = c.in_ok-begun.begun.names in
     let start : IsStart d rs c.args.names s = record { nodes_are = c.in_ok-begun.ensures.nodes; limit_is = c.in_ok-begun.ensures.limit } in
-    let last = last_nodes d rs c.args.names s c.number_entries.new.begun.names c.number_recipients.new.names start c.in_ok-number_entries.ensures.numbers c.in_ok-roots.ensures.numbers in
+    let last = last_nodes d rs c.args.names s c.number_entries.new.names c.number_recipients.new.names start c.in_ok-number_entries.ensures.numbers c.in_ok-roots.ensures.numbers in
     omega (arith, last.1, ap length last.0, c.into_nodes.ensures.within)

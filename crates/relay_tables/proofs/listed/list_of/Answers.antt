@@ -1,7 +1,12 @@
-use Rattle.std.proofs.Common.{arith, ◌≡◌, ℕ, List, ◌++◌, ◌+◌, ◌-◌, ◌<◌, Option, length, sym, ap, ◌∙◌}
+use Rattle.std.proofs.Common.{arith, ◌≡◌, ℕ, List, ◌++◌, ◌+◌, ◌-◌, ◌<◌, Option, Some, length, slice_get, sym, ap, ◌∙◌}
+use Rattle.std.specs.Prelude.{option_map}
+use Rattle.relay_tables.specs.declared.node.Node.{Node}
 use Rattle.relay_tables.specs.declared.node.Node.TheVariants.{Include}
 use Rattle.relay_tables.specs.declared.target.Target.{Target}
+use Rattle.relay_tables.specs.Targets.{targets_of}
+use Rattle.relay_tables.specs.Graphs.{entry_nodes}
 use Rattle.relay_tables.specs.Looking.{node_found, found_from}
+use Rattle.relay_tables.proofs.EntrySteps.{alias_entry, include_entry}
 use Rattle.relay_tables.proofs.Looks.{alias_found_more, include_found_more}
 use Rattle.relay_tables.proofs.listed.list_of.Goals as goal
 
@@ -9,7 +14,7 @@ pub returns-then-number-aliases-clause-found : goal.returns-then-number-aliases-
 returns-then-number-aliases-clause-found c =
     let d = c.args.tables.now in
     let n = c.args.number in
-    alias_found_more d n (omega (arith, ap length c.aliases-aliases.ensures.entries)) ∙ ap (λ (found : List (Option Target)). found ++ found_from d (n + 1)) c.items_of.ensures.found
+    alias_found_more d n (omega (arith, ap length c.aliases-aliases.ensures.entries)) ∙ ap (λ (found : List (Option Target)). found ++ found_from d (n + 1)) c.alias_list.ensures.found
 
 pub returns-else-number-aliases-clause-found : goal.returns-else-number-aliases-clause-found
 returns-else-number-aliases-clause-found c =
@@ -22,4 +27,20 @@ returns-else-number-aliases-clause-found c =
     ap (found_from d) (sym sum)
     ∙ include_found_more d k below
     ∙ ap (λ (m : ℕ). node_found d (Include k) ++ found_from d m) more
-    ∙ ap (λ (found : List (Option Target)). found ++ found_from d (n + 1)) c.items_of-else-number-aliases.ensures.found
+    ∙ ap (λ (found : List (Option Target)). found ++ found_from d (n + 1)) c.include_list.ensures.found
+
+pub returns-then-number-aliases-clause-targets : goal.returns-then-number-aliases-clause-targets
+returns-then-number-aliases-clause-targets c =
+    let d = c.args.tables.now in
+    ap (option_map (targets_of d)) (alias_entry d c.args.number (omega (arith, ap length c.aliases-aliases.ensures.entries))) ∙ ap (λ (ts : List Node). Some ts) c.alias_list.ensures.targets
+
+pub returns-else-number-aliases-clause-targets : goal.returns-else-number-aliases-clause-targets
+returns-else-number-aliases-clause-targets c =
+    let d = c.args.tables.now in
+    let n = c.args.number in
+    let k = n - length c.aliases-aliases.result.now in
+    let sum : length d.aliases + k ≡ n = omega (arith, ap length c.aliases-aliases.ensures.entries) in
+    let below : k < length d.includes = omega (arith, c.requires) in
+    ap (λ (m : ℕ). option_map (targets_of d) (slice_get (entry_nodes d) m)) (sym sum)
+    ∙ ap (option_map (targets_of d)) (include_entry d k below)
+    ∙ ap (λ (ts : List Node). Some ts) c.include_list.ensures.targets

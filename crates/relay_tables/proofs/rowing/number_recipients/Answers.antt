@@ -1,16 +1,66 @@
-use Rattle.std.proofs.Common.{List, [], Vec, ℕ, Global, map, sym}
-use Rattle.std.proofs.lemmas.List.{append-nil}
+use Rattle.std.proofs.Common.{arith, ◌≡◌, ℕ, List, Some, None, Err, subst, ◌∷◌, [], ◌+◌, Vec, Global, map, take, drop, slice_get, sym, ap, ◌∙◌}
+use Rattle.std.specs.Prelude.{IfSome}
+use Rattle.std.proofs.lemmas.List.{length-map, length-take-le}
 use Rattle.std.proofs.lemmas.Result.{err_from_is_err_and}
 use Rattle.relay_tables.specs.declared.node.Node.{Node}
 use Rattle.relay_tables.specs.Targets.{recipient_target}
-use Rattle.relay_tables.proofs.RowSteps.{with_all-none, refused}
+use Rattle.relay_tables.specs.Looking.{recipient_found, address_node}
+use Rattle.relay_tables.specs.Numbering.{Numbered, Numbers, with_all}
+use Rattle.relay_tables.specs.Rowing.{nodes_in, some_of}
+use Rattle.relay_tables.proofs.Looks.{address_leads, found_here, row_length}
+use Rattle.relay_tables.proofs.RowSteps.{with_all-none, with_all-more, refused, row_push, map_split_at, map_more_at}
 use Rattle.relay_tables.proofs.rowing.number_recipients.Goals as goal
 
-pub returns-in_err-push_targets-clause-numbers : goal.returns-in_err-push_targets-clause-numbers
-returns-in_err-push_targets-clause-numbers c =
-    let s = c.args.names.now in
-    let new = c.push_targets.new.names in
-    let all : List Node = map (recipient_target c.args.tables.now) c.args.recipients.now in
-    let p = err_from_is_err_and c.from_residual-in_err-push_targets.result c.from_residual-in_err-push_targets.ensures.1 in
+pub loop-address-init : goal.loop-address-init
+loop-address-init c = record {
+  names = sym (with_all-none c.args.names.now);
+  roots = ap (map (slice_get c.args.names.now.nodes)) c.in_ok-roots.ensures.items;
+  room = omega (arith, c.in_ok-roots.ensures.len, c.in_ok-roots.ensures.capacity);
+}
+
+pub returns-in_err-number-clause-numbers : goal.returns-in_err-number-clause-numbers
+returns-in_err-number-clause-numbers c =
+    let l = c.loop-address in
+    let f = recipient_target c.args.tables.now in
+    let items = c.args.recipients.now in
+    let item = c.address-item.result in
+    let d = c.args.tables.now in
+    let leads : address_node d item c.in_ok-target.target ≡ f item = ap (address_node d item) c.in_ok-target.ensures ∙ address_leads d None item in
+    let e = c.in_err-number.field-0.0 in
+    let new = c.number_address.new.names in
+    let h : Numbers {A = ℕ} l.names (f item ∷ []) (Err e) new = subst (λ (n : Node). Numbers {A = ℕ} l.names (n ∷ []) (Err e) new) leads c.in_err-number.ensures.numbers in
+    let p = err_from_is_err_and c.from_residual-in_err-number.result c.from_residual-in_err-number.ensures.1 in
     rw (p.1, p.2)
-    (refused (Unit {0}) (Vec ℕ Global) c.in_err-push_targets.field-0.0 s s new new [] all [] all (sym (with_all-none s)) (sym (append-nil all)) c.in_err-push_targets.ensures.numbers)
+    (refused ℕ (Vec ℕ Global) _ c.args.names.now l.names c.number_address.new.names c.number_address.new.names (map f (take l.address-index items)) (f item ∷ []) (map f (drop (l.address-index + 1) items)) (map f items)
+    l.invariant.names (map_split_at f items l.address-index item c.loop-address-test.true c.address-item.is) h)
+
+pub loop-address-preserved : goal.loop-address-preserved
+loop-address-preserved c =
+    let l = c.loop-address in
+    let f = recipient_target c.args.tables.now in
+    let items = c.args.recipients.now in
+    let item = c.address-item.result in
+    let new = c.number_address.new.names in
+    let more = map_more_at f items l.address-index item c.loop-address-test.true c.address-item.is in
+    let d = c.args.tables.now in
+    let leads : address_node d item c.in_ok-target.target ≡ f item = ap (address_node d item) c.in_ok-target.ensures ∙ address_leads d None item in
+    let step : new ≡ with_all l.names (f item ∷ []) = c.in_ok-number.ensures.numbers ∙ ap (λ (n : Node). with_all l.names (n ∷ [])) leads in
+    record {
+      names = with_all-more c.args.names.now l.names new (map f (take l.address-index items)) (f item ∷ []) (map f (take (l.address-index + 1) items)) l.invariant.names step more;
+      roots = ap (λ (row : List ℕ). nodes_in new.nodes row) c.push_reserved.ensures.items
+          ∙ row_push l.names.nodes new.nodes l.roots.items (map f (take l.address-index items)) c.in_ok-number.number (f item) l.invariant.roots (ap (λ (s : Numbered). s.nodes) step) (c.in_ok-number.ensures.number ∙ ap (λ (n : Node). Some n) leads)
+          ∙ ap some_of (sym more);
+      room = omega (arith, l.invariant.room, c.push_reserved.ensures.len, c.push_reserved.ensures.capacity);
+    }
+
+pub recipient_found_at-requires : goal.recipient_found_at-requires
+recipient_found_at-requires c =
+    let l = c.loop-address in
+    let f = recipient_found c.args.tables.now in
+    let items = c.args.recipients.now in
+    let target = recipient_target c.args.tables.now in
+    let row = row_length l.names.nodes l.roots.items (map target (take l.address-index items)) l.invariant.roots in
+    let place : c.len-start.result ≡ l.address-index = omega (arith, c.len-start.ensures, row, length-map (take l.address-index items) target, length-take-le l.address-index items (omega arith)) in
+    let here = subst (λ (k : ℕ). IfSome (slice_get c.args.found.now k) (λ t. t ≡ f c.address-item.result)) (sym place)
+    (found_here f items c.args.found.now l.address-index c.address-item.result c.requires.found c.loop-address-test.true c.address-item.is) in
+    record { found = here }

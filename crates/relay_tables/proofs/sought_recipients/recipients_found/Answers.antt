@@ -9,4 +9,4 @@ returns c =
     let l = c.loop-place in
     let f = recipient_found c.args.tables.now in
     let part = c.part_of-part.result.now in
-    l.invariant ∙ ap (map f) (take_all l.place part (omega arith)) ∙ ap (map f) c.part_of-part.ensures ∙ part_found f c.args.recipients.now c.args.start c.args.most
+    l.invariant.found ∙ ap (map f) (take_all l.place part (omega arith)) ∙ ap (map f) c.part_of-part.ensures ∙ part_found f c.args.recipients.now c.args.start c.args.most

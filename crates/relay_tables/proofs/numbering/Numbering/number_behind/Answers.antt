@@ -59,13 +59,13 @@ pub invariant_of-self-2 : goal.invariant_of-self-2
 invariant_of-self-2 c =
     let i = c.self.inside in
     let more : length i.nodes.items ≡ i.limit → ⊥ = λ full. c.if-number-self.false (omega (arith, i.nodes.ok.0)) in
-    rw (c.push_reserved.ensures.items, c.reserve.ensures.items, c.in_ok-push.ensures.ok, c.lead_hash-hash.ensures, c.in_ok-node.ensures)
+    rw (c.in_ok-push_node.ensures.nodes, c.in_ok-push_node.ensures.links, c.lead_hash-hash.ensures)
     (new_numbered i.nodes.items i.aliases i.includes i.limit i.key i.links c.self.invariant (node_of c.args.lead) more)
 
 pub returns-clause-number : goal.returns-clause-number
 returns-clause-number c =
     let i = c.self.inside in
-    rw (c.push_reserved.ensures.items, c.reserve.ensures.items, c.in_ok-node.ensures)
+    rw c.in_ok-push_node.ensures.nodes
     (last_is i.nodes.items (node_of c.args.lead) c.len-number.result (omega (arith, i.nodes.ok.0)))
 
 pub returns-clause-numbers : goal.returns-clause-numbers
@@ -80,4 +80,4 @@ returns-clause-numbers c =
     ∙ ap (position (same_node n)) (sym (all_behind entries nodes)) ∙ gone in
     let grown = new_grows i.nodes.items i.aliases i.includes i.limit i.key i.links c.self.invariant n (rw (← c.self.view_is) at c.requires.behind) none in
     let viewed : List Node → Numbered = λ ns. record { nodes = ns; aliases = i.aliases; includes = i.includes; limit = i.limit } in
-    rw (← c.self.view_is, c.push_reserved.ensures.items, c.reserve.ensures.items, c.in_ok-node.ensures) (ap viewed (sym grown))
+    rw (← c.self.view_is, c.in_ok-push_node.ensures.nodes) (ap viewed (sym grown))

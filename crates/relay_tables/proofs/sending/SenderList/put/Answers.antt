@@ -10,7 +10,7 @@ pub returns-in-Some-clause-number : goal.returns-in-Some-clause-number
 returns-in-Some-clause-number c =
     let i = c.self.inside in
     let s = c.args.sender in
-    let text : c.deref.result.now ≡ sender_key s = c.deref.ensures.value ∙ c.in_ok-put_key.ensures in
+    let text : c.deref.result.now ≡ sender_key s = c.deref.ensures.value ∙ c.in-Ok.ensures in
     let there : number_of bytes_eq i.texts.keys (sender_key s) ≡ Some c.in-Some.number = ap (λ (t : List ℕ). number_of bytes_eq i.texts.keys t) (sym text) ∙ sym c.in-Some.ensures in
     sender_found i.senders.items i.texts.keys s c.in-Some.number c.self.invariant there
 
@@ -18,8 +18,8 @@ pub invariant_of-self-2 : goal.invariant_of-self-2
 invariant_of-self-2 c =
     let i = c.self.inside in
     let s = c.args.sender in
-    let text : c.deref.result.now ≡ sender_key s = c.deref.ensures.value ∙ c.in_ok-put_key.ensures in
-    let again : c.deref-2.result.now ≡ sender_key s = c.deref-2.ensures.value ∙ c.in_ok-put_key.ensures in
+    let text : c.deref.result.now ≡ sender_key s = c.deref.ensures.value ∙ c.in-Ok.ensures in
+    let again : c.deref-2.result.now ≡ sender_key s = c.deref-2.ensures.value ∙ c.in-Ok.ensures in
     let gone : number_of bytes_eq i.texts.keys c.deref.result.now ≡ None = search rules in
     let same : c.deref-2.result.now ≡ c.deref.result.now = again ∙ sym text in
     let none : number_of bytes_eq i.texts.keys c.deref-2.result.now ≡ None = ap (λ (t : List ℕ). number_of bytes_eq i.texts.keys t) same ∙ gone in

@@ -9,6 +9,6 @@ use Rattle.relay_tables.proofs.tables.Tables.has_mailbox.Goals as goal
 pub returns : goal.returns
 returns c =
     c.is_some.ensures
-    ∙ ap is_some (c.mailbox_named.ensures ∙ ap (position (bytes_eq c.args.name.now)) c.as_slice-names.ensures)
+    ∙ ap is_some (c.place_named.ensures ∙ ap (position (bytes_eq c.args.name.now)) c.as_slice-names.ensures)
     ∙ is_some-position (bytes_eq c.args.name.now) c.self.inside.mailboxes
     ∙ ap (λ (d : Directory). has_mailbox d c.args.name.now) c.self.view_is

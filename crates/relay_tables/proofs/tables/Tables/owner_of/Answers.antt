@@ -13,7 +13,7 @@ returns-in-Some c =
     rw (← c.self.view_is)
     (get_or_read c.deref.result.now c.args.alias c.in-Some.owner.now within found.1 None
     ∙ ap (λ os. get_or os c.args.alias None) c.deref.ensures.value
-    ∙ owner_found i.aliases i.owners.items c.args.alias c.self.invariant.owners below)
+    ∙ owner_found i.aliases i.indices.owners.items c.args.alias c.self.invariant.owners below)
 
 pub returns-in-None : goal.returns-in-None
 returns-in-None c =
@@ -23,4 +23,4 @@ returns-in-None c =
     rw (← c.self.view_is)
     (sym (get_or_past c.deref.result.now c.args.alias None past)
     ∙ ap (λ os. get_or os c.args.alias None) c.deref.ensures.value
-    ∙ owner_found i.aliases i.owners.items c.args.alias c.self.invariant.owners below)
+    ∙ owner_found i.aliases i.indices.owners.items c.args.alias c.self.invariant.owners below)

@@ -1,9 +1,0 @@
-use Rattle.std.proofs.Common.{◌≡◌, ◌+◌, ◌-◌, ◌≤◌, length, map, take, vec_capacity, vec_len}
-use Rattle.relay_tables.specs.Indices.{name_hash}
-use Rattle.relay_tables.proofs.indexing.entry_links.Given as goal
-
-abbrev pub invariant-loop-entry : goal.invariant-loop-entry
-invariant-loop-entry l = record {
-  hashes : l.hashes.items ≡ map (name_hash l.key) (take l.entry-index l.entries);
-  room : vec_len l.hashes + (length l.entries - l.entry-index) ≤ vec_capacity l.hashes;
-}
