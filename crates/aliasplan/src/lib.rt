@@ -39,7 +39,10 @@ pub use relay_gather::{Paths, Source, SourceFault};
 pub use relay_job::{
     Envelope, Job, JobInclude, RunFault, Settings, parse_job, parse_job_by, parse_tables,
 };
-pub use relay_planning::{Crew, Form, Limits, Options, Summary, own_names, plan_job, reason_for};
+pub use relay_planning::{
+    Crew, Form, Limits, Options, PlanWithFindings, Summary, own_names, plan_job,
+    plan_with_findings, reason_for,
+};
 pub use relay_rounds::{Gate, NoGate};
 pub use relay_wire::{Finding, LineWord, Place, Plan, Planned, Reason, plan_text, wire_text};
 pub use returned::Returned;

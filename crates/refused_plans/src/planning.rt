@@ -2,7 +2,10 @@
 use crate::devices::Page;
 use crate::jobs::{FIRST_JOB, LISTS_JOB, LISTS_RETURN};
 use crate::running::{LIMITS, OPTIONS, crew};
-use aliasplan::{Job, NoGate, Returned, RunFault, domains, parse_job, plan_job, read_job, returns};
+use aliasplan::{
+    Finding, Job, NoGate, Place, PlanWithFindings, Returned, RunFault, domains, parse_job,
+    plan_job, plan_with_findings, read_job, returns,
+};
 use growth_answers::inputs::{are_texts, is_address};
 use growth_answers::{Answer, Seen, Teller, Unready, call, case, judged};
 use relay_routes::Transport;
@@ -57,6 +60,46 @@ fn plans_a_job<R: Threads + Sync>(rt: &R, alloc: Global) -> Result<Seen, Unready
     )
 }
 
+/// Whether these are the findings of the lists, in the order of their lines.
+fn are_lists_findings(findings: &[Finding]) -> bool {
+    match findings {
+        [
+            Finding::LoopAlias(east),
+            Finding::LoopAlias(west),
+            Finding::Missing(bob, Place::Alias(list)),
+        ] => {
+            east.as_bytes() == b"east".as_slice()
+                && west.as_bytes() == b"west".as_slice()
+                && bob.as_bytes() == b"bob".as_slice()
+                && list.as_bytes() == b"west".as_slice()
+        }
+        _ => false,
+    }
+}
+
+fn is_lists_plan(reported: &PlanWithFindings) -> bool {
+    reported.plan.transactions.len() == 5
+        && reported.plan.findings.len() == 3
+        && are_lists_findings(&reported.findings)
+}
+
+fn are_values(reported: Result<PlanWithFindings, RunFault>) -> Answer {
+    match reported {
+        Ok(reported) => judged(reported, is_lists_plan),
+        Err(RunFault::Memory) => Answer::Refused,
+        Err(_) => Answer::Wrong,
+    }
+}
+
+fn plans_with_findings<R: Threads + Sync>(rt: &R, alloc: Global) -> Result<Seen, Unready> {
+    let job = parse_job(alloc, LISTS_JOB)?;
+    let crew = crew(rt, alloc);
+    Ok(match are_values(plan_with_findings(&crew, &job)) {
+        Answer::Refused => Seen::at_last(are_values(plan_with_findings(&crew, &job))),
+        answer => Seen::at_once(answer),
+    })
+}
+
 fn is_bobs_return(returned: &Returned) -> bool {
     matches!(
         returned.returns.as_slice(),
@@ -106,6 +149,7 @@ pub(crate) fn tell<R: Print + AllocGlobal + Threads + Sync>(teller: &mut Teller<
     let alloc = rt.alloc();
     call!(teller, "read_job", reads_a_job(alloc));
     case!(teller, "plan_job", plans_a_job(rt, alloc));
+    case!(teller, "plan_with_findings", plans_with_findings(rt, alloc));
     case!(teller, "domains", finds_domains(rt, alloc));
     case!(teller, "returns", returns_what_is_lost(rt, alloc));
 }

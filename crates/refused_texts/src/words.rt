@@ -5,8 +5,8 @@ use growth_answers::inputs::{address, are_texts};
 use growth_answers::{Answer, Teller, Unready, judged};
 use relay_text::{Address, Text};
 use relay_wire::{
-    Finding, FindingLines, LineWord, Reason, put_count, put_lines, put_name, put_number, put_path,
-    put_reason, put_word,
+    Finding, FindingLines, KeptFindings, LineWord, Reason, put_count, put_lines, put_name,
+    put_number, put_path, put_reason, put_word,
 };
 use std::alloc::{AllocError, Global};
 
@@ -83,19 +83,16 @@ fn puts_a_reason(alloc: Global) -> Result<Answer, Unready> {
     answer
 }
 
-/// Adds the line of a fault of the transport table.
-fn add_fault(lines: &mut FindingLines, line: usize) -> Result<(), AllocError> {
-    let finding = Finding::Transport(line, LineWord::Duplicate);
-    let added = lines.add(&finding);
-    drop(finding);
-    added
+/// Adds the lines of two findings in the other order than that of lines.
+fn add_two<K: KeptFindings>(lines: &mut FindingLines<K>) -> Result<(), AllocError> {
+    lines.add(Finding::Transport(2, LineWord::Duplicate))?;
+    lines.add(Finding::Aliases(3, LineWord::BadLine))
 }
 
 /// The lines of two findings, which are brought in the other order.
 fn added(alloc: Global) -> Result<FindingLines, AllocError> {
     let mut lines = FindingLines::new(alloc);
-    add_fault(&mut lines, 2)?;
-    lines.add(&Finding::Aliases(3, LineWord::BadLine))?;
+    add_two(&mut lines)?;
     Ok(lines)
 }
 
@@ -115,11 +112,33 @@ fn gathers_findings(alloc: Global) -> Result<Answer, Unready> {
     }
 }
 
+/// Two findings beside their lines, of which one comes twice.
+fn kept(alloc: Global) -> Result<FindingLines<Vec<Finding>>, AllocError> {
+    let mut lines = FindingLines::with_findings(alloc);
+    add_two(&mut lines)?;
+    lines.add(Finding::Aliases(3, LineWord::BadLine))?;
+    Ok(lines)
+}
+
+fn are_kept(findings: &[Finding]) -> bool {
+    findings.len() == 2
+        && matches!(&findings[0], Finding::Aliases(3, LineWord::BadLine))
+        && matches!(&findings[1], Finding::Transport(2, LineWord::Duplicate))
+}
+
+fn gathers_values(alloc: Global) -> Result<Answer, Unready> {
+    let lines = kept(alloc)?;
+    match lines.into_found(alloc) {
+        Ok(found) => Ok(judged(found, |found| are_kept(&found.findings))),
+        Err(_) => Ok(Answer::Refused),
+    }
+}
+
 /// The lines of faults from line 40 to 200, which are in order up to 99, and then again.
 fn numbered(alloc: Global) -> Result<FindingLines, AllocError> {
     let mut lines = FindingLines::new(alloc);
     for line in 40..201 {
-        add_fault(&mut lines, line)?;
+        lines.add(Finding::Transport(line, LineWord::Duplicate))?;
     }
     Ok(lines)
 }
@@ -148,4 +167,5 @@ pub(crate) fn tell<R: Print + AllocGlobal>(teller: &mut Teller<'_, R>) {
     tell_of_call(teller, "put_reason", puts_a_reason);
     tell_of_call(teller, "FindingLines::into_seq", gathers_findings);
     tell_of_call(teller, "FindingLines::into_seq merges", merges_findings);
+    tell_of_call(teller, "FindingLines::into_found", gathers_values);
 }

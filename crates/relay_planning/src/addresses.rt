@@ -21,7 +21,7 @@ use relay_pairs::Reached;
 use relay_routes::Route;
 use relay_tables::Graph;
 use relay_text::Address;
-use relay_wire::{FindingLines, Planned};
+use relay_wire::{FindingLines, KeptFindings, Planned};
 use std::alloc::{AllocError, Global};
 
 /// How many recipients a transaction of each transport takes.
@@ -77,13 +77,13 @@ fn transactions_of<'a>(
 }
 
 /// The transactions of what the pairs lead to, by what finds routes, and a line for each address that has no route.
-fn outgoing_transactions<'a>(
+fn outgoing_transactions<'a, K: KeptFindings>(
     alloc: Global,
     job: &JobView<'_>,
     destinations: &mut Destinations<'a>,
     graph: &'a Graph,
     pairs: &[Reached],
-    lines: &mut FindingLines,
+    lines: &mut FindingLines<K>,
 ) -> Result<Vec<Planned>, AllocError>
     requires routing { destinations.old.routing ≡ routing_of job.now }
     requires via { destinations.old.via ≡ job.now.settings.mailbox_transport }
@@ -116,13 +116,13 @@ fn outgoing_transactions<'a>(
 
 /// The transactions of all addresses that are reached, each once under each of its senders, and a line for each address that has no
 /// route.
-pub fn plan_addresses<'a>(
+pub fn plan_addresses<'a, K: KeptFindings>(
     alloc: Global,
     job: &JobView<'_>,
     mut destinations: Destinations<'a>,
     graph: &'a Graph,
     pairs: &[Reached],
-    lines: &mut FindingLines,
+    lines: &mut FindingLines<K>,
 ) -> Result<Vec<Planned>, AllocError>
     requires routing { destinations.routing ≡ routing_of job.now }
     requires via { destinations.via ≡ job.now.settings.mailbox_transport }
@@ -134,5 +134,7 @@ pub fn plan_addresses<'a>(
     ensures fewest { IfOk result (λ transactions. IsFewest job.now transactions.items) }
     ensures lines { OnOk result (Reports lines.old lines.new (IsLineOf job.now routes)) }
 {
-    outgoing_transactions(alloc, job, &mut destinations, graph, pairs, lines)
+    let transactions = outgoing_transactions(alloc, job, &mut destinations, graph, pairs, lines);
+    drop(destinations);
+    transactions
 }

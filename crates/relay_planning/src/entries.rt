@@ -12,24 +12,23 @@ ghost use Rattle.relay_planning.specs.Listing.{place_at, place_of, target_findin
 ghost use Rattle.relay_planning.specs.Findings.{Reports};
 ghost use Rattle.relay_planning.specs.Entries.{LeadsWithin, IsLineIn, HaveLine, IsTargetLine, IsListLine, IsNodeLine, IsLoopLine};
 
-use crate::findings::add_line;
 use crate::job_view::JobView;
 use crate::listing::Listing;
 use crate::reach::Reach;
 use relay_tables::{Graph, Node, Tables};
-use relay_wire::{Finding, FindingLines};
+use relay_wire::{Finding, FindingLines, KeptFindings};
 use std::alloc::{AllocError, Global};
 
 /// Adds the line of a finding, if there is one.
-fn report_any(
+fn report_any<K: KeptFindings>(
     alloc: Global,
     finding: Option<Finding>,
-    lines: &mut FindingLines,
+    lines: &mut FindingLines<K>,
 ) -> Result<(), AllocError>
     ensures { OnOk result (Reports lines.old lines.new (IsLineIn finding)) }
 {
     match finding {
-        Some(finding) => add_line(finding, lines),
+        Some(finding) => lines.add(finding),
         None => Ok(()),
     }
 }
@@ -61,11 +60,11 @@ fn are_reachable(graph: &Graph, targets: &[u32]) -> bool
 /// Adds the line of a target of a listing to which no mail can go, nor on from it. It stands apart, since most targets are passed, and then
 /// the room for a finding isn't made ready.
 #[inline(never)]
-fn report_lost(
+fn report_lost<K: KeptFindings>(
     alloc: Global,
     listing: Listing,
     target: &Node,
-    lines: &mut FindingLines,
+    lines: &mut FindingLines<K>,
 ) -> Result<(), AllocError>
     ensures { OnOk result (Reports lines.old lines.new (IsLineIn (target_finding (place_at listing.entry) target.now))) }
 {
@@ -75,12 +74,12 @@ fn report_lost(
 
 /// Adds the line of one target of a listing, if it is a missing name, a missing include file, a file or a command (aliases(5)). `Err` where
 /// memory runs out.
-pub fn report_target(
+pub fn report_target<K: KeptFindings>(
     alloc: Global,
     graph: &Graph,
     listing: Listing,
     target: u32,
-    lines: &mut FindingLines,
+    lines: &mut FindingLines<K>,
 ) -> Result<(), AllocError>
     requires { target < length graph.now.nodes }
     ensures { OnOk result (Reports lines.old lines.new (IsTargetLine graph.now (place_at listing.entry) target)) }
@@ -93,12 +92,12 @@ pub fn report_target(
 }
 
 /// Adds the lines of the targets of a listing.
-fn report_targets(
+fn report_targets<K: KeptFindings>(
     alloc: Global,
     graph: &Graph,
     listing: Listing,
     targets: &[u32],
-    lines: &mut FindingLines,
+    lines: &mut FindingLines<K>,
 ) -> Result<(), AllocError>
     requires { All (λ n. n < length graph.now.nodes) targets.now }
     ensures { OnOk result (Reports lines.old lines.new (HaveLine (IsTargetLine graph.now (place_at listing.entry)) targets.now)) }
@@ -110,12 +109,12 @@ fn report_targets(
 }
 
 /// Adds the lines of an entry or include file with these targets.
-fn report_list(
+fn report_list<K: KeptFindings>(
     alloc: Global,
     graph: &Graph,
     listing: Listing,
     targets: &[u32],
-    lines: &mut FindingLines,
+    lines: &mut FindingLines<K>,
 ) -> Result<(), AllocError>
     requires { All (λ n. n < length graph.now.nodes) targets.now }
     ensures { OnOk result (Reports lines.old lines.new (IsListLine graph.now (place_at listing.entry) targets.now)) }
@@ -137,12 +136,12 @@ fn is_listed_by(node: &Node) -> bool
 /// Adds the lines of the targets that an entry or include file lists, or the line that says that it lists none. It stands apart, since most
 /// nodes of a long list are no entries.
 #[inline(never)]
-fn report_listed(
+fn report_listed<K: KeptFindings>(
     alloc: Global,
     tables: &Tables,
     graph: &Graph,
     node: u32,
-    lines: &mut FindingLines,
+    lines: &mut FindingLines<K>,
 ) -> Result<(), AllocError>
     requires node { node < length graph.now.nodes }
     requires children { All (λ c. c < length graph.now.nodes) (child_numbers graph.now node) }
@@ -159,12 +158,12 @@ fn report_listed(
 }
 
 /// Adds the lines of the targets of an entry or include file, or the line that says that it has none. `Err` where memory runs out.
-pub fn report_node(
+pub fn report_node<K: KeptFindings>(
     alloc: Global,
     tables: &Tables,
     graph: &Graph,
     node: u32,
-    lines: &mut FindingLines,
+    lines: &mut FindingLines<K>,
 ) -> Result<(), AllocError>
     requires node { node < length graph.now.nodes }
     requires children { All (λ c. c < length graph.now.nodes) (child_numbers graph.now node) }
@@ -177,12 +176,12 @@ pub fn report_node(
 }
 
 /// Adds the lines of the targets of nodes.
-fn report_nodes(
+fn report_nodes<K: KeptFindings>(
     alloc: Global,
     tables: &Tables,
     graph: &Graph,
     nodes: &[u32],
-    lines: &mut FindingLines,
+    lines: &mut FindingLines<K>,
 ) -> Result<(), AllocError>
     requires graph { LeadsWithin graph.now }
     requires nodes { All (λ n. n < length graph.now.nodes) nodes.now }
@@ -195,12 +194,12 @@ fn report_nodes(
 }
 
 /// Adds the line of a node that is on a loop.
-fn report_loop(
+fn report_loop<K: KeptFindings>(
     alloc: Global,
     tables: &Tables,
     graph: &Graph,
     node: u32,
-    lines: &mut FindingLines,
+    lines: &mut FindingLines<K>,
 ) -> Result<(), AllocError>
     requires { node < length graph.now.nodes }
     ensures { OnOk result (Reports lines.old lines.new (IsLoopLine graph.now tables.now node)) }
@@ -215,12 +214,12 @@ fn report_loop(
 }
 
 /// Adds the lines of the nodes that are on a loop.
-fn report_loops(
+fn report_loops<K: KeptFindings>(
     alloc: Global,
     tables: &Tables,
     graph: &Graph,
     loops: &[u32],
-    lines: &mut FindingLines,
+    lines: &mut FindingLines<K>,
 ) -> Result<(), AllocError>
     requires { All (λ n. n < length graph.now.nodes) loops.now }
     ensures { OnOk result (Reports lines.old lines.new (HaveLine (IsLoopLine graph.now tables.now) loops.now)) }
@@ -233,13 +232,13 @@ fn report_loops(
 
 /// Adds a line for each missing name, missing include file, file and command that a reached entry or a recipient leads to, for each
 /// reached entry without items, and for each that is on a loop (aliases(5); RFC 5321 section 3.9).
-pub(crate) fn report_entries(
+pub(crate) fn report_entries<K: KeptFindings>(
     alloc: Global,
     job: &JobView<'_>,
     tables: &Tables,
     graph: &Graph,
     reach: &Reach<'_>,
-    lines: &mut FindingLines,
+    lines: &mut FindingLines<K>,
 ) -> Result<(), AllocError>
     requires tables { tables.now ≡ directory_of job.now }
     requires graph { IsJobPart job.now graph.now }

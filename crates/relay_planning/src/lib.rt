@@ -24,6 +24,7 @@ mod routing;
 mod summary;
 mod table;
 mod texts;
+mod with_findings;
 
 pub use crew::Crew;
 pub use entries::{report_node, report_target};
@@ -37,3 +38,4 @@ pub use outgoing::recipient_of;
 pub use planning::{graph_of, nodes_of, pairs_of, plan_by_lookup, plan_job, plan_reached};
 pub use routing::own_names;
 pub use summary::Summary;
+pub use with_findings::{PlanWithFindings, plan_with_findings};

@@ -37,7 +37,7 @@ use relay_rounds::Gate;
 use relay_routes::{MxTable, RouteSettings, TransportTable};
 use relay_tables::{IncludeEntry, Local, parsed_files};
 use relay_text::{Seq, Text};
-use relay_wire::FindingLines;
+use relay_wire::{FindingLines, KeptFindings};
 use std::alloc::{AllocError, Global};
 use std::thread::Threads;
 
@@ -68,12 +68,12 @@ fn local_of(alloc: Global, settings: &Settings) -> Result<Local, AllocError>
 }
 
 /// The include files of a job. Adds the lines of the files of names that are at fault.
-fn report_names(
+fn report_names<K: KeptFindings>(
     alloc: Global,
     job: &Job,
     aliases: &AliasFile,
     mailboxes: &MailboxFile,
-    lines: &mut FindingLines,
+    lines: &mut FindingLines<K>,
 ) -> Result<Vec<IncludeEntry>, AllocError>
     ensures includes { IfOk result (λ includes. includes.items ≡ map entry_of_include job.now.includes) }
     ensures lines { OnOk result (ReportsWhere lines.old lines.new (is_name_line aliases.now.faults mailboxes.now.faults job.now.includes)) }
@@ -89,11 +89,11 @@ fn report_names(
 }
 
 /// Adds the lines of the tables that are at fault.
-fn report_routes(
+fn report_routes<K: KeptFindings>(
     alloc: Global,
     transports: &TransportTable,
     exchanges: &MxTable,
-    lines: &mut FindingLines,
+    lines: &mut FindingLines<K>,
 ) -> Result<(), AllocError>
     ensures { OnOk result (ReportsWhere lines.old lines.new (is_route_line transports.now.faults exchanges.now.faults)) }
 {
@@ -102,11 +102,11 @@ fn report_routes(
 }
 
 /// The include files of a job. Adds the lines of all its files and tables that are at fault, of which the others are parsed.
-fn report_parsed(
+fn report_parsed<K: KeptFindings>(
     alloc: Global,
     job: &Job,
     parsed: &Parsed,
-    lines: &mut FindingLines,
+    lines: &mut FindingLines<K>,
 ) -> Result<Vec<IncludeEntry>, AllocError>
     requires parsed { AreParsed job.now parsed.now }
     ensures includes { IfOk result (λ includes. includes.items ≡ map entry_of_include job.now.includes) }
@@ -136,11 +136,11 @@ fn table_settings_of(alloc: Global, job: &Job) -> Result<TableSettings, AllocErr
 
 /// What a job says beside the parsed files and tables: its settings, and its include files. Adds the lines of all files and tables that
 /// are at fault.
-fn read_others(
+fn read_others<K: KeptFindings>(
     alloc: Global,
     job: &Job,
     parsed: &Parsed,
-    lines: &mut FindingLines,
+    lines: &mut FindingLines<K>,
 ) -> Result<(TableSettings, Vec<IncludeEntry>), AllocError>
     requires parsed { AreParsed job.now parsed.now }
     ensures local { IfOk result (λ others. others.0.local ≡ local_of job.now.settings) }
@@ -208,11 +208,11 @@ impl Lookup {
     }
 
     /// What the files and tables of a job say, which are parsed. Adds the lines of those that are at fault. `Err` where memory runs out.
-    pub(crate) fn of(
+    pub(crate) fn of<K: KeptFindings>(
         alloc: Global,
         job: &Job,
         parsed: Parsed,
-        lines: &mut FindingLines,
+        lines: &mut FindingLines<K>,
     ) -> Result<Lookup, AllocError>
         requires job { IsReadable job.now }
         requires parsed { AreParsed job.now parsed }
@@ -226,7 +226,11 @@ impl Lookup {
     }
 
     /// What the files and tables of a job say. Adds the lines of those that are at fault. `Err` where memory runs out.
-    pub fn read(alloc: Global, job: &Job, lines: &mut FindingLines) -> Result<Lookup, AllocError>
+    pub fn read<K: KeptFindings>(
+        alloc: Global,
+        job: &Job,
+        lines: &mut FindingLines<K>,
+    ) -> Result<Lookup, AllocError>
         requires job { IsReadable job.now }
         ensures tables { IfOk result (λ lookup. lookup.tables ≡ directory_of job.now) }
         ensures router { IfOk result (λ lookup. lookup.router ≡ routing_of job.now) }
@@ -237,10 +241,10 @@ impl Lookup {
     }
 
     /// The same by a crew, several of which parse files and tables that are long.
-    pub fn read_by<G: Gate, R: Threads + Sync>(
+    pub fn read_by<G: Gate, R: Threads + Sync, K: KeptFindings>(
         crew: &Crew<G, R>,
         job: &Job,
-        lines: &mut FindingLines,
+        lines: &mut FindingLines<K>,
     ) -> Result<Lookup, AllocError>
         requires job { IsReadable job.now }
         ensures tables { IfOk result (λ lookup. lookup.tables ≡ directory_of job.now) }

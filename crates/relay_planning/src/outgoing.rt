@@ -39,14 +39,14 @@ ghost use Rattle.relay_planning.specs.Report.{reason_of};
 ghost use Rattle.relay_planning.specs.Routes.{IsThere, IsLineAt, IsRoutedAt, IsLineOfNode, IsLineOfPair, HaveLine, IsRecipientIfAny, AreKnown, AreOutgoing, StayKnown};
 ghost use Rattle.relay_pairs.specs.declared.reached.Reached as reached;
 
-use crate::findings::{add_line, reason_for};
+use crate::findings::reason_for;
 use crate::job_view::JobView;
 use relay_destinations::{Destinations, Way};
 use relay_pairs::Reached;
 use relay_routes::Unrouted;
 use relay_tables::Node;
 use relay_text::Address;
-use relay_wire::{Finding, FindingLines, Reason};
+use relay_wire::{Finding, FindingLines, KeptFindings, Reason};
 use std::alloc::{AllocError, Global};
 
 /// The reason that a plan gives for want of a route, with a copy of its text. `Err` where there is no memory for that.
@@ -62,27 +62,27 @@ fn copied_reason(alloc: Global, unrouted: &Unrouted) -> Result<Reason, AllocErro
 
 /// Adds the line of an address that has no route, which few lack: it stands apart, so that the others' way stays short.
 #[inline(never)]
-fn add_unrouted(
+fn add_unrouted<K: KeptFindings>(
     alloc: Global,
     unrouted: &Unrouted,
     address: &Address,
-    lines: &mut FindingLines,
+    lines: &mut FindingLines<K>,
 ) -> Result<(), AllocError>
     requires lasting { unrouted.now ≢ Memory }
     ensures lines { OnOk result (Reports lines.old lines.new (IsLineAt (Err unrouted.now) address.now)) }
 {
     let reason = copied_reason(alloc, unrouted)?;
     let address = address.copy(alloc)?;
-    add_line(Finding::Unrouted(address, reason), lines)
+    lines.add(Finding::Unrouted(address, reason))
 }
 
 /// The recipient that an address is, by what was found for it. The line of an address without a route is added.
-fn recipient_at<'a>(
+fn recipient_at<'a, K: KeptFindings>(
     alloc: Global,
     destinations: &Destinations<'a>,
     way: Way,
     address: &'a Address,
-    lines: &mut FindingLines,
+    lines: &mut FindingLines<K>,
 ) -> Result<Option<Routed<'a>>, AllocError>
     requires there { IsThere destinations.now way }
     ensures recipient { IfOk result (λ r. (answer : Result routes.Route causes.Unrouted) → Means destinations.now way answer → IsRoutedAt destinations.now.routes answer address.now r) }
@@ -100,12 +100,12 @@ fn recipient_at<'a>(
 
 /// The recipient that a node is: `None` where it is no address, or one without a route, of which the line is added. `Err` where memory
 /// runs out.
-pub fn recipient_of<'a>(
+pub fn recipient_of<'a, K: KeptFindings>(
     alloc: Global,
     job: &JobView<'_>,
     node: &'a Node,
     destinations: &mut Destinations<'a>,
-    lines: &mut FindingLines,
+    lines: &mut FindingLines<K>,
 ) -> Result<Option<Routed<'a>>, AllocError>
     requires routing { destinations.old.routing ≡ routing_of job.now }
     requires via { destinations.old.via ≡ job.now.settings.mailbox_transport }
@@ -150,13 +150,13 @@ impl<'a> Outgoing<'a> {
     }
 
     /// Finds out what a node is that wasn't seen yet.
-    fn settle(
+    fn settle<K: KeptFindings>(
         &mut self,
         alloc: Global,
         job: &JobView<'_>,
         node: u32,
         destinations: &mut Destinations<'a>,
-        lines: &mut FindingLines,
+        lines: &mut FindingLines<K>,
     ) -> Result<Known, AllocError>
         requires node { node < length self.old.graph.now.nodes }
         requires routing { destinations.old.routing ≡ routing_of job.now }
@@ -188,13 +188,13 @@ impl<'a> Outgoing<'a> {
     }
 
     /// What a node is, which is found out where it wasn't seen yet.
-    fn know(
+    fn know<K: KeptFindings>(
         &mut self,
         alloc: Global,
         job: &JobView<'_>,
         node: u32,
         destinations: &mut Destinations<'a>,
-        lines: &mut FindingLines,
+        lines: &mut FindingLines<K>,
     ) -> Result<Known, AllocError>
         requires node { node < length self.old.graph.now.nodes }
         requires routing { destinations.old.routing ≡ routing_of job.now }
@@ -217,13 +217,13 @@ impl<'a> Outgoing<'a> {
     }
 
     /// Adds what a pair leads to.
-    fn add(
+    fn add<K: KeptFindings>(
         &mut self,
         alloc: Global,
         job: &JobView<'_>,
         pair: Reached,
         destinations: &mut Destinations<'a>,
-        lines: &mut FindingLines,
+        lines: &mut FindingLines<K>,
     ) -> Result<(), AllocError>
         requires node { pair.node < length self.old.graph.now.nodes }
         requires routing { destinations.old.routing ≡ routing_of job.now }
@@ -252,13 +252,13 @@ impl<'a> Outgoing<'a> {
     }
 
     /// Adds what pairs lead to, where nothing was added yet.
-    fn add_all(
+    fn add_all<K: KeptFindings>(
         &mut self,
         alloc: Global,
         job: &JobView<'_>,
         pairs: &[Reached],
         destinations: &mut Destinations<'a>,
-        lines: &mut FindingLines,
+        lines: &mut FindingLines<K>,
     ) -> Result<(), AllocError>
         requires in_graph { All (λ p. p.node < length self.old.graph.now.nodes) pairs.now }
         requires few { length pairs.now ≤ 16777216 }
@@ -280,13 +280,13 @@ impl<'a> Outgoing<'a> {
 }
 
 /// What the pairs lead to. The lines of the addresses that have no route are added to those that are reported already.
-pub fn outgoing_of<'a>(
+pub fn outgoing_of<'a, K: KeptFindings>(
     alloc: Global,
     job: &JobView<'_>,
     graph: &'a Graph,
     destinations: &mut Destinations<'a>,
     pairs: &[Reached],
-    lines: &mut FindingLines,
+    lines: &mut FindingLines<K>,
 ) -> Result<Outgoing<'a>, AllocError>
     requires routing { destinations.old.routing ≡ routing_of job.now }
     requires via { destinations.old.via ≡ job.now.settings.mailbox_transport }

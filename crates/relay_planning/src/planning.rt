@@ -1,6 +1,7 @@
 //! The plan of a job.
 ghost use Rattle.std.specs.Prelude.{◌≡◌, ◌⊎◌, ◌↔◌, ◌<◌, ◌≤◌, ℕ, List, length, IsTrue, IfOk, IfErr, OnOk};
 ghost use Rattle.relay_text.specs.Bytes.{has_text};
+ghost use Rattle.relay_text.specs.TextSets.{IsAscendingBy, text_cmp};
 ghost use Rattle.relay_job.specs.JobAnswers.{IsJobWithin};
 ghost use Rattle.relay_loops.specs.Loops.{AreLoopsOf, IsClosedPart};
 ghost use Rattle.relay_pairs.specs.Pairs.{ArePairs};
@@ -28,7 +29,7 @@ use relay_rounds::{Gate, ReachFault};
 use relay_routes::Router;
 use relay_tables::{Graph, LookedUp, TableFault, Tables};
 use relay_text::{Seq, Text};
-use relay_wire::{FindingLines, Plan, Planned};
+use relay_wire::{FindingLines, KeptFindings, Plan, Planned};
 use std::alloc::{AllocError, Global};
 use std::thread::Threads;
 
@@ -118,13 +119,13 @@ pub fn nodes_of(
 }
 
 /// Adds the lines of what the entries that a job reaches lead to and shouldn't.
-fn report_reached<G: Gate, R: Threads + Sync>(
+fn report_reached<G: Gate, R: Threads + Sync, K: KeptFindings>(
     crew: &Crew<G, R>,
     job: &JobView<'_>,
     tables: &Tables,
     graph: &Graph,
     pairs: &[Reached],
-    lines: &mut FindingLines,
+    lines: &mut FindingLines<K>,
 ) -> Result<(), AllocError>
     requires tables { tables.now ≡ directory_of job.now }
     requires graph { IsJobPart job.now graph.now }
@@ -141,7 +142,31 @@ fn report_reached<G: Gate, R: Threads + Sync>(
     report_entries(alloc, job, tables, graph, &reach, lines)
 }
 
-/// The plan of transactions and lines.
+/// The plan of transactions, with these lines of what is found.
+pub(crate) fn plan_with(
+    alloc: Global,
+    job: &JobView<'_>,
+    transactions: Vec<Planned>,
+    findings: Seq<Text>,
+) -> Result<Plan, AllocError>
+    requires transactions { AreTransactionsOf job.now transactions.items }
+    requires sound { IsSoundFor job.now transactions.items }
+    requires fewest { IsFewest job.now transactions.items }
+    requires ascending { IsAscendingBy text_cmp findings }
+    ensures plan { IfOk result (IsPlanWith job.now (λ q. IsTrue (has_text findings q))) }
+    ensures sound { IfOk result (λ plan. IsSoundFor job.now plan.transactions) }
+    ensures fewest { IfOk result (λ plan. IsFewest job.now plan.transactions) }
+    ensures findings { IfOk result (λ plan. plan.findings ≡ findings) }
+{
+    let hostname = Vec::from_slice(alloc, job.settings().hostname.as_bytes())?;
+    Ok(Plan {
+        hostname: Text::of(hostname),
+        transactions: Seq::of(transactions),
+        findings,
+    })
+}
+
+/// The plan of transactions, with the lines that are gathered.
 fn plan_of(
     alloc: Global,
     job: &JobView<'_>,
@@ -155,12 +180,13 @@ fn plan_of(
     ensures sound { IfOk result (λ plan. IsSoundFor job.now plan.transactions) }
     ensures fewest { IfOk result (λ plan. IsFewest job.now plan.transactions) }
 {
-    let hostname = Vec::from_slice(alloc, job.settings().hostname.as_bytes())?;
-    Ok(Plan {
-        hostname: Text::of(hostname),
-        transactions: Seq::of(transactions),
-        findings: lines.into_seq(alloc)?,
-    })
+    match lines.into_seq(alloc) {
+        Ok(findings) => plan_with(alloc, job, transactions, findings),
+        Err(error) => {
+            drop(transactions);
+            Err(error)
+        }
+    }
 }
 
 /// The plan of a job that reaches these pairs, with the lines that are given and those of addresses without a route.
@@ -214,12 +240,12 @@ pub fn plan_reached<G: Gate, R: Threads + Sync>(
 }
 
 /// The pairs that a job reaches on this graph of it. Adds the lines of what is reached.
-fn pairs_reported<G: Gate, R: Threads + Sync>(
+fn pairs_reported<G: Gate, R: Threads + Sync, K: KeptFindings>(
     crew: &Crew<G, R>,
     job: &JobView<'_>,
     tables: &Tables,
     graph: &Graph,
-    lines: &mut FindingLines,
+    lines: &mut FindingLines<K>,
 ) -> Result<Vec<Reached>, RunFault>
     requires tables { tables.now ≡ directory_of job.now }
     requires graph { IsJobPart job.now graph.now }
@@ -244,11 +270,11 @@ struct ReachedGraph {
 }
 
 /// The graph of a job, and the pairs that it reaches there. Adds the lines of what is reached.
-fn graph_reported<G: Gate, R: Threads + Sync>(
+fn graph_reported<G: Gate, R: Threads + Sync, K: KeptFindings>(
     crew: &Crew<G, R>,
     job: &JobView<'_>,
     tables: &Tables,
-    lines: &mut FindingLines,
+    lines: &mut FindingLines<K>,
 ) -> Result<ReachedGraph, RunFault>
     requires tables { tables.now ≡ directory_of job.now }
     ensures graph { IfOk result (λ reached. IsJobPart job.now reached.graph) }
@@ -259,31 +285,37 @@ fn graph_reported<G: Gate, R: Threads + Sync>(
     ensures refused { IfErr result (IsRefused crew.now.limits job.now) }
 {
     let graph = graph_of(crew, job, tables)?;
-    let pairs = pairs_reported(crew, job, tables, &graph, lines)?;
-    Ok(ReachedGraph { graph, pairs })
+    match pairs_reported(crew, job, tables, &graph, lines) {
+        Ok(pairs) => Ok(ReachedGraph { graph, pairs }),
+        Err(fault) => {
+            drop(graph);
+            Err(fault)
+        }
+    }
 }
 
-/// The plan of a job that reaches these pairs of its graph, by what routes its addresses, with the lines that are given and those of
-/// addresses without a route. The key is that of the hashes of domains and nexthops.
-fn plan_routes(
+/// The transactions of a job that reaches these pairs of its graph, by what routes its addresses. Adds the lines of addresses without a
+/// route. The key is that of the hashes of domains and nexthops.
+fn transactions_by_router<K: KeptFindings>(
     alloc: Global,
     job: &JobView<'_>,
     router: &Router,
     key: u64,
     reached: &ReachedGraph,
-    lines: FindingLines,
-) -> Result<Plan, AllocError>
+    lines: &mut FindingLines<K>,
+) -> Result<Vec<Planned>, AllocError>
     requires router { router.now ≡ routing_of job.now }
     requires graph { IsJobPart job.now reached.now.graph }
     requires reached { AreReachedPairs job.now reached.now.graph reached.now.pairs.items }
     requires few { length reached.now.pairs.items ≤ 16777216 }
-    ensures plan { IfOk result (IsPlanWith job.now (λ q. IsTrue (has_text lines q) ⊎ IsLineOf job.now routes q)) }
-    ensures sound { IfOk result (λ plan. IsSoundFor job.now plan.transactions) }
-    ensures fewest { IfOk result (λ plan. IsFewest job.now plan.transactions) }
+    ensures transactions { IfOk result (λ transactions. AreTransactionsOf job.now transactions.items) }
+    ensures sound { IfOk result (λ transactions. IsSoundFor job.now transactions.items) }
+    ensures fewest { IfOk result (λ transactions. IsFewest job.now transactions.items) }
+    ensures lines { OnOk result (Reports lines.old lines.new (IsLineOf job.now routes)) }
 {
     let via = &job.settings().mailbox_transport;
     let destinations = Destinations::new(alloc, router, via, key)?;
-    plan_pairs(
+    plan_addresses(
         alloc,
         job,
         destinations,
@@ -293,34 +325,64 @@ fn plan_routes(
     )
 }
 
-/// The plan of a job of these tables, by what routes its addresses. The lines of files and tables that are at fault are given. The key is
-/// that of the hashes of domains and nexthops.
-fn plan_tables<G: Gate, R: Threads + Sync>(
+/// The transactions of a job of these tables, by what routes its addresses. Adds the lines of what is reached. The key is that of the
+/// hashes of domains and nexthops.
+fn transactions_by_tables<G: Gate, R: Threads + Sync, K: KeptFindings>(
     crew: &Crew<G, R>,
     job: &JobView<'_>,
     tables: Tables,
     router: &Router,
     key: u64,
-    lines: FindingLines,
-) -> Result<Plan, RunFault>
+    lines: &mut FindingLines<K>,
+) -> Result<Vec<Planned>, RunFault>
     requires tables { tables ≡ directory_of job.now }
     requires router { router.now ≡ routing_of job.now }
-    requires lines { (q : List ℕ) → has_text lines q ≡ has_fault_line job.now q }
-    ensures plan { IfOk result (IsPlanOf job.now) }
-    ensures sound { IfOk result (λ plan. IsSoundFor job.now plan.transactions) }
-    ensures fewest { IfOk result (λ plan. IsFewest job.now plan.transactions) }
+    ensures transactions { IfOk result (λ transactions. AreTransactionsOf job.now transactions.items) }
+    ensures sound { IfOk result (λ transactions. IsSoundFor job.now transactions.items) }
+    ensures fewest { IfOk result (λ transactions. IsFewest job.now transactions.items) }
+    ensures lines { OnOk result (Reports lines.old lines.new (IsOwnFindingLine job.now)) }
     ensures within { OnOk result (IsWithin crew.now.limits job.now) }
     ensures refused { IfErr result (IsRefused crew.now.limits job.now) }
 {
-    let mut lines = lines;
-    let reported = graph_reported(crew, job, &tables, &mut lines);
+    let reported = graph_reported(crew, job, &tables, lines);
     // Nobody needs the tables any more: their room is given back before the transactions need theirs.
     drop(tables);
-    let reached = reported?;
-    match plan_routes(crew.alloc, job, router, key, &reached, lines) {
-        Ok(plan) => Ok(plan),
+    let reached = match reported {
+        Ok(reached) => reached,
+        Err(fault) => return Err(fault),
+    };
+    let transactions = transactions_by_router(crew.alloc, job, router, key, &reached, lines);
+    drop(reached);
+    match transactions {
+        Ok(transactions) => Ok(transactions),
         Err(_) => Err(RunFault::Memory),
     }
+}
+
+/// The transactions of a job whose files and tables are read. Adds the lines of what is reached.
+pub(crate) fn transactions_by_lookup<G: Gate, R: Threads + Sync, K: KeptFindings>(
+    crew: &Crew<G, R>,
+    job: &JobView<'_>,
+    lookup: Lookup,
+    lines: &mut FindingLines<K>,
+) -> Result<Vec<Planned>, RunFault>
+    requires tables { lookup.tables ≡ directory_of job.now }
+    requires router { lookup.router ≡ routing_of job.now }
+    ensures transactions { IfOk result (λ transactions. AreTransactionsOf job.now transactions.items) }
+    ensures sound { IfOk result (λ transactions. IsSoundFor job.now transactions.items) }
+    ensures fewest { IfOk result (λ transactions. IsFewest job.now transactions.items) }
+    ensures lines { OnOk result (Reports lines.old lines.new (IsOwnFindingLine job.now)) }
+    ensures within { OnOk result (IsWithin crew.now.limits job.now) }
+    ensures refused { IfErr result (IsRefused crew.now.limits job.now) }
+{
+    let Lookup {
+        tables,
+        router,
+        key,
+    } = lookup;
+    let transactions = transactions_by_tables(crew, job, tables, &router, key, lines);
+    drop(router);
+    transactions
 }
 
 /// The plan of a job whose files and tables are read. Their lines that are at fault are given.
@@ -341,14 +403,12 @@ pub fn plan_by_lookup<G: Gate, R: Threads + Sync>(
     ensures within { OnOk result (IsWithin crew.now.limits job.now) }
     ensures refused { IfErr result (IsRefused crew.now.limits job.now) }
 {
-    let Lookup {
-        tables,
-        router,
-        key,
-    } = lookup;
-    let plan = plan_tables(crew, job, tables, &router, key, lines);
-    drop(router);
-    plan
+    let mut lines = lines;
+    let transactions = transactions_by_lookup(crew, job, lookup, &mut lines)?;
+    match plan_of(crew.alloc, job, transactions, lines) {
+        Ok(plan) => Ok(plan),
+        Err(_) => Err(RunFault::Memory),
+    }
 }
 
 /// The plan of a job: each address that an entry or recipient leads to, once under each sender that a chain of entries gives it, in

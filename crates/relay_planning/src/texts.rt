@@ -9,35 +9,34 @@ ghost use Rattle.relay_planning.specs.Texts.{table_line};
 ghost use Rattle.relay_planning.specs.Texts.{file_line, has_include_line};
 
 use crate::both::beside;
-use crate::findings::add_line;
 use crate::job_file::JobFile;
 use crate::table::Table;
 use relay_aliasfile::{IncludeFile, LineFault, parse_include};
 use relay_job::JobInclude;
 use relay_tables::IncludeEntry;
 use relay_text::Text;
-use relay_wire::FindingLines;
+use relay_wire::{FindingLines, KeptFindings};
 use std::alloc::{AllocError, Global};
 
 /// Adds the line of a file's fault.
-fn report_file_fault(
+fn report_file_fault<K: KeptFindings>(
     alloc: Global,
     job_file: JobFile<'_>,
     fault: LineFault,
-    lines: &mut FindingLines,
+    lines: &mut FindingLines<K>,
 ) -> Result<(), AllocError>
     ensures { OnOk result (ReportsWhere lines.old lines.new (λ q. bytes_eq q (file_line job_file.entry fault))) }
 {
     let finding = job_file.finding(alloc, fault)?;
-    add_line(finding, lines)
+    lines.add(finding)
 }
 
 /// Adds the lines of a file that are at fault.
-pub fn report_file(
+pub fn report_file<K: KeptFindings>(
     alloc: Global,
     job_file: JobFile<'_>,
     faults: &[LineFault],
-    lines: &mut FindingLines,
+    lines: &mut FindingLines<K>,
 ) -> Result<(), AllocError>
     ensures { OnOk result (ReportsWhere lines.old lines.new (λ q. list_any (λ fault. bytes_eq q (file_line job_file.entry fault)) faults.now)) }
 {
@@ -48,24 +47,24 @@ pub fn report_file(
 }
 
 /// Adds the line of a table's fault.
-fn report_table_fault(
+fn report_table_fault<K: KeptFindings>(
     alloc: Global,
     table: Table,
     fault: relay_routes::LineFault,
-    lines: &mut FindingLines,
+    lines: &mut FindingLines<K>,
 ) -> Result<(), AllocError>
     ensures { OnOk result (ReportsWhere lines.old lines.new (λ q. bytes_eq q (table_line table fault))) }
 {
     let finding = table.finding(fault);
-    add_line(finding, lines)
+    lines.add(finding)
 }
 
 /// Adds the lines of a table that are at fault.
-pub fn report_table(
+pub fn report_table<K: KeptFindings>(
     alloc: Global,
     table: Table,
     faults: &[relay_routes::LineFault],
-    lines: &mut FindingLines,
+    lines: &mut FindingLines<K>,
 ) -> Result<(), AllocError>
     ensures { OnOk result (ReportsWhere lines.old lines.new (λ q. list_any (λ fault. bytes_eq q (table_line table fault)) faults.now)) }
 {
@@ -76,11 +75,11 @@ pub fn report_table(
 }
 
 /// The path of an include file, which is parsed. Adds the lines that are at fault.
-fn reported_path(
+fn reported_path<K: KeptFindings>(
     alloc: Global,
     include: &JobInclude,
     file: &IncludeFile,
-    lines: &mut FindingLines,
+    lines: &mut FindingLines<K>,
 ) -> Result<Text, AllocError>
     requires file { file.now ≡ include_file_of include.now.bytes }
     ensures path { IfOk result (λ path. path ≡ include.now.path) }
@@ -92,10 +91,10 @@ fn reported_path(
 }
 
 /// The items of an include file under its path. Adds the lines that are at fault.
-fn read_include(
+fn read_include<K: KeptFindings>(
     alloc: Global,
     include: &JobInclude,
-    lines: &mut FindingLines,
+    lines: &mut FindingLines<K>,
 ) -> Result<IncludeEntry, AllocError>
     ensures entry { IfOk result (λ entry. entry ≡ entry_of_include include.now) }
     ensures lines { OnOk result (ReportsWhere lines.old lines.new (λ q. has_include_line q include.now)) }
@@ -109,10 +108,10 @@ fn read_include(
 }
 
 /// The include files of a job. Adds the lines that are at fault.
-pub fn read_includes(
+pub fn read_includes<K: KeptFindings>(
     alloc: Global,
     includes: &[JobInclude],
-    lines: &mut FindingLines,
+    lines: &mut FindingLines<K>,
 ) -> Result<Vec<IncludeEntry>, AllocError>
     ensures entries { IfOk result (λ entries. entries.items ≡ map entry_of_include includes.now) }
     ensures lines { OnOk result (ReportsWhere lines.old lines.new (λ q. list_any (has_include_line q) includes.now)) }

@@ -6,5 +6,7 @@ pub mod ScriptText
 pub mod LengthSums
 pub mod Fronts
 pub mod SharedFronts
+pub mod SortedLines
 pub mod LineOrders
+pub mod FoundOrders
 pub mod LineCuts

@@ -6,4 +6,5 @@ pub mod Fronts
 pub mod FrontedLines
 pub mod SharedFronts
 pub mod FindingLines
+pub mod FoundLines
 pub mod CheckText

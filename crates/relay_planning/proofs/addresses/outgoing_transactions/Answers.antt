@@ -8,24 +8,24 @@ use Rattle.relay_planning.proofs.RouteLines.{route_lines}
 use Rattle.relay_planning.proofs.addresses.outgoing_transactions.Goals as goal
 
 pub transactions_of-requires-clause-apart : goal.transactions_of-requires-clause-apart
-transactions_of-requires-clause-apart c = rw (c.routes.ensures.routes) (record { senders_apart = c.requires.graph.senders_distinct; routes_apart = c.routes.ensures.apart })
+transactions_of-requires-clause-apart g c = rw (c.routes.ensures.routes) (record { senders_apart = c.requires.graph.senders_distinct; routes_apart = c.routes.ensures.apart })
 
 pub transactions_of-requires-clause-range : goal.transactions_of-requires-clause-range
-transactions_of-requires-clause-range c =
+transactions_of-requires-clause-range g c =
     let outgoing = c.in_ok-outgoing.outgoing in
     let h = c.in_ok-outgoing.ensures in
     rw (c.routes.ensures.routes, c.as_slice.ensures.value)
     (in_range c.args.job.now c.args.graph.now c.args.pairs.now c.requires.pairs c.outgoing_of.new.destinations.routes outgoing.recipients.items outgoing.known.items c.outgoing_of.new.lines outgoing.deliveries.items h.known h.outgoing)
 
 pub transactions_of-requires-clause-placed : goal.transactions_of-requires-clause-placed
-transactions_of-requires-clause-placed c = λ s r a.
+transactions_of-requires-clause-placed g c = λ s r a.
     let outgoing = c.in_ok-outgoing.outgoing in
     let h = c.in_ok-outgoing.ensures in
     rw (c.routes.ensures.routes, c.as_slice.ensures.value)
     (let both = placed_by_numbers c.args.job.now c.args.graph.now c.args.pairs.now c.requires.pairs c.outgoing_of.new.destinations.routes outgoing.recipients.items outgoing.known.items c.outgoing_of.new.lines outgoing.deliveries.items h.known h.outgoing s r a in (both.1, both.0))
 
 pub returns-clause-lines : goal.returns-clause-lines
-returns-clause-lines c =
+returns-clause-lines g c =
     let h = c.in_ok-outgoing.ensures in
     let are = route_lines c.args.job.now c.args.graph.now c.args.pairs.now c.requires.pairs in
     let Q : Type 0 = (q : List ℕ) → IsTrue (has_text c.outgoing_of.new.lines q) ↔ (IsTrue (has_text c.args.lines.now q) ⊎ IsLineOf c.args.job.now routes q) in

@@ -4,4 +4,4 @@ use Rattle.relay_planning.specs.Entries.{HaveLine, IsLoopLine}
 use Rattle.relay_planning.proofs.entries.report_loops.Given as goal
 
 abbrev pub invariant-loop-node : goal.invariant-loop-node
-invariant-loop-node l = Reports l.initial.lines l.lines (HaveLine (IsLoopLine l.graph l.tables) (take l.node-index l.loops))
+invariant-loop-node g l = Reports l.initial.lines l.lines (HaveLine (IsLoopLine l.graph l.tables) (take l.node-index l.loops))

@@ -8,13 +8,13 @@ use Rattle.relay_planning.proofs.ParsedFacts.{on_ok_with}
 use Rattle.relay_planning.proofs.lookup.read_others.Goals as goal
 
 pub returns-clause-local : goal.returns-clause-local
-returns-clause-local c = IfOk-weaker c.beside.result _ _ (λ others are. ap (λ (s : TableSettings). s.local) are.0 ∙ c.in_ok-settings.ensures.local) c.beside.ensures
+returns-clause-local g c = IfOk-weaker c.beside.result _ _ (λ others are. ap (λ (s : TableSettings). s.local) are.0 ∙ c.in_ok-settings.ensures.local) c.beside.ensures
 
 pub returns-clause-routes : goal.returns-clause-routes
-returns-clause-routes c = IfOk-weaker c.beside.result _ _ (λ others are. ap (λ (s : TableSettings). s.routes) are.0 ∙ c.in_ok-settings.ensures.routes) c.beside.ensures
+returns-clause-routes g c = IfOk-weaker c.beside.result _ _ (λ others are. ap (λ (s : TableSettings). s.routes) are.0 ∙ c.in_ok-settings.ensures.routes) c.beside.ensures
 
 pub returns-clause-includes : goal.returns-clause-includes
-returns-clause-includes c = IfOk-weaker c.beside.result _ _ (λ others are. IfOk-at_ok (λ includes. includes.items ≡ map entry_of_include c.args.job.now.includes) are.1 c.report_parsed.ensures.includes) c.beside.ensures
+returns-clause-includes g c = IfOk-weaker c.beside.result _ _ (λ others are. IfOk-at_ok (λ includes. includes.items ≡ map entry_of_include c.args.job.now.includes) are.1 c.report_parsed.ensures.includes) c.beside.ensures
 
 pub returns-clause-lines : goal.returns-clause-lines
-returns-clause-lines c = on_ok_with (ReportsWhere c.args.lines.now c.report_parsed.new.lines (has_fault_line c.args.job.now)) c.beside.result c.report_parsed.result (λ others. others.1) (IfOk-weaker c.beside.result _ _ (λ others are. are.1) c.beside.ensures) c.report_parsed.ensures.lines
+returns-clause-lines g c = on_ok_with (ReportsWhere c.args.lines.now c.report_parsed.new.lines (has_fault_line c.args.job.now)) c.beside.result c.report_parsed.result (λ others. others.1) (IfOk-weaker c.beside.result _ _ (λ others are. are.1) c.beside.ensures) c.report_parsed.ensures.lines

@@ -12,7 +12,7 @@ use Rattle.relay_planning.proofs.ReportFacts.{reports_three}
 use Rattle.relay_planning.proofs.lookup.report_names.Goals as goal
 
 pub returns-clause-lines : goal.returns-clause-lines
-returns-clause-lines c =
+returns-clause-lines g c =
     let old = c.args.lines.now in
     let aliases = c.args.aliases.now in
     let mailboxes = c.args.mailboxes.now in

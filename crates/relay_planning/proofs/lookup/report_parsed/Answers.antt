@@ -9,7 +9,7 @@ use Rattle.relay_planning.proofs.ReportFacts.{reports_two}
 use Rattle.relay_planning.proofs.lookup.report_parsed.Goals as goal
 
 pub returns-clause-lines : goal.returns-clause-lines
-returns-clause-lines c =
+returns-clause-lines g c =
     let job = c.args.job.now in
     let old = c.args.lines.now in
     let middle = c.report_names.new.lines in

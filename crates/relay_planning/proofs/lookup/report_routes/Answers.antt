@@ -11,7 +11,7 @@ use Rattle.relay_planning.proofs.ReportFacts.{reports_two}
 use Rattle.relay_planning.proofs.lookup.report_routes.Goals as goal
 
 pub returns : goal.returns
-returns c =
+returns g c =
     let old = c.args.lines.now in
     let middle = c.report_table.new.lines in
     let new = c.report_table-2.new.lines in

@@ -9,10 +9,10 @@ use Rattle.relay_planning.proofs.RouteLines.{unrouted_added}
 use Rattle.relay_planning.proofs.outgoing.add_unrouted.Goals as goal
 
 pub returns : goal.returns
-returns c = record {
+returns g c = record {
   lines =
-      on_ok_weaker {P = ReportsWhere c.args.lines.now c.add_line.new.lines (λ q. bytes_eq q (finding_text_of (Unrouted c.in_ok-address.address c.in_ok-reason.reason)))} c.add_line.result
-      (λ h q. unrouted_added c.args.unrouted.now c.in_ok-reason.reason c.in_ok-address.address c.args.address.now q (has_text c.args.lines.now q) (has_text c.add_line.new.lines q)
+      on_ok_weaker {P = ReportsWhere c.args.lines.now c.add.new.self (λ q. bytes_eq q (finding_text_of (Unrouted c.in_ok-address.address c.in_ok-reason.reason)))} c.add.result
+      (λ h q. unrouted_added c.args.unrouted.now c.in_ok-reason.reason c.in_ok-address.address c.args.address.now q (has_text c.args.lines.now q) (has_text c.add.new.self q)
       c.in_ok-address.ensures.same (sym c.in_ok-reason.ensures) (h q))
-      c.add_line.ensures;
+      c.add.ensures.ok;
 }

@@ -1,18 +1,14 @@
-use Rattle.std.proofs.Common.{◌∙◌, List, ap, sym, subst}
-use Rattle.relay_wire.specs.declared.plan.Planned.{Planned}
-use Rattle.relay_job.specs.declared.settings.Settings.{Settings}
-use Rattle.relay_planning.specs.Plans.{AreTransactionsOf, IsSoundFor, IsFewest}
-use Rattle.relay_planning.proofs.PlanFacts.{plan_is}
+use Rattle.std.proofs.Common.{◌∙◌, sym}
+use Rattle.std.specs.Prelude.{IsTrue}
+use Rattle.std.proofs.lemmas.Result.{IfOk-weaker}
+use Rattle.relay_text.specs.Bytes.{has_text}
+use Rattle.relay_planning.proofs.PlanFacts.{plan_over}
 use Rattle.relay_planning.proofs.planning.plan_of.Goals as goal
 
-pub returns : goal.returns
-returns c =
+pub returns-in-Ok-clause-plan : goal.returns-in-Ok-clause-plan
+returns-in-Ok-clause-plan c =
     let job = c.args.job.now in
-    let same = sym c.of-2.ensures in
-    record {
-      plan =
-          plan_is job _ c.args.lines (c.of.ensures ∙ c.in_ok-hostname.ensures.items ∙ c.as_bytes.ensures ∙ ap (λ (s : Settings). s.hostname) c.settings.ensures.settings) (subst (λ (ts : List Planned). AreTransactionsOf job ts) same c.requires.transactions)
-          c.in_ok-into_seq.ensures.all c.in_ok-into_seq.ensures.ascending;
-      sound = subst (λ (ts : List Planned). IsSoundFor job ts) same c.requires.sound;
-      fewest = subst (λ (ts : List Planned). IsFewest job ts) same c.requires.fewest;
-    }
+    let same = c.in-Ok.ensures.all in
+    IfOk-weaker c.plan_with.result _ _
+    (λ plan is. plan_over job plan (λ q. IsTrue (has_text c.in-Ok.findings q)) (λ q. IsTrue (has_text c.args.lines q)) (λ q. (λ has. sym (same q) ∙ has, λ has. same q ∙ has)) is)
+    c.plan_with.ensures.plan

@@ -6,7 +6,7 @@ use Rattle.relay_planning.specs.Texts.{has_include_line}
 use Rattle.relay_planning.proofs.texts.read_includes.Given as goal
 
 abbrev pub invariant-loop-include : goal.invariant-loop-include
-invariant-loop-include l = record {
+invariant-loop-include g l = record {
   entries : l.entries.items ≡ map entry_of_include (take l.include-index l.includes);
   lines : ReportsWhere l.initial.lines l.lines (λ q. list_any (has_include_line q) (take l.include-index l.includes));
 }

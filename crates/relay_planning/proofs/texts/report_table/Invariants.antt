@@ -6,4 +6,4 @@ use Rattle.relay_planning.specs.Texts.{table_line}
 use Rattle.relay_planning.proofs.texts.report_table.Given as goal
 
 abbrev pub invariant-loop-fault : goal.invariant-loop-fault
-invariant-loop-fault l = ReportsWhere l.initial.lines l.lines (λ q. list_any (λ fault. bytes_eq q (table_line l.table fault)) (take l.fault-index l.faults))
+invariant-loop-fault g l = ReportsWhere l.initial.lines l.lines (λ q. list_any (λ fault. bytes_eq q (table_line l.table fault)) (take l.fault-index l.faults))

@@ -8,7 +8,7 @@ use Rattle.relay_planning.proofs.ReportFacts.{on_ok_given}
 use Rattle.relay_planning.proofs.texts.reported_path.Goals as goal
 
 pub returns-clause-lines : goal.returns-clause-lines
-returns-clause-lines c =
+returns-clause-lines g c =
     let old = c.args.lines.now in
     let faults = c.as_slice.result.now in
     on_ok_given c.copy_of.result (λ q.

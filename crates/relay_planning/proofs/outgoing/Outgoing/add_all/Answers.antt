@@ -8,7 +8,7 @@ use Rattle.relay_planning.proofs.OutgoingFacts.{some_more}
 use Rattle.relay_planning.proofs.outgoing.Outgoing.add_all.Goals as goal
 
 pub loop-pair-init : goal.loop-pair-init
-loop-pair-init c = record {
+loop-pair-init g c = record {
   graph = refl;
   routing = c.requires.routing;
   via = c.requires.via;
@@ -20,7 +20,7 @@ loop-pair-init c = record {
 }
 
 pub loop-pair-preserved : goal.loop-pair-preserved
-loop-pair-preserved c =
+loop-pair-preserved g c =
     let job = c.args.job.now in
     let g = c.args.self.now.graph.now in
     let pairs = c.args.pairs.now in
@@ -47,7 +47,7 @@ loop-pair-preserved c =
     }
 
 pub returns-clause-lines : goal.returns-clause-lines
-returns-clause-lines c =
+returns-clause-lines g c =
     let whole : take c.loop-pair.pair-index c.args.pairs.now ≡ c.args.pairs.now = take_all c.loop-pair.pair-index c.args.pairs.now (omega arith) in
     let P : List Reached → Type 0 = λ ps. (q : List ℕ) → IsTrue (has_text c.loop-pair.lines q) ↔ (IsTrue (has_text c.args.lines.now q) ⊎ HaveLine c.args.job.now c.args.self.now.graph.now ps q) in
     subst P whole c.loop-pair.invariant.lines

@@ -6,7 +6,7 @@ use Rattle.relay_planning.specs.Routes.{HaveLine, AreKnown, AreOutgoing}
 use Rattle.relay_planning.proofs.outgoing.Outgoing.add_all.Given as goal
 
 abbrev pub invariant-loop-pair : goal.invariant-loop-pair
-invariant-loop-pair l = record {
+invariant-loop-pair g l = record {
   graph : l.self.graph.now ≡ l.initial.self.graph.now;
   routing : l.destinations.routing ≡ routing_of l.job;
   via : l.destinations.via ≡ l.job.settings.mailbox_transport;

@@ -7,7 +7,7 @@ use Rattle.relay_planning.proofs.outgoing.Outgoing.settle.Goals as goal
 use Rattle.relay_planning.proofs.outgoing.Outgoing.settle.Goals.{in-Some+in_ok-push-in-Some, in-None}
 
 pub returns-clause-known : goal.returns-clause-known
-returns-clause-known c =
+returns-clause-known g c =
     let job = c.args.job.now in
     let old = c.args.self.now in
     let g = old.graph.now in
@@ -34,7 +34,7 @@ returns-clause-known c =
     ]
 
 pub returns-clause-there : goal.returns-clause-there
-returns-clause-there c =
+returns-clause-there g c =
     let within : c.args.node < length c.args.self.now.known.items = omega (arith, c.requires.known.len, c.requires.node) in
     elim c.match-recipient.branch [
       | in-Some+in_ok-push-in-Some w ↦ rw (w.self-is) (get_set_same c.args.self.now.known.items c.args.node c.match-recipient.known within)
@@ -42,7 +42,7 @@ returns-clause-there c =
     ]
 
 pub returns-clause-stay : goal.returns-clause-stay
-returns-clause-stay c =
+returns-clause-stay g c =
     elim c.match-recipient.branch [
       | in-Some+in_ok-push-in-Some w ↦ rw (w.self-is) (stay_set c.args.self.now.known.items c.args.node c.match-recipient.known c.requires.unseen)
       | in-None w ↦ rw (w.self-is) (stay_set c.args.self.now.known.items c.args.node c.match-recipient.known c.requires.unseen)
