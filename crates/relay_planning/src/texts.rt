@@ -5,8 +5,7 @@ ghost use Rattle.std.specs.Str.{bytes_eq};
 ghost use Rattle.relay_aliasfile.specs.IncludeFiles.{include_file_of};
 ghost use Rattle.relay_planning.specs.Delivery.{entry_of_include};
 ghost use Rattle.relay_planning.specs.Findings.{ReportsWhere};
-ghost use Rattle.relay_planning.specs.Texts.{table_line};
-ghost use Rattle.relay_planning.specs.Texts.{file_line, has_include_line};
+ghost use Rattle.relay_planning.specs.Texts.{file_line, has_include_line, table_line};
 
 use crate::both::beside;
 use crate::job_file::JobFile;

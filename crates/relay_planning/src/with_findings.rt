@@ -1,5 +1,5 @@
 //! A plan with its findings as values, for a program that acts upon them.
-ghost use Rattle.std.specs.Prelude.{◌≡◌, ℕ, List, map, IfOk, IfErr, OnOk};
+ghost use Rattle.std.specs.Prelude.{◌≡◌, ℕ, List, map, IfOk, IfErr, OnOk, IsTrue};
 ghost use Rattle.relay_text.specs.Bytes.{has_text};
 ghost use Rattle.relay_wire.specs.Findings.{finding_text_of};
 ghost use Rattle.relay_job.specs.JobAnswers.{IsJobWithin};
@@ -7,7 +7,6 @@ ghost use Rattle.relay_planning.specs.Delivery.{directory_of, routing_of};
 ghost use Rattle.relay_planning.specs.Limits.{IsWithin, IsRefused};
 ghost use Rattle.relay_planning.specs.Plans.{AreTransactionsOf, IsFewest, IsPlanOf, IsPlanWith, IsSoundFor};
 ghost use Rattle.relay_planning.specs.Texts.{has_fault_line};
-ghost use Rattle.std.specs.Prelude.{IsTrue};
 
 use crate::crew::Crew;
 use crate::job_view::JobView;
@@ -60,7 +59,7 @@ fn plan_with_found(
 }
 
 /// The plan of a job whose files and tables are read. Their faults are given.
-fn plan_found<G: Gate, R: Threads + Sync>(
+fn plan_by_lookup_with_findings<G: Gate, R: Threads + Sync>(
     crew: &Crew<G, R>,
     job: &JobView<'_>,
     lookup: Lookup,
@@ -108,7 +107,7 @@ pub fn plan_with_findings<G: Gate, R: Threads + Sync>(
     parsed_is_readable();
     let mut lines = FindingLines::with_findings(crew.alloc);
     match Lookup::read_by(crew, job, &mut lines) {
-        Ok(lookup) => plan_found(crew, &JobView::of(job), lookup, lines),
+        Ok(lookup) => plan_by_lookup_with_findings(crew, &JobView::of(job), lookup, lines),
         Err(_) => {
             drop(lines);
             Err(RunFault::Memory)

@@ -3,7 +3,7 @@ use Rattle.std.specs.Prelude.{IsTrue}
 use Rattle.relay_text.specs.Bytes.{has_text}
 use Rattle.relay_planning.specs.Report.{IsOwnFindingLine}
 use Rattle.relay_planning.proofs.PlanFacts.{plan_over, whole_plan}
-use Rattle.relay_planning.proofs.with_findings.plan_found.Goals as goal
+use Rattle.relay_planning.proofs.with_findings.plan_by_lookup_with_findings.Goals as goal
 
 pub returns-in-Ok-plan_with_found-clause-plan : goal.returns-in-Ok-plan_with_found-clause-plan
 returns-in-Ok-plan_with_found-clause-plan g c =
