@@ -1,7 +1,7 @@
 pub mod Outcomes
 pub mod Domains
 pub mod Transfers
-pub mod Collecting
+pub mod Gathering
 pub mod Checks
 pub mod Planners
 pub mod Returns

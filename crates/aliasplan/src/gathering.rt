@@ -1,7 +1,7 @@
 //! A job from files that lie apart.
 ghost use Rattle.std.specs.Prelude.{◌≡◌, ◌≢◌, ◌≤◌, false, true, Err, IfErr, OnOk};
 ghost use Rattle.std.specs.Io.KnownBytes.{Keeps};
-ghost use Rattle.aliasplan.specs.Collecting.{Gathers, GathersFront, IsUngathered};
+ghost use Rattle.aliasplan.specs.Gathering.{Gathers, GathersFront, IsUngathered};
 
 use crate::device::Sink;
 use crate::writing::write_text;

@@ -1,10 +1,10 @@
 //! What is asked of the planner: a job's plan and its text, what is returned to whom, the domains that it asks for, and what is wrong with
 //! its files and tables.
 //!
-//! relay_planning makes the plan. Here are the calls on values ([`plan_job`], [`returns`], [`domains`], [`check_texts`],
-//! [`check_aliases`]), a [`Planner`] that keeps tables for many envelopes, and the calls that read a job from a device and write what it
-//! answers on another: [`run`] by way of `reading`, `answering` and `writing`, and likewise [`run_returns`] and [`run_domains`]; [`gather`]
-//! writes the text of a job whose files lie apart.
+//! relay_planning makes the plan. Here are the calls on values ([`plan_job`], [`plan_with_findings`], [`returns`], [`domains`],
+//! [`check_texts`], [`check_aliases`]), a [`Planner`] that keeps tables for many envelopes, and the calls that read a job from a device and
+//! write what it answers on another: [`run`] by way of `reading`, `answering` and `writing`, and likewise [`run_returns`] and
+//! [`run_domains`]; [`gather`] writes the text of a job whose files lie apart.
 //!
 //! Where a function ends, a value of many parts is given back by a call of `drop`: the proof of that call is made once for its type, and
 //! the end of a scope would be followed part by part in each function and for each way out.

@@ -12,7 +12,8 @@ use std::alloc::{AllocError, Global};
 /// How many bytes one read asks for at most: few enough that they are still in the nearest cache when they are put behind the rest.
 const CHUNK: usize = 2048;
 
-/// For how many bytes there is room before the first read: most jobs are shorter, and of room that isn't filled no memory is touched.
+/// For how many bytes there is room before the first read: most jobs are shorter. A longer one gets room for the longest at once, since
+/// of room that isn't filled no memory is touched, and what is filled needn't be moved then.
 const FIRST_ROOM: usize = 1 << 20;
 
 // Room for some bytes.
@@ -20,6 +21,18 @@ fn room_for(alloc: Global, len: usize) -> Result<Vec<u8>, AllocError>
     ensures { IfOk result (λ room. vec_len room ≡ len) }
 {
     vec![in alloc; 0u8; len]
+}
+
+// Room for so many bytes more: where there is less, for the most that may come.
+fn make_room(text: &mut Vec<u8>, len: usize, most: usize) -> Result<(), AllocError>
+    requires { len ≤ most }
+    ensures items { text.new.items ≡ text.old.items }
+    ensures len { vec_len text.new ≡ vec_len text.old }
+{
+    if text.capacity() - text.len() < len {
+        text.reserve_exact(most)?;
+    }
+    Ok(())
 }
 
 // One read, whose bytes go to the end of the text.
@@ -62,7 +75,9 @@ pub fn read_job<F: Feed>(alloc: Global, reader: &mut F, max: usize) -> Result<Te
     let mut chunk = room_for(alloc, CHUNK)?;
     let mut text: Vec<u8> = Vec::with_capacity(alloc, FIRST_ROOM)?;
     for _ in 0..max + 1 {
-        let room = (max + 1 - text.len()).min(chunk.len());
+        let most = max + 1 - text.len();
+        let room = most.min(chunk.len());
+        make_room(&mut text, room, most)?;
         let count = read_some(reader, &mut chunk[..room], &mut text)?;
         if count == 0 {
             return Ok(Text::of(text));

@@ -13,13 +13,17 @@ loop-preserved g c =
     let step = c.in_ok-count.ensures in
     let taken = step.taken in
     let old = c.loop.invariant in
+    let kept : c.make_room.new.text.items ≡ c.loop.text.items = c.make_room.ensures.items in
+    let told = subst (λ (text : List ℕ). Consumes (remaining c.args.reader.now) (remaining c.loop.reader) text) (sym kept) old.told in
     record {
       told =
           subst (λ (text : List ℕ). Consumes (remaining c.args.reader.now) (remaining c.read_some.new.reader) text) (sym taken.grown)
-          (consumes_more (remaining c.args.reader.now) (remaining c.loop.reader) (remaining c.read_some.new.reader) c.loop.text.items taken.bytes old.told taken.given);
+          (consumes_more (remaining c.args.reader.now) (remaining c.loop.reader) (remaining c.read_some.new.reader) c.make_room.new.text.items taken.bytes told taken.given);
       works = step.read.1 (λ e. let no : ⊥ = cc in no);
       goes_on = grind (arith, common_steps, step.ended);
-      grows = omega (arith, ap length taken.grown, length-append c.loop.text.items taken.bytes, taken.counted, c.if-count-eq0.false, c.read_some.new.text.ok.0, c.loop.text.ok.0, old.grows);
+      grows =
+          omega
+          (arith, ap length taken.grown, length-append c.make_room.new.text.items taken.bytes, taken.counted, c.if-count-eq0.false, c.read_some.new.text.ok.0, c.make_room.new.text.ok.0, c.make_room.ensures.len, old.grows);
       within = omega (arith, c.if-len-max.false, c.len-in-loop-2.ensures);
       room = old.room;
     }

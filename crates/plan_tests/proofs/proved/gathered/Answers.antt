@@ -7,7 +7,7 @@ use Rattle.relay_job.specs.declared.fault.RunFault.TheVariants.{Read, TooLong, B
 use Rattle.relay_gather.specs.declared.paths.Paths.{Paths}
 use Rattle.relay_gather.specs.Source.{Answer, Tells, absent, file, unknown}
 use Rattle.relay_gather.specs.Gathering.{IsGathered}
-use Rattle.aliasplan.specs.Collecting.{Gathers, IsUngathered}
+use Rattle.aliasplan.specs.Gathering.{Gathers, IsUngathered}
 use Rattle.plan_tests.specs.declared.files.File.{File}
 use Rattle.plan_tests.specs.FilesInMemory.{answer_among}
 use Rattle.plan_tests.proofs.proved.gathered.Goals as goal
