@@ -11,6 +11,7 @@ ghost use Rattle.relay_chains.specs.TextHash.{text_hash};
 use crate::fault::ChainFault;
 use crate::links::Links;
 use crate::text_hash::hash_text;
+use relay_text::same_bytes;
 use std::alloc::{AllocError, Global};
 use std::marker::Model;
 
@@ -174,7 +175,7 @@ fn is_text_at(ends: &[usize], bytes: &[u8], number: u32, text: &[u8]) -> bool
     requires below { number < length ends.now }
     ensures { result ≡ bytes_eq text.now (slice_index_or (texts_from bytes.now 0 ends.now) number []) }
 {
-    text == text_at(ends, bytes, number)
+    same_bytes(text, text_at(ends, bytes, number))
 }
 
 // The number of a text with this hash.
