@@ -1,11 +1,11 @@
 -- Texts that are kept by their first places.
-use Rattle.std.proofs.Common.{◌≡◌, ℕ, ◌+◌, ◌<◌, ◌≤◌, Bool, true, false, ◌||◌, ◌&&◌, cond, eqb, List, [], ◌∷◌, ◌++◌, length, take, get_or, refl, sym, ap, ◌∙◌, arith, zero, suc, inl, inr}
+use Rattle.std.proofs.Common.{◌≡◌, ℕ, ◌+◌, ◌<◌, ◌≤◌, Bool, true, false, ◌||◌, ◌&&◌, cond, eqb, List, [], ◌∷◌, ◌++◌, length, take, get_or, map, refl, sym, ap, subst, ◌∙◌, arith, zero, suc, inl, inr}
 use Rattle.std.specs.Prelude.{not, filter}
 use Rattle.std.specs.Str.{bytes_eq}
 use Rattle.std.specs.Bool.{Decides}
 use Rattle.std.proofs.lemmas.Bool.{true≢false, cases_lt}
 use Rattle.std.proofs.lemmas.Bool.Decides.{Decides-eqb}
-use Rattle.std.proofs.lemmas.List.{append_assoc, append-nil, take_more}
+use Rattle.std.proofs.lemmas.List.{append_assoc, append-nil, length-map, get_or-map, get_or_default, take_all, take_more}
 use Rattle.std.proofs.lemmas.List.Folds.{list_any-append}
 use Rattle.std.proofs.lemmas.List.Sums.{fails_before_first}
 use Rattle.std.proofs.lemmas.Slice.Eq.{bytes_eq-Decides}
@@ -135,6 +135,25 @@ kept_first xs kept x i inside is so_far first =
     ∙ sym (ap (λ b. cond b (with_texts [] (take i xs)) (with_texts [] (take i xs) ++ x ∷ [])) fresh)
     ∙ sym (with_texts-push [] (take i xs) x)
     ∙ ap (with_texts []) (ap (λ y. take i xs ++ y ∷ []) is ∙ sym (take_more xs i x inside))
+
+kept_all : (xs : List (List ℕ)) → ((k : ℕ) → k < length xs → first_place xs (get_or xs k []) ≡ k) → (i : ℕ) → i ≤ length xs → take i xs ≡ with_texts [] (take i xs)
+kept_all xs own zero h = refl
+kept_all xs own (suc i) h =
+    let inside : i < length xs = omega (arith, h) in
+    let x = get_or xs i [] in
+    let first : take i xs ++ x ∷ [] ≡ with_texts [] (take (i + 1) xs) =
+    kept_first xs (take i xs) x i inside (get_or_default xs i [] x inside) (kept_all xs own i (let e : i ≤ length xs = omega (arith, h) in e)) (own i inside) in
+    let next : i + 1 ≡ suc i = omega arith in
+    subst (λ (n : ℕ). take n xs ≡ with_texts [] (take n xs)) next (take_more xs i [] inside ∙ first)
+
+-- where each text stands first at its own place, all of them are firsts
+pub all_first : (xs : List (List ℕ)) (places : List ℕ) → places ≡ map (first_place xs) xs → ((k : ℕ) → k < length places → get_or places k 0 ≡ k) → xs ≡ firsts bytes_eq xs
+all_first xs places are own =
+    let long : length places ≡ length xs = ap length are ∙ length-map xs (first_place xs) in
+    let whole = take_all (length xs) xs (let e : length xs ≤ length xs = omega arith in e) in
+    let at : (k : ℕ) → k < length xs → first_place xs (get_or xs k []) ≡ k = λ k inside.
+    sym (get_or-map (first_place xs) xs k [] 0 inside) ∙ ap (λ (l : List ℕ). get_or l k 0) (sym are) ∙ own k (let e : k < length places = omega (arith, long, inside) in e) in
+    sym whole ∙ kept_all xs at (length xs) (let e : length xs ≤ length xs = omega arith in e) ∙ ap (with_texts []) whole ∙ with_texts-none xs
 
 kept_other : (xs kept : List (List ℕ)) (x : List ℕ) (i n : ℕ) → i < length xs → x ≡ get_or xs i x → kept ≡ with_texts [] (take i xs) → n ≡ first_place xs x → (n ≡ i → ⊥) → kept ≡ with_texts [] (take (i + 1) xs)
 kept_other xs kept x i n inside is so_far first apart =

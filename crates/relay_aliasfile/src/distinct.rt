@@ -1,5 +1,5 @@
 //! Texts, each once.
-ghost use Rattle.std.specs.Prelude.{◌≡◌, ◌<◌, ◌≤◌, ◌+◌, ◌==◌, ◌++◌, ◌∷◌, [], map, if◌then◌else◌, vec_len, vec_capacity, IfOk};
+ghost use Rattle.std.specs.Prelude.{◌≡◌, ◌<◌, ◌≤◌, ◌+◌, ◌==◌, ◌++◌, ◌∷◌, ℕ, [], length, map, slice_index, if◌then◌else◌, vec_len, vec_capacity, IfOk, IsTrue};
 ghost use Rattle.std.specs.Str.{bytes_eq};
 ghost use Rattle.relay_text.specs.Bytes.{firsts};
 ghost use Rattle.relay_text.specs.FirstPlaces.{first_place};
@@ -34,11 +34,11 @@ fn put_first(text: Text, place: usize, first: usize, distinct: &mut Vec<Text>)
     }
 }
 
-/// The texts, each by its first place alone.
-pub fn distinct_texts(alloc: Global, texts: Vec<Text>) -> Result<Seq<Text>, AllocError>
+/// The texts, each by its first place alone. These are the places where they stand first.
+fn first_texts(alloc: Global, texts: Vec<Text>, places: &[usize]) -> Result<Seq<Text>, AllocError>
+    requires { places.now ≡ map (first_place texts.items) texts.items }
     ensures { IfOk result (λ distinct. distinct ≡ firsts bytes_eq texts.items) }
 {
-    let places = places_of(alloc, texts.as_slice())?;
     let mut distinct = Vec::with_capacity(alloc, texts.len())?;
     let mut place = 0;
     for text in texts {
@@ -46,4 +46,27 @@ pub fn distinct_texts(alloc: Global, texts: Vec<Text>) -> Result<Seq<Text>, Allo
         place += 1;
     }
     Ok(Seq::of(distinct))
+}
+
+/// Whether each place is its own, so that no text comes again.
+fn are_own(places: &[usize]) -> bool
+    ensures { IsTrue result → (k : ℕ) → k < length places.now → slice_index places.now k ≡ k }
+{
+    for (index, place) in places.iter().enumerate() {
+        if *place != index {
+            return false;
+        }
+    }
+    true
+}
+
+/// The texts, each by its first place alone. Where none comes again, they stay where they are.
+pub fn distinct_texts(alloc: Global, texts: Vec<Text>) -> Result<Seq<Text>, AllocError>
+    ensures { IfOk result (λ distinct. distinct ≡ firsts bytes_eq texts.items) }
+{
+    let places = places_of(alloc, texts.as_slice())?;
+    if are_own(&places) {
+        return Ok(Seq::of(texts));
+    }
+    first_texts(alloc, texts, &places)
 }

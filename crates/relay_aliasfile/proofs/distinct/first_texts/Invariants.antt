@@ -1,6 +1,6 @@
 use Rattle.std.proofs.Common.{◌≡◌, ◌≤◌, [], length, take, vec_len, vec_capacity}
 use Rattle.relay_aliasfile.specs.DistinctTexts.{with_texts}
-use Rattle.relay_aliasfile.proofs.distinct.distinct_texts.Given as goal
+use Rattle.relay_aliasfile.proofs.distinct.first_texts.Given as goal
 
 -- the texts so far, each by its first place
 abbrev pub invariant-loop-text : goal.invariant-loop-text
