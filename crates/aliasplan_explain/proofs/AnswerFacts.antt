@@ -1,5 +1,5 @@
 -- What the best trails say of the answers for a node.
-use Rattle.std.proofs.Common.{◌≡◌, ◌≢◌, ◌↔◌, ℕ, ◌+◌, ◌<◌, List, [], ◌∷◌, ◌++◌, length, get_or, take, map, slice_get, All, AllPairs, Contains, Option, Some, IfSome, IsSome, Result, Ok, Err, IfOk, refl, sym, ap, ◌∙◌, subst, arith}
+use Rattle.std.proofs.Common.{◌≡◌, ◌≢◌, ◌↔◌, ℕ, ◌+◌, ◌<◌, List, [], ◌∷◌, ◌++◌, length, get_or, take, map, slice_get, All, AllPairs, Contains, Option, Some, IfSome, IsSome, refl, sym, ap, ◌∙◌, subst, arith}
 use Rattle.std.specs.Option.{is_some}
 use Rattle.std.proofs.lemmas.List.{length-map, get_or-map, map_more, map_push}
 use Rattle.std.proofs.lemmas.List.Elements.{All-cons, All-contains, All-head, All-nil, All-tail, Contains-get_or}
@@ -109,11 +109,6 @@ chains_more g found k one short same chains so_far c is =
     let sender_of : Found → Option Sender = λ f. slice_get g.senders f.sender in
     let last : sender_of (get_or found k one) ≡ chain_sender c = ap sender_of (sym same) ∙ is in
     map_push chain_sender chains c ∙ ap (λ (ss : List (Option Sender)). ss ++ chain_sender c ∷ []) so_far ∙ ap (λ (s : Option Sender). senders_of g (take k found) ++ s ∷ []) (sym last) ∙ sym (map_more sender_of found k one short)
-
--- what follows from two facts of an answer
-pub if_ok_both : {A E : Type 0} {P Q R : A → Type 0} (r : Result A E) → IfOk r P → IfOk r Q → ((a : A) → P a → Q a → R a) → IfOk r R
-if_ok_both (Ok a) p q f = f a p q
-if_ok_both (Err e) p q f = tt
 
 -- no answers are told as none
 pub none_told : (answers : List Answer) (told : List Told) → AreTold answers told → answers ≡ [] → told ≡ []

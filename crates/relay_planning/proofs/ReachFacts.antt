@@ -1,5 +1,5 @@
 -- What the numbers of reached pairs and nodes stand for.
-use Rattle.std.proofs.Common.{◌≡◌, ℕ, ◌<◌, List, length, All, slice_get, ◌↔◌, Result, Ok, Err, IfOk, refl, sym, ap, ◌∙◌, subst}
+use Rattle.std.proofs.Common.{◌≡◌, ℕ, ◌<◌, List, length, All, slice_get, ◌↔◌, refl, sym, ap, ◌∙◌, subst}
 use Rattle.std.proofs.lemmas.Option.{same_Some}
 use Rattle.relay_tables.specs.declared.node.Node.{Node}
 use Rattle.relay_tables.specs.GraphParts.{GraphParts}
@@ -38,8 +38,3 @@ module _ (job : Job) (g : GraphParts) (numbers : (pair : Pair) → IsReachedPair
             let h = (numbers (record { sender = r.0; node = node })).0 r.1 in
             (h.0.node, (are.members h.0.node).1 (h.0, (all.members h.0).1 h.1.reached, refl), h.1.node);
       }
-
--- what follows from two facts of an answer
-pub if_ok_both : {A E : Type 0} {P Q R : A → Type 0} (r : Result A E) → IfOk r P → IfOk r Q → ((a : A) → P a → Q a → R a) → IfOk r R
-if_ok_both (Ok a) p q f = f a p q
-if_ok_both (Err e) p q f = tt

@@ -1,5 +1,5 @@
 -- Rows of node numbers, and what they lead to.
-use Rattle.std.specs.Prelude.{◌≡◌, ℕ, List, ◌++◌, map, slice_get, Option, Some}
+use Rattle.std.specs.Prelude.{◌≡◌, ℕ, List, map, slice_get, Option, Some}
 use Rattle.relay_tables.specs.declared.node.Node.{Node}
 
 -- the nodes of a row's numbers
@@ -12,7 +12,3 @@ some_of ns = map (λ n. Some n) ns
 -- each row's numbers are those of its nodes
 abbrev pub LeadTo : List Node → List (List ℕ) → List (List Node) → Type 0
 LeadTo nodes rows targets = map (nodes_in nodes) rows ≡ map some_of targets
-
--- whatever the rows before led to, there are rows for these targets behind them now
-abbrev pub Adds : List Node → List (List ℕ) → List (List Node) → List Node → List (List ℕ) → Type 0
-Adds old_nodes old_rows targets new_nodes new_rows = (before : List (List Node)) → LeadTo old_nodes old_rows before → LeadTo new_nodes new_rows (before ++ targets)

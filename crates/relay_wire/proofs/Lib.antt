@@ -1,5 +1,6 @@
 pub mod Rows
 pub mod Pieces
+pub mod Results
 pub mod Lines
 pub mod ScriptParts
 pub mod ScriptText

@@ -51,7 +51,7 @@ fn findings_alone(alloc: Global, found: Vec<FoundLine>) -> Result<Vec<Finding>, 
 }
 
 /// What stands in lines beside their findings, each by itself.
-fn apart(alloc: Global, found: Vec<FoundLine>) -> Result<Found, AllocError>
+fn lines_and_findings(alloc: Global, found: Vec<FoundLine>) -> Result<Found, AllocError>
     ensures lines { IfOk result (λ parts. parts.lines ≡ lines_beside found.items) }
     ensures findings { IfOk result (λ parts. parts.findings.items ≡ findings_beside found.items) }
 {
@@ -81,6 +81,6 @@ impl Found {
         let mut found = found_lines(alloc, findings)?;
         found.sort_unstable();
         found.dedup();
-        apart(alloc, found)
+        lines_and_findings(alloc, found)
     }
 }

@@ -1,5 +1,5 @@
 use Rattle.aliasplan.proofs.DomainFacts.{domains_are}
-use Rattle.relay_planning.proofs.ReachFacts.{if_ok_both}
+use Rattle.relay_wire.proofs.Results.{if_ok_both}
 use Rattle.aliasplan.proofs.asking.domains_of_pairs.Goals as goal
 
 pub returns : goal.returns

@@ -1,7 +1,7 @@
 use Rattle.std.proofs.Common.{◌≡◌, ◌∙◌, ◌||◌, List, ℕ, ap}
 use Rattle.relay_text.specs.Bytes.{has_text}
 use Rattle.relay_planning.specs.Texts.{has_fault_line}
-use Rattle.relay_planning.proofs.ReachFacts.{if_ok_both}
+use Rattle.relay_wire.proofs.Results.{if_ok_both}
 use Rattle.aliasplan.proofs.CheckFacts.{texts_are}
 use Rattle.aliasplan.proofs.checking.check_texts.Goals as goal
 

@@ -3,7 +3,7 @@ use Rattle.std.specs.Prelude.{◌↔◌, Contains}
 use Rattle.relay_returns.specs.declared.block.Return.{Return}
 use Rattle.relay_planning.specs.Delivery.{directory_of}
 use Rattle.aliasplan.proofs.BlockFacts.{apart_blocks}
-use Rattle.relay_planning.proofs.ReachFacts.{if_ok_both}
+use Rattle.relay_wire.proofs.Results.{if_ok_both}
 use Rattle.aliasplan.proofs.ReturnFacts.{place_of, returns_are}
 use Rattle.aliasplan.proofs.returning.blocks_of_lines.Goals as goal
 

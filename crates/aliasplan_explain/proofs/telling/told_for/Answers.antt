@@ -1,5 +1,6 @@
 use Rattle.std.proofs.Common.{◌∙◌}
-use Rattle.aliasplan_explain.proofs.AnswerFacts.{told_are, apart_told, if_ok_both}
+use Rattle.relay_wire.proofs.Results.{if_ok_both}
+use Rattle.aliasplan_explain.proofs.AnswerFacts.{told_are, apart_told}
 use Rattle.aliasplan_explain.proofs.telling.told_for.Goals as goal
 
 pub in_order-requires : goal.in_order-requires

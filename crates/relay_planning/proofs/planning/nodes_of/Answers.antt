@@ -1,5 +1,6 @@
 use Rattle.relay_planning.specs.Delivery.{directory_of}
-use Rattle.relay_planning.proofs.ReachFacts.{nodes_reached, if_ok_both}
+use Rattle.relay_wire.proofs.Results.{if_ok_both}
+use Rattle.relay_planning.proofs.ReachFacts.{nodes_reached}
 use Rattle.relay_planning.proofs.planning.nodes_of.Goals as goal
 
 pub returns-clause-reached : goal.returns-clause-reached
