@@ -13,7 +13,8 @@ use std::alloc::{AllocError, Global};
 const CHUNK: usize = 2048;
 
 /// For how many bytes there is room before the first read: most jobs are shorter. A longer one gets room for the longest at once, since
-/// of room that isn't filled no memory is touched, and what is filled needn't be moved then.
+/// of room that isn't filled no memory is touched, and what is filled needn't be moved then. Where that much is refused, less will do, and what
+/// was too much is given back when all is read.
 const FIRST_ROOM: usize = 1 << 20;
 
 // Room for some bytes.
@@ -23,16 +24,15 @@ fn room_for(alloc: Global, len: usize) -> Result<Vec<u8>, AllocError>
     vec![in alloc; 0u8; len]
 }
 
-// Room for so many bytes more: where there is less, for the most that may come.
-fn make_room(text: &mut Vec<u8>, len: usize, most: usize) -> Result<(), AllocError>
-    requires { len ≤ most }
+// Asks for room for the most that may come, where there is less than for so many bytes. Where so much isn't to be had, the text takes memory
+// as bytes come.
+fn make_room(text: &mut Vec<u8>, len: usize, most: usize)
     ensures items { text.new.items ≡ text.old.items }
     ensures len { vec_len text.new ≡ vec_len text.old }
 {
     if text.capacity() - text.len() < len {
-        text.reserve_exact(most)?;
+        let _ = text.reserve_exact(most);
     }
-    Ok(())
 }
 
 // One read, whose bytes go to the end of the text.
@@ -77,9 +77,11 @@ pub fn read_job<F: Feed>(alloc: Global, reader: &mut F, max: usize) -> Result<Te
     for _ in 0..max + 1 {
         let most = max + 1 - text.len();
         let room = most.min(chunk.len());
-        make_room(&mut text, room, most)?;
+        make_room(&mut text, room, most);
         let count = read_some(reader, &mut chunk[..room], &mut text)?;
         if count == 0 {
+            // What isn't filled counts where a process may have only so much.
+            text.shrink_to_fit();
             return Ok(Text::of(text));
         }
         if text.len() > max {
