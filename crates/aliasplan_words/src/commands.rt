@@ -8,8 +8,8 @@ use crate::subcommand::Subcommand;
 use clap::Command;
 use std::alloc::{AllocError, Global};
 
-/// The version of the program, as the file VERSION has it, and the kit that it is proved with.
-const VERSION: &str = "0.1.0, proved with rattle-kit-13f";
+/// The version of the program, as the file VERSION has it, and the logic that it is proved in, as `rt version` names it: several kits have it.
+const VERSION: &str = "0.1.0, proved in logic dac8208d650f15bf of the Rattle kit";
 
 /// The commands, and the arguments of each, in the order in which the help has them.
 const SUBCOMMANDS: [Subcommand; 5] = [
