@@ -47,7 +47,7 @@ fn build_tables(alloc: Global, file: AliasFile) -> Result<Tables, AllocError>
         names: Seq::of(Vec::new(alloc)),
         faults: Seq::of(Vec::new(alloc)),
     };
-    Tables::build(alloc, local, file, Vec::new(alloc), mailboxes)
+    Tables::build(alloc, 0, local, file, Vec::new(alloc), mailboxes)
 }
 
 // The numbers of all nodes, which are a closed part.

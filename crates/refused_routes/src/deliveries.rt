@@ -3,10 +3,12 @@ use growth_answers::inputs::{address, is_address};
 use growth_answers::{Answer, Teller, Unready, call, judged, lent};
 use relay_delivery::{BatchLimits, Delivery, Routed, transactions};
 use relay_routes::{Hosts, Route, Transport};
+use relay_sharing::Crew;
 use relay_text::{Address, Text};
 use relay_wire::Planned;
 use std::alloc::{AllocError, Global};
 use std::slice;
+use std::thread::Threads;
 
 const LIMITS: BatchLimits = BatchLimits {
     lmtp: 1,
@@ -82,11 +84,15 @@ fn message(alloc: Global) -> Result<Vec<Address>, Unready> {
 }
 
 /// What is answered where the first two recipients and the third, who is the first again, go by the route.
-fn answered(alloc: Global, message: &[Address], route: &Route) -> Result<Answer, Unready> {
+fn answered<R: Threads + Sync>(
+    crew: &Crew<'_, R>,
+    message: &[Address],
+    route: &Route,
+) -> Result<Answer, Unready> {
     let [sender, first, last] = message else {
         return Err(Unready::Wrong);
     };
-    let deliveries = Vec::from_array(alloc, STOPS)?;
+    let deliveries = Vec::from_array(crew.alloc, STOPS)?;
     let routes = slice::from_ref(route);
     let to_first = Routed {
         route: 0,
@@ -98,23 +104,30 @@ fn answered(alloc: Global, message: &[Address], route: &Route) -> Result<Answer,
     };
     let recipients = [to_last, to_first, to_last];
     let senders = [Some(sender), None];
-    match transactions(alloc, &senders, routes, &recipients, deliveries, LIMITS) {
+    match transactions(crew, &senders, routes, &recipients, deliveries, LIMITS) {
         Ok(planned) => Ok(judged(planned, |planned| are_planned(planned, first, last))),
         Err(_) => Ok(Answer::Refused),
     }
 }
 
-fn answered_by_route(alloc: Global, message: &[Address]) -> Result<Answer, Unready> {
-    let route = route(alloc)?;
-    lent(route, |route| answered(alloc, message, route))
+fn answered_by_route<R: Threads + Sync>(
+    crew: &Crew<'_, R>,
+    message: &[Address],
+) -> Result<Answer, Unready> {
+    let route = route(crew.alloc)?;
+    lent(route, |route| answered(crew, message, route))
 }
 
-fn makes_transactions(alloc: Global) -> Result<Answer, Unready> {
-    let message = message(alloc)?;
-    lent(message, |message| answered_by_route(alloc, message))
+fn makes_transactions<R: Threads + Sync>(crew: &Crew<'_, R>) -> Result<Answer, Unready> {
+    let message = message(crew.alloc)?;
+    lent(message, |message| answered_by_route(crew, message))
 }
 
-pub(crate) fn tell<R: Print + AllocGlobal>(teller: &mut Teller<'_, R>) {
-    let alloc = teller.rt.alloc();
-    call!(teller, "transactions", makes_transactions(alloc));
+pub(crate) fn tell<R: Print + AllocGlobal + Threads + Sync>(teller: &mut Teller<'_, R>) {
+    let crew = Crew {
+        rt: teller.rt,
+        alloc: teller.rt.alloc(),
+        workers: 2,
+    };
+    call!(teller, "transactions", makes_transactions(&crew));
 }

@@ -12,6 +12,7 @@ mod sought;
 use growth_answers::{DONE, Teller};
 use std::env;
 use std::process::ExitCode;
+use std::thread::Threads;
 
 fn main(rt: HostRuntime) -> ExitCode {
     let Ok(words) = env::args(&rt) else {
@@ -23,7 +24,7 @@ fn main(rt: HostRuntime) -> ExitCode {
 }
 
 /// The status after the one call of this name, or after all calls.
-fn told<R: Print + AllocGlobal>(rt: &R, asked: Option<&str>) -> u8 {
+fn told<R: Print + AllocGlobal + Threads + Sync>(rt: &R, asked: Option<&str>) -> u8 {
     let mut teller = Teller::new(rt, asked);
     routes::tell(&mut teller);
     route_finders::tell(&mut teller);

@@ -89,7 +89,7 @@ pub(crate) fn tables(alloc: Global, expand: bool, aliases: &[u8]) -> Result<Tabl
         aliases,
         mailboxes,
     } = sources_of(alloc, expand, aliases)?;
-    let tables = Tables::build(alloc, local, aliases, Vec::new(alloc), mailboxes)?;
+    let tables = Tables::build(alloc, 0, local, aliases, Vec::new(alloc), mailboxes)?;
     Ok(tables)
 }
 

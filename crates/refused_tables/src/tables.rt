@@ -40,7 +40,7 @@ fn builds_tables(alloc: Global) -> Result<Answer, Unready> {
         aliases,
         mailboxes,
     } = sources_of(alloc, false, OWNED)?;
-    let tables = Tables::build(alloc, local, aliases, includes, mailboxes);
+    let tables = Tables::build(alloc, 0, local, aliases, includes, mailboxes);
     Ok(made(tables, are_tables))
 }
 

@@ -22,7 +22,7 @@ some_line b bs = at (eqb b 10) (raw_lines bs) where
   at false [] h = cc
   at false (l ∷ lines) h = cc
 
-onto_first-append : (b : ℕ) (lines more : List (List ℕ)) → (lines ≡ [] → ⊥) → onto_first b (lines ++ more) ≡ onto_first b lines ++ more
+pub onto_first-append : (b : ℕ) (lines more : List (List ℕ)) → (lines ≡ [] → ⊥) → onto_first b (lines ++ more) ≡ onto_first b lines ++ more
 onto_first-append b [] more some = absurd (some refl)
 onto_first-append b (l ∷ lines) more some = refl
 

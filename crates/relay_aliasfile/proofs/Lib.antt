@@ -7,6 +7,7 @@ pub mod AddressItems
 pub mod ItemForms
 pub mod OpenTexts
 pub mod ItemLists
+pub mod CutLists
 pub mod NameRepeats
 pub mod TwinFacts
 pub mod FirstByTwins

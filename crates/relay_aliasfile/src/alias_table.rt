@@ -9,7 +9,7 @@ use crate::entry::Entry;
 use crate::fault::{FaultKind, LineFault, add_fault};
 use crate::heading::{Heading, heading_in};
 use crate::items::Items;
-use crate::lists::read_list;
+use crate::list_readers::ListReader;
 use relay_text::Seq;
 use std::alloc::{AllocError, Global};
 
@@ -50,12 +50,14 @@ impl<'a> AliasTable<'a> {
     }
 
     /// Adds the entry of a logical line, or what is wrong with it. The list of a repeat isn't read.
-    pub(crate) fn add_line(
+    pub(crate) fn add_line<L: ListReader>(
         &mut self,
+        lists: &L,
         alloc: Global,
         number: usize,
         text: &[u8],
     ) -> Result<(), AllocError>
+        requires { L.may_share }
         ensures entries { OnOk result (self.new.entries.items ≡ self.old.entries.items ++ new_entries (next_repeat self.old.repeats.now) number (heading_of text.now)) }
         ensures repeats { OnOk result (self.new.repeats.now ≡ repeats_behind (heading_of text.now) self.old.repeats.now) }
         ensures faults { OnOk result (self.new.faults.items ≡ self.old.faults.items ++ new_faults (next_repeat self.old.repeats.now) number (heading_of text.now)) }
@@ -67,7 +69,7 @@ impl<'a> AliasTable<'a> {
             drop(heading.name);
             return add_fault(number, FaultKind::Duplicate, &mut self.faults);
         }
-        self.add_entry(alloc, number, heading)
+        self.add_entry(lists, alloc, number, heading)
     }
 
     /// Whether the next name is a repeat.
@@ -85,18 +87,20 @@ impl<'a> AliasTable<'a> {
     }
 
     /// Adds an entry whose name is new. Where its list has no item, good or bad, it stays with no items.
-    fn add_entry(
+    fn add_entry<L: ListReader>(
         &mut self,
+        lists: &L,
         alloc: Global,
         line: usize,
         heading: Heading<'_>,
     ) -> Result<(), AllocError>
+        requires { L.may_share }
         ensures entries { OnOk result (self.new.entries.items ≡ self.old.entries.items ++ new_entry line (heading_value heading.entry) ∷ []) }
         ensures repeats { OnOk result (self.new.repeats ≡ self.old.repeats) }
         ensures faults { OnOk result (self.new.faults.items ≡ self.old.faults.items ++ list_faults line heading.entry.list.now) }
     {
         let mut items = Items::new(alloc);
-        let Ok(()) = read_list(alloc, line, heading.list, &mut items, &mut self.faults) else {
+        let Ok(()) = lists.read(alloc, line, heading.list, &mut items, &mut self.faults) else {
             drop(items);
             drop(heading.name);
             return Err(AllocError);

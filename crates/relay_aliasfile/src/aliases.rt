@@ -5,7 +5,8 @@
 //! there stand, while they are made, only the faults and the parts of one joined line: all lines with their headings and the places of
 //! their names would take some 140 bytes a line. An administrator's file seldom repeats a name, so it's mostly read once.
 //!
-//! Several threads each read a part of a long file, from one logical line to another. The second reading is one thread's.
+//! Several threads each read a part of a long file, from one logical line to another, and a part of a long list, from one item to another.
+//! The second reading is one thread's.
 ghost use Rattle.std.specs.Prelude.{◌≡◌, ◌<◌, ◌+◌, ◌-◌, ◌^◌, ◌++◌, [], length, map, IfOk, OnOk};
 ghost use Rattle.std.specs.Result.{result_ok};
 ghost use Rattle.std.specs.Thread.{IsSync};
@@ -19,6 +20,7 @@ use crate::distinct::distinct_texts;
 use crate::entry::Entry;
 use crate::fault::LineFault;
 use crate::halves::{halves, line_count};
+use crate::list_readers::{ListReader, OneReader, Readers};
 use crate::paths::add_paths;
 use crate::repeats::repeats_of;
 use relay_text::{LogicalLines, Seq, Text};
@@ -44,7 +46,7 @@ pub struct AliasFile {
 pub fn parse_aliases(alloc: Global, bytes: &[u8]) -> Result<AliasFile, AllocError>
     ensures { IfOk result (λ file. file ≡ alias_file_of bytes.now) }
 {
-    let file = read_file(alloc, 0, bytes, &[])?;
+    let file = read_file(&OneReader, alloc, 0, bytes, &[])?;
     with_duplicates(alloc, bytes, file)
 }
 
@@ -72,55 +74,61 @@ fn with_duplicates(alloc: Global, bytes: &[u8], file: AliasFile) -> Result<Alias
         return Ok(file);
     }
     drop(file);
-    read_file(alloc, 0, bytes, &repeats)
+    read_file(&OneReader, alloc, 0, bytes, &repeats)
 }
 
 /// The alias file of which the names are repeats that the list says are, one after another; a name past its end is none. So many lines
 /// of the file stand before the text.
-fn read_file(
+fn read_file<L: ListReader>(
+    lists: &L,
     alloc: Global,
     passed: usize,
     bytes: &[u8],
     repeats: &[bool],
 ) -> Result<AliasFile, AllocError>
-    requires { passed + length bytes.now < 2 ^ 64 }
+    requires share { L.may_share }
+    requires numbers { passed + length bytes.now < 2 ^ 64 }
     ensures { IfOk result (λ file. file ≡ file_behind passed repeats.now bytes.now) }
 {
     let mut table = AliasTable::new(alloc, repeats);
-    add_text(alloc, passed, bytes, &mut table)?;
+    add_text(lists, alloc, passed, bytes, &mut table)?;
     Ok(table.into_file())
 }
 
 /// Adds the lines of a text, where so many lines of the file stand before it.
-fn add_text(
+fn add_text<L: ListReader>(
+    lists: &L,
     alloc: Global,
     passed: usize,
     bytes: &[u8],
     table: &mut AliasTable<'_>,
 ) -> Result<(), AllocError>
-    requires { passed + length bytes.now < 2 ^ 64 }
+    requires share { L.may_share }
+    requires numbers { passed + length bytes.now < 2 ^ 64 }
     ensures entries { OnOk result (table.new.entries.items ≡ table.old.entries.items ++ (file_behind passed table.old.repeats.now bytes.now).entries) }
     ensures faults { OnOk result (table.new.faults.items ≡ table.old.faults.items ++ (file_behind passed table.old.repeats.now bytes.now).faults) }
 {
     let mut lines = LogicalLines::new(alloc, bytes)?;
     table.add_orphans(passed, lines.orphans())?;
-    add_lines(alloc, passed, &mut lines, table)
+    add_lines(lists, alloc, passed, &mut lines, table)
 }
 
 /// Adds the logical lines that are left, where so many lines of the file stand before their text.
-fn add_lines(
+fn add_lines<L: ListReader>(
+    lists: &L,
     alloc: Global,
     passed: usize,
     lines: &mut LogicalLines<'_>,
     table: &mut AliasTable<'_>,
 ) -> Result<(), AllocError>
-    requires { AreUpTo (2 ^ 64 - 1 - passed) lines.old.lines }
+    requires share { L.may_share }
+    requires numbers { AreUpTo (2 ^ 64 - 1 - passed) lines.old.lines }
     ensures entries { OnOk result (table.new.entries.items ≡ table.old.entries.items ++ added_by new_entries table.old.repeats.now (map (moved passed) lines.old.lines)) }
     ensures faults { OnOk result (table.new.faults.items ≡ table.old.faults.items ++ added_by new_faults table.old.repeats.now (map (moved passed) lines.old.lines)) }
 {
     let mut joined = Vec::new(alloc);
     while let Some(line) = lines.next_line(&mut joined)? {
-        table.add_line(alloc, passed + line.number, line.text)?;
+        table.add_line(lists, alloc, passed + line.number, line.text)?;
     }
     Ok(())
 }
@@ -137,7 +145,7 @@ fn read_file_by<R: Threads + Sync>(
     ensures { IfOk result (λ file. file ≡ file_behind passed [] bytes.now) }
 {
     let Some((front, back)) = halves(workers, bytes) else {
-        return read_file(alloc, passed, bytes, &[]);
+        return read_file(&Readers { rt, workers }, alloc, passed, bytes, &[]);
     };
     let behind = passed + line_count(front);
     let share = workers / 2;

@@ -1,15 +1,27 @@
 //! Where a file's text is cut in two, for two threads to read.
-ghost use Rattle.std.specs.Prelude.{◌≡◌, ◌≤◌, ◌+◌, ◌++◌, true, length, IfSome};
+ghost use Rattle.std.specs.Prelude.{◌≡◌, ◌≤◌, ◌+◌, ◌*◌, ◌++◌, true, length, IfSome};
 ghost use Rattle.relay_text.specs.Lines.{raw_lines};
 ghost use Rattle.relay_aliasfile.specs.Halves.{EndsWithLine, BeginsLogicalLine};
 
-use memchr::memchr_iter;
+use memchr::{memchr, memchr_iter};
 
 // A half has about so many bytes at least: starting a thread takes as long as reading some kilobytes, a small part of this.
-const LEAST_HALF: usize = 65_536;
+pub(crate) const LEAST_HALF: usize = 65_536;
 
-/// Both parts of a text for so many threads, cut at the first place from its middle on where a line begins that is kept and continues
-/// no other (aliases(5)). `None` where one thread is to read it: there is no second one, the text is short, or it has no such place.
+// So many lines at most are looked at for a place. Where more stand between two places, they are mostly the list of one entry. It is long,
+// so several threads read it anyway.
+const MOST_LINES: usize = 65_536;
+
+/// Whether a text has bytes enough for two of so many threads.
+pub(crate) fn is_long(workers: usize, text: &[u8]) -> bool
+    ensures workers { result ≡ true → 2 ≤ workers }
+    ensures len { result ≡ true → 2 * LEAST_HALF ≤ length text.now }
+{
+    workers >= 2 && text.len() / 2 >= LEAST_HALF
+}
+
+/// Both parts of a text for so many threads, cut at the first place behind its middle where a line begins that is kept and continues
+/// no other (aliases(5)). `None` where one thread is to read it: there is no second one, the text is short, or no such place is near.
 pub(crate) fn halves(workers: usize, bytes: &[u8]) -> Option<(&[u8], &[u8])>
     ensures workers { IfSome result (λ parts. 2 ≤ workers) }
     ensures bytes { IfSome result (λ parts. bytes.now ≡ parts.0.now ++ parts.1.now) }
@@ -17,26 +29,19 @@ pub(crate) fn halves(workers: usize, bytes: &[u8]) -> Option<(&[u8], &[u8])>
     ensures front { IfSome result (λ parts. EndsWithLine parts.0.now) }
     ensures back { IfSome result (λ parts. BeginsLogicalLine parts.1.now) }
 {
-    if workers < 2 || bytes.len() / 2 < LEAST_HALF {
+    if !is_long(workers, bytes) {
         return None;
     }
-    for place in bytes.len() / 2..bytes.len() {
+    let mut place = bytes.len() / 2;
+    for _ in 0..MOST_LINES {
+        let feed = place + memchr(b'\n', &bytes[place..])?;
+        place = feed + 1;
         let (front, back) = bytes.split_at(place);
-        if ends_with_line(front) && begins_logical_line(back) {
+        if begins_logical_line(back) {
             return Some((front, back));
         }
     }
     None
-}
-
-/// Whether a text ends with a line's LF.
-fn ends_with_line(text: &[u8]) -> bool
-    ensures { result ≡ true → EndsWithLine text.now }
-{
-    match text.last() {
-        Some(byte) => *byte == b'\n',
-        None => false,
-    }
 }
 
 /// Whether a text begins with a line that is kept and continues no other.

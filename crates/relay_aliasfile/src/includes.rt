@@ -42,7 +42,7 @@ pub fn parse_include(alloc: Global, bytes: &[u8]) -> Result<IncludeFile, AllocEr
 }
 
 /// Reads the items of a line. A bad item is a fault at the line, and doesn't touch the others.
-fn read_line_items(
+pub(crate) fn read_line_items(
     alloc: Global,
     line: usize,
     list: &[u8],

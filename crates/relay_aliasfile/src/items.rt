@@ -38,6 +38,15 @@ impl Items {
         }
     }
 
+    /// These items, without copying them where there is more than one.
+    pub(crate) fn of(items: Vec<Item>) -> Items
+        ensures { result ≡ items.items }
+    {
+        Items {
+            items: SmallVec::from_vec(items),
+        }
+    }
+
     /// Puts an item at the end. `Err` where memory runs out; the items are then as they were.
     pub fn push(&mut self, item: Item) -> Result<(), AllocError>
         ensures ok { OnOk result (self.new ≡ self.old ++ item ∷ []) }

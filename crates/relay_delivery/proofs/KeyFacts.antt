@@ -5,20 +5,13 @@ use Rattle.std.proofs.lemmas.Bool.{cases_lt}
 use Rattle.std.proofs.lemmas.List.{get_or_push, get_or_append_left, length_push, map_more, map-append, take_more, take_all}
 use Rattle.std.proofs.lemmas.List.Elements.{All-push}
 use Rattle.relay_delivery.specs.declared.sort_key.SortKey.{SortKey}
-use Rattle.relay_delivery.specs.Ranks.{KeyParts, key_parts, AreKeysOf}
+use Rattle.relay_delivery.specs.Ranks.{KeyParts, key_parts, AreKeysOf, AreKeysSoFar}
 
 pub parts_are : (k : SortKey) (g : ℕ) (t : List ℕ) → k.group ≡ g → k.text.now ≡ t → key_parts k ≡ record { group = g; text = t }
 parts_are k g t e f = cc
 
 module _ {X : Type 0} (key_of : X → KeyParts) (P : X → Type 0) (values : List X) where
-  -- the keys of the first of these values, all valid
-  pub record AreSoFar (keys : List SortKey) (i : ℕ) : Type 0 where
-    pub keys_are : AreKeysOf (map key_of (take i values)) keys
-    pub count : length keys ≡ i
-    pub few : i ≤ 2 ^ 32
-    pub valid : All P (take i values)
-
-  pub so_far_none : AreSoFar [] 0
+  pub so_far_none : AreKeysSoFar key_of P values [] 0
   so_far_none = record {
     keys_are = record { parts_are = refl; numbered = λ k d inside. absurd (omega arith) };
     count = refl;
@@ -26,7 +19,7 @@ module _ {X : Type 0} (key_of : X → KeyParts) (P : X → Type 0) (values : Lis
     valid = λ k d inside. absurd (omega arith);
   }
 
-  pub so_far_more : (keys : List SortKey) (i : ℕ) (k : SortKey) (x : X) → AreSoFar keys i → i < length values → x ≡ get_or values i x → key_parts k ≡ key_of x → k.number ≡ i → i < 2 ^ 32 → P x → AreSoFar (keys ++ k ∷ []) (i + 1)
+  pub so_far_more : (keys : List SortKey) (i : ℕ) (k : SortKey) (x : X) → AreKeysSoFar key_of P values keys i → i < length values → x ≡ get_or values i x → key_parts k ≡ key_of x → k.number ≡ i → i < 2 ^ 32 → P x → AreKeysSoFar key_of P values (keys ++ k ∷ []) (i + 1)
   so_far_more keys i k x s inside is parts number small good = record {
     keys_are = record {
       parts_are = map-append key_parts keys (k ∷ []) ∙ ap (λ ps. ps ++ key_parts k ∷ []) s.keys_are.parts_are
@@ -41,7 +34,7 @@ module _ {X : Type 0} (key_of : X → KeyParts) (P : X → Type 0) (values : Lis
     valid = subst (λ xs. All P xs) (sym (take_more values i x inside)) (All-push P (take i values) (get_or values i x) s.valid (subst P is good));
   }
 
-  pub so_far_all : (keys : List SortKey) (i : ℕ) → AreSoFar keys i → length values ≤ i → AreKeysOf (map key_of values) keys × (length keys ≤ 2 ^ 32) × All P values
+  pub so_far_all : (keys : List SortKey) (i : ℕ) → AreKeysSoFar key_of P values keys i → length values ≤ i → AreKeysOf (map key_of values) keys × (length keys ≤ 2 ^ 32) × All P values
   so_far_all keys i s past =
       let whole : take i values ≡ values = take_all i values past in (
         subst (λ xs. AreKeysOf (map key_of xs) keys) whole s.keys_are,

@@ -21,3 +21,5 @@ pub mod Turns
 pub mod Written
 pub mod PathFacts
 pub mod MarkFacts
+pub mod RoomFacts
+pub mod ShareFacts

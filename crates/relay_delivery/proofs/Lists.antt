@@ -1,5 +1,5 @@
 -- Lists: their elements, their parts, and a counterpart for each element.
-use Rattle.std.proofs.Common.{◌≡◌, ◌⊎◌, ℕ, ◌*◌, ◌<◌, List, [], ◌∷◌, ◌++◌, length, get_or, map, take, drop, refl, sym, ap, ◌∙◌, subst, arith, suc, inl, inr}
+use Rattle.std.proofs.Common.{◌≡◌, ◌⊎◌, ℕ, ◌*◌, ◌<◌, List, [], ◌∷◌, ◌++◌, length, get_or, map, take, drop, refl, sym, ap, ◌∙◌, subst, arith, zero, suc, inl, inr}
 use Rattle.std.specs.List.{All, Contains, flat_map, range_with_len}
 use Rattle.std.proofs.lemmas.List.{length-map, take-map, drop-map, map-append}
 use Rattle.std.proofs.lemmas.List.Elements.{All-head, All-tail, Contains-append_cases, Contains-push_cases}
@@ -34,6 +34,15 @@ map_agree f g [] h = refl
 map_agree f g (x ∷ xs) h =
     ap (λ y. y ∷ map f xs) (All-head (λ z. f z ≡ g z) x xs h)
     ∙ ap (λ ys. g x ∷ ys) (map_agree f g xs (All-tail (λ z. f z ≡ g z) x xs h))
+
+-- two lists whose elements give the same, each at its place
+pub same_maps : {X Y Z : Type 0} (f : X → Z) (g : Y → Z) (xs : List X) (ys : List Y) → length ys ≡ length xs → ((k : ℕ) (x : X) (y : Y) → k < length xs → g (get_or ys k y) ≡ f (get_or xs k x)) → map g ys ≡ map f xs
+same_maps f g [] [] long each = refl
+same_maps f g [] (y ∷ ys) long each = absurd (omega (arith, long))
+same_maps f g (x ∷ xs) [] long each = absurd (omega (arith, long))
+same_maps f g (x ∷ xs) (y ∷ ys) long each =
+    ap (λ z. z ∷ map g ys) (each zero x y (omega arith))
+    ∙ ap (λ zs. f x ∷ zs) (same_maps f g xs ys (omega (arith, long)) (λ k d e inside. each (suc k) d e (omega (arith, inside))))
 
 pub map_twice : {X Y Z : Type 0} (f : Y → Z) (g : X → Y) (xs : List X) → map f (map g xs) ≡ map (λ x. f (g x)) xs
 map_twice f g [] = refl

@@ -1,9 +1,9 @@
 -- What deliveries under their keys are cut into, and what is written of the cuts.
-use Rattle.std.proofs.Common.{◌≡◌, ℕ, ◌+◌, ◌<◌, ◌≤◌, List, [], ◌∷◌, ◌++◌, length, get_or, map, take, sym, ap, ◌∙◌, subst, arith, slice_index}
+use Rattle.std.proofs.Common.{◌≡◌, ℕ, ◌<◌, ◌≤◌, List, length, get_or, map, sym, ap, ◌∙◌, subst, arith, slice_index}
 use Rattle.std.specs.Prelude.{option_copied}
 use Rattle.std.specs.Borrow.{Bor}
 use Rattle.std.specs.List.{All, Contains}
-use Rattle.std.proofs.lemmas.List.{length-map, get_or-map, map_more}
+use Rattle.std.proofs.lemmas.List.{length-map, get_or-map}
 use Rattle.std.proofs.lemmas.List.Elements.{All-weaker, Contains-get_or}
 use Rattle.relay_routes.specs.declared.route.Route.{Route}
 use Rattle.relay_routes.specs.declared.transport.Transport.{Transport}
@@ -17,26 +17,14 @@ use Rattle.relay_wire.specs.declared.plan.Planned.{Planned}
 use Rattle.relay_delivery.specs.declared.group_numbers.GroupNumbers.{GroupNumbers}
 use Rattle.relay_delivery.specs.declared.limits.BatchLimits.{BatchLimits}
 use Rattle.relay_delivery.specs.declared.placing.Placing.{Placing}
-use Rattle.relay_delivery.specs.Cuts.{route_at, planned_of, IsOrdered}
+use Rattle.relay_delivery.specs.Cuts.{route_at, transaction_of, IsWithin, IsOrdered}
 use Rattle.relay_delivery.specs.Groups.{limit_at, AreTransactionsOf, IsSoundFor, IsFewest}
-use Rattle.relay_delivery.specs.Keyed.{numbers_at, AreKeyed}
+use Rattle.relay_delivery.specs.Keyed.{AreKeyed}
 use Rattle.relay_delivery.specs.Placings.{senders_of, routes_of, IsPlacedBy}
 use Rattle.relay_delivery.proofs.KeyedSteps.{no_numbers}
 use Rattle.relay_delivery.proofs.Grouping.{placed_at, placed_ascends, within, key_small, transactions_are}
 use Rattle.relay_delivery.proofs.SoundLists.{transactions_sound}
 use Rattle.relay_delivery.proofs.Counterparts.{none_shorter}
-
--- one more transaction
-pub written_more : (f : Transaction → Planned) (read : List Transaction) (i : ℕ) (t : Transaction) → i < length read → t ≡ get_or read i t → (made more : List Planned) (p : Planned) → made ≡ map f (take i read) → p ≡ f t → more ≡ made ++ p ∷ [] → more ≡ map f (take (i + 1) read)
-written_more f read i t b is made more p so_far p_is more_is =
-    more_is
-    ∙ ap (λ ps. ps ++ p ∷ []) so_far
-    ∙ ap (λ q. map f (take i read) ++ q ∷ []) (p_is ∙ ap f is)
-    ∙ sym (map_more f read i t b)
-
--- the transaction of this turn is one of those that are gone over
-pub in_turn : (all read made : List Transaction) → read ≡ made → made ≡ all → (i : ℕ) (t : Transaction) → i < length read → t ≡ get_or read i t → Contains all t
-in_turn all read made read_is made_is i t b is = subst (λ ts. Contains ts t) (read_is ∙ made_is) (subst (λ u. Contains read u) (sym is) (Contains-get_or read i t b))
 
 -- the limits of groups, of routes and groups as they are read
 abbrev pub limits_of : BatchLimits → List (Bor Route) → List GroupNumbers → List ℕ
@@ -63,17 +51,25 @@ module _ (p : Placing) (order : IsOrdered p) (groups : List GroupNumbers) (place
   placed_rises = placed_ascends (senders_of p.senders.items) (routes_of p.routes.items) p.recipients.items p.deliveries.items order groups placed keyed in_lists
 
   -- a batch is of a group, and of recipients
-  pub batch_key : (limits : List ℕ) (t : Transaction) → Contains (cuts.batches_of limits placed) t → t.key < length groups
+  batch_key : (limits : List ℕ) (t : Transaction) → Contains (cuts.batches_of limits placed) t → t.key < length groups
   batch_key limits t c =
       let k = Contains-from_flat_map (batches_at limits placed) (keys_of placed) t c in
       let of_key : List ℕ → Transaction = λ part. record { key = k.0; items = part } in
       let part = Contains-from_map of_key (parts_of (slice_index limits k.0) (items_at placed k.0)) t k.2 in
       subst (λ (u : Transaction). u.key < length groups) part.2 (key_small (senders_of p.senders.items) (routes_of p.routes.items) p.recipients.items p.deliveries.items order groups placed keyed in_lists k.0 k.1)
 
-  pub batch_items : (limits : List ℕ) (ts : List Transaction) → sound.IsSoundFor limits placed ts → (t : Transaction) → Contains ts t → All (λ n. n < length p.recipients.items) t.items
+  batch_items : (limits : List ℕ) (ts : List Transaction) → sound.IsSoundFor limits placed ts → (t : Transaction) → Contains ts t → All (λ n. n < length p.recipients.items) t.items
   batch_items limits ts is t c i d b =
       let item = get_or t.items i d in
       (within (senders_of p.senders.items) (routes_of p.routes.items) p.recipients.items p.deliveries.items order groups placed keyed in_lists (placed_at t.key item) (is.placed t item c (Contains-get_or t.items i d b))).1
+
+  pub cuts_within : (limits : List ℕ) (made : List Transaction) → made ≡ cuts.batches_of limits placed → sound.IsSoundFor limits placed made → All (IsWithin p groups) made
+  cuts_within limits made made_is is i d b =
+      let t = get_or made i d in
+      let here : Contains made (get_or made i d) = Contains-get_or made i d b in
+      let inside = batch_key limits t (subst (λ ts. Contains ts (get_or made i d)) made_is here) in
+      let of_group = range t.key no_numbers inside in
+      record { key = inside; sender = of_group.0; route = of_group.1; recipients = batch_items limits made is t here }
 
   module _ (limits : BatchLimits) (pos : (t : Transport) → 0 < limit_at limits t) (by_key : List ℕ)
       (by_key_is : by_key ≡ limits_of limits p.routes.items groups) where
@@ -87,10 +83,10 @@ module _ (p : Placing) (order : IsOrdered p) (groups : List GroupNumbers) (place
 
     -- the transactions that stand for the batches
     module _ (ts : List Planned) (made : List Transaction) (made_is : made ≡ cuts.batches_of by_key placed)
-        (ts_are : ts ≡ map (λ (t : Transaction). planned_of (senders_of p.senders.items) (routes_of p.routes.items) p.recipients.items (numbers_at groups t.key) t.items) made) where
+        (ts_are : ts ≡ map (transaction_of p groups) made) where
       pub written_are : AreTransactionsOf (limit_at limits) (IsPlacedBy (senders_of p.senders.items) (routes_of p.routes.items) p.recipients.items p.deliveries.items) ts
       written_are =
-          let write : Transaction → Planned = λ t. planned_of (senders_of p.senders.items) (routes_of p.routes.items) p.recipients.items (numbers_at groups t.key) t.items in
+          let write : Transaction → Planned = transaction_of p groups in
           transactions_are (senders_of p.senders.items) (routes_of p.routes.items) p.recipients.items p.deliveries.items order groups placed keyed in_lists (limit_at limits) by_key by_key_is ts (ts_are ∙ ap (map write) made_is)
 
       pub written_sound : IsSoundFor (limit_at limits) (IsPlacedBy (senders_of p.senders.items) (routes_of p.routes.items) p.recipients.items p.deliveries.items) ts
@@ -98,5 +94,5 @@ module _ (p : Placing) (order : IsOrdered p) (groups : List GroupNumbers) (place
 
       pub written_fewest : ((other : List Transaction) → sound.IsSoundFor by_key placed other → length made ≤ length other) → IsFewest (limit_at limits) (IsPlacedBy (senders_of p.senders.items) (routes_of p.routes.items) p.recipients.items p.deliveries.items) ts
       written_fewest fewest =
-          let write : Transaction → Planned = λ t. planned_of (senders_of p.senders.items) (routes_of p.routes.items) p.recipients.items (numbers_at groups t.key) t.items in
+          let write : Transaction → Planned = transaction_of p groups in
           none_shorter (senders_of p.senders.items) (routes_of p.routes.items) p.recipients.items p.deliveries.items order groups placed keyed in_lists (limit_at limits) by_key by_key_is ts made (ap length ts_are ∙ length-map made write) fewest

@@ -8,3 +8,4 @@ pub mod Keyed
 pub mod Marks
 pub mod Counted
 pub mod Cuts
+pub mod Rooms

@@ -10,9 +10,11 @@ use crate::limits::BatchLimits;
 use crate::placing::Placing;
 use crate::routed::Routed;
 use relay_routes::Route;
+use relay_sharing::Crew;
 use relay_text::Address;
 use relay_wire::Planned;
-use std::alloc::{AllocError, Global};
+use std::alloc::AllocError;
+use std::thread::Threads;
 
 /// The transactions that bring each recipient its message under its senders and by its route, and nobody else, in the order of the
 /// senders' written paths, the names of the transports, the nexthops and the recipients' written paths: the recipients of one sender,
@@ -20,8 +22,8 @@ use std::alloc::{AllocError, Global};
 /// No sound list of transactions is shorter. An address that stands twice among the recipients of a route goes out once.
 ///
 /// `Err` where memory runs out, or where there are more senders, routes or recipients than numbers of 32 bits.
-pub fn transactions<'a>(
-    alloc: Global,
+pub fn transactions<'a, R: Threads + Sync>(
+    crew: &Crew<'_, R>,
     senders: &[Option<&'a Address>],
     routes: &'a [Route],
     recipients: &[Routed<'a>],
@@ -36,6 +38,6 @@ pub fn transactions<'a>(
     ensures sound { IfOk result (λ ts. IsSoundFor (limit_at limits) (IsPlacedBy (senders_of senders.now) routes.now recipients.now deliveries.items) ts.items) }
     ensures fewest { IfOk result (λ ts. IsFewest (limit_at limits) (IsPlacedBy (senders_of senders.now) routes.now recipients.now deliveries.items) ts.items) }
 {
-    let placing = Placing::of(alloc, senders, routes, recipients, deliveries)?;
-    cut(alloc, &placing, limits)
+    let placing = Placing::of(crew, senders, routes, recipients, deliveries)?;
+    cut(crew, &placing, limits)
 }

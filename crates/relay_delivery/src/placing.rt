@@ -12,8 +12,10 @@ use crate::route_order::RouteOrder;
 use crate::routed::Routed;
 use crate::sender_order::SenderOrder;
 use relay_routes::Route;
+use relay_sharing::Crew;
 use relay_text::Address;
-use std::alloc::{AllocError, Global};
+use std::alloc::AllocError;
+use std::thread::Threads;
 
 /// What goes out, numbered in the order of a plan.
 #[derive(Drop)]
@@ -30,8 +32,8 @@ pub struct Placing<'a> {
 
 impl<'a> Placing<'a> {
     /// `Err` where memory runs out, or where there are more senders, routes or recipients than numbers.
-    pub(crate) fn of(
-        alloc: Global,
+    pub(crate) fn of<R: Threads + Sync>(
+        crew: &Crew<'_, R>,
         senders: &[Option<&'a Address>],
         routes: &'a [Route],
         recipients: &[Routed<'a>],
@@ -43,10 +45,11 @@ impl<'a> Placing<'a> {
         ensures placed { IfOk result (λ placing. (s : Sender) (r : parts.Route) (a : AddressParts) → IsPlacedBy (senders_of placing.senders.items) (routes_of placing.routes.items) placing.recipients.items placing.deliveries.items s r a ↔ IsPlacedBy (senders_of senders.now) routes.now recipients.now deliveries.items s r a) }
         ensures few { IfOk result (λ placing. length placing.deliveries.items ≤ length deliveries.items) }
     {
-        let sender_order = SenderOrder::of(alloc, senders)?;
-        let route_order = RouteOrder::of(alloc, routes)?;
+        let alloc = crew.alloc;
+        let sender_order = SenderOrder::of(crew, senders)?;
+        let route_order = RouteOrder::of(crew, routes)?;
         let moved = with_routes(alloc, recipients, route_order.place_of.as_slice())?;
-        let recipient_order = RecipientOrder::of(alloc, moved.as_slice())?;
+        let recipient_order = RecipientOrder::of(crew, moved.as_slice())?;
         let deliveries = deliveries_in_order(
             alloc,
             deliveries,

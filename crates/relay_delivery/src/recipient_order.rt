@@ -1,17 +1,23 @@
 //! Recipients in the order of their routes and their written paths.
-ghost use Rattle.std.specs.Prelude.{◌≡◌, ◌<◌, ◌≤◌, ◌^◌, length, map, min, All, IfOk, IsTrue};
+ghost use Rattle.std.specs.Prelude.{◌≡◌, ◌<◌, ◌≤◌, ◌^◌, length, map, take, drop, min, vec_capacity, All, IfOk, IsTrue};
 ghost use Rattle.relay_text.specs.Addresses.{is_address};
-ghost use Rattle.relay_delivery.specs.Ranks.{AreKeysOf};
+ghost use Rattle.relay_delivery.specs.Ranks.{AreKeysOf, AreKeysSoFar};
 ghost use Rattle.relay_delivery.specs.Orders.{recipient_key, sender_of, moved_to, AreRecipientsInOrder};
-ghost use Rattle.relay_delivery.specs.WrittenPaths.{paths_of};
+ghost use Rattle.relay_delivery.specs.WrittenPaths.{paths_of, AreSharedPaths};
 
-use crate::picks::picked;
+use crate::picks::picked_by_crew;
 use crate::ranks::Ranks;
 use crate::routed::Routed;
+use crate::shared::threads_for;
 use crate::sort_key::SortKey;
 use crate::written_path::split_path;
+use relay_sharing::Crew;
 use relay_text::{one_spelling, path_len, write_path};
 use std::alloc::{AllocError, Global};
+use std::thread::{Threads, map_chunks};
+
+/// How many numbers of 32 bits there are.
+const NUMBERS: usize = 1 << 32;
 
 /// Recipients in order, each once, and where each of them stands there, by its old number.
 #[derive(Drop)]
@@ -61,43 +67,115 @@ fn recipient_paths(alloc: Global, recipients: &[Routed]) -> Result<Vec<u8>, Allo
     Ok(paths)
 }
 
-/// What recipients are sorted by, from their written paths.
+/// How many recipients have their paths written to one text: all, or the share of each thread where there are many.
+fn share_size<R>(crew: &Crew<'_, R>, recipients: usize) -> usize
+    ensures { 0 < result }
+{
+    recipients.div_ceil(threads_for(crew, recipients)).max(1)
+}
+
+/// The texts of all shares. `Err` where memory ran out for one.
+fn all_texts(
+    alloc: Global,
+    shares: Vec<Result<Vec<u8>, AllocError>>,
+) -> Result<Vec<Vec<u8>>, AllocError>
+    ensures { IfOk result (λ texts. map (λ text. Ok text) texts.items ≡ shares.items) }
+{
+    let mut texts = Vec::with_capacity(alloc, shares.len())?;
+    for share in shares {
+        texts.push(share?)?;
+    }
+    Ok(texts)
+}
+
+/// The written paths of so many recipients at a time, by a crew.
+fn shared_paths<R: Threads + Sync>(
+    crew: &Crew<'_, R>,
+    recipients: &[Routed],
+    size: usize,
+) -> Result<Vec<Vec<u8>>, AllocError>
+    requires { 0 < size }
+    ensures { IfOk result (λ texts. AreSharedPaths (map sender_of recipients.now) size texts.items) }
+{
+    let alloc = crew.alloc;
+    let shares = map_chunks(
+        crew.rt,
+        alloc,
+        recipients,
+        size,
+        &|_start: usize, share: &[Routed]| -> Result<Vec<u8>, AllocError>
+            ensures { IfOk result (λ paths. paths.items ≡ paths_of (map sender_of share.now)) }
+        { recipient_paths(alloc, share) },
+    )?;
+    all_texts(alloc, shares)
+}
+
+/// Adds what recipients are sorted by: those from `start` up to `end`, from their written paths.
+fn add_keys<'t>(
+    recipients: &[Routed],
+    start: usize,
+    end: usize,
+    paths: &'t [u8],
+    keys: &mut Vec<SortKey<'t>>,
+)
+    requires in_turn { start ≤ end }
+    requires range { end ≤ length recipients.now }
+    requires few { end ≤ 2 ^ 32 }
+    requires room { end ≤ vec_capacity keys.old }
+    requires paths { paths.now ≡ paths_of (drop start (take end (map sender_of recipients.now))) }
+    requires keys { AreKeysSoFar recipient_key (λ r. IsTrue (is_address r.address.now)) recipients.now keys.old.items start }
+    ensures room { vec_capacity keys.new ≡ vec_capacity keys.old }
+    ensures keys { AreKeysSoFar recipient_key (λ r. IsTrue (is_address r.address.now)) recipients.now keys.new.items end }
+{
+    let mut rest = paths;
+    for index in start..end {
+        let recipient = recipients[index];
+        let (path, behind) = split_path(rest, Some(recipient.address));
+        keys.push_reserved(SortKey::new(recipient.route, path, index as u32));
+        rest = behind;
+    }
+}
+
+/// What recipients are sorted by, from the written paths of so many of them at a time.
 fn recipient_keys<'t>(
     alloc: Global,
     recipients: &[Routed],
-    paths: &'t [u8],
+    size: usize,
+    texts: &'t [Vec<u8>],
 ) -> Result<Vec<SortKey<'t>>, AllocError>
-    requires paths { paths.now ≡ paths_of (map sender_of recipients.now) }
+    requires paths { AreSharedPaths (map sender_of recipients.now) size texts.now }
     ensures keys { IfOk result (λ keys. AreKeysOf (map recipient_key recipients.now) keys.items) }
     ensures few { IfOk result (λ keys. length keys.items ≤ 2 ^ 32) }
     ensures valid { IfOk result (λ keys. All (λ r. IsTrue (is_address r.address.now)) recipients.now) }
 {
+    if recipients.len() > NUMBERS {
+        return Err(AllocError);
+    }
     let mut keys = Vec::with_capacity(alloc, recipients.len())?;
-    let mut rest = paths;
-    for (index, recipient) in recipients.iter().enumerate() {
-        let Ok(number) = u32::try_from(index) else {
-            return Err(AllocError);
-        };
-        let (path, behind) = split_path(rest, Some(recipient.address));
-        keys.push_reserved(SortKey::new(recipient.route, path, number));
-        rest = behind;
+    let mut start = 0;
+    for text in texts {
+        let end = start + size.min(recipients.len() - start);
+        add_keys(recipients, start, end, text, &mut keys);
+        start = end;
     }
     Ok(keys)
 }
 
 impl<'a> RecipientOrder<'a> {
     /// `Err` where memory runs out, or where there are more recipients than numbers.
-    pub(crate) fn of(
-        alloc: Global,
+    pub(crate) fn of<R: Threads + Sync>(
+        crew: &Crew<'_, R>,
         recipients: &[Routed<'a>],
     ) -> Result<RecipientOrder<'a>, AllocError>
         ensures { IfOk result (λ order. AreRecipientsInOrder recipients.now order.recipients.items order.place_of.items) }
     {
         one_spelling();
-        let paths = recipient_paths(alloc, recipients)?;
-        let keys = recipient_keys(alloc, recipients, &paths)?;
-        let Ranks { order, place_of } = Ranks::of(alloc, keys)?;
-        let recipients = picked(alloc, recipients, order.as_slice())?;
+        let alloc = crew.alloc;
+        let size = share_size(crew, recipients.len());
+        let texts = shared_paths(crew, recipients, size)?;
+        let keys = recipient_keys(alloc, recipients, size, &texts)?;
+        let Ranks { order, place_of } = Ranks::of(crew, keys)?;
+        let recipients = picked_by_crew(crew, recipients, order.as_slice())?;
         Ok(RecipientOrder {
             recipients,
             place_of,

@@ -8,7 +8,9 @@ use crate::picks::picked;
 use crate::ranks::Ranks;
 use crate::sort_key::SortKey;
 use relay_routes::{Route, Transport};
+use relay_sharing::Crew;
 use std::alloc::{AllocError, Global};
+use std::thread::Threads;
 
 /// Routes in order, and where each of them stands there, by its old number.
 #[derive(Drop)]
@@ -53,11 +55,15 @@ fn all_routes<'a>(alloc: Global, routes: &'a [Route]) -> Result<Vec<&'a Route>, 
 
 impl<'a> RouteOrder<'a> {
     /// `Err` where memory runs out, or where there are more routes than numbers.
-    pub(crate) fn of(alloc: Global, routes: &'a [Route]) -> Result<RouteOrder<'a>, AllocError>
+    pub(crate) fn of<R: Threads + Sync>(
+        crew: &Crew<'_, R>,
+        routes: &'a [Route],
+    ) -> Result<RouteOrder<'a>, AllocError>
         requires { AreRoutesApart routes.now }
         ensures { IfOk result (λ order. AreRoutesInOrder routes.now (routes_of order.routes.items) order.place_of.items) }
     {
-        let Ranks { order, place_of } = Ranks::of(alloc, route_keys(alloc, routes)?)?;
+        let alloc = crew.alloc;
+        let Ranks { order, place_of } = Ranks::of(crew, route_keys(alloc, routes)?)?;
         let all = all_routes(alloc, routes)?;
         let routes = picked(alloc, all.as_slice(), order.as_slice())?;
         Ok(RouteOrder { routes, place_of })

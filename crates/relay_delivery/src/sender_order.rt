@@ -9,8 +9,10 @@ use crate::picks::picked;
 use crate::ranks::Ranks;
 use crate::sort_key::SortKey;
 use crate::written_path::split_path;
+use relay_sharing::Crew;
 use relay_text::{Address, one_spelling, write_path};
 use std::alloc::{AllocError, Global};
+use std::thread::Threads;
 
 /// Senders in order, and where each of them stands there, by its old number.
 #[derive(Drop)]
@@ -56,16 +58,17 @@ fn sender_keys<'t>(
 
 impl<'a> SenderOrder<'a> {
     /// `Err` where memory runs out, or where there are more senders than numbers.
-    pub(crate) fn of(
-        alloc: Global,
+    pub(crate) fn of<R: Threads + Sync>(
+        crew: &Crew<'_, R>,
         senders: &[Option<&'a Address>],
     ) -> Result<SenderOrder<'a>, AllocError>
         ensures { IfOk result (λ order. AreSendersInOrder (senders_of senders.now) (senders_of order.senders.items) order.place_of.items) }
     {
         one_spelling();
+        let alloc = crew.alloc;
         let paths = sender_paths(alloc, senders)?;
         let keys = sender_keys(alloc, senders, &paths)?;
-        let Ranks { order, place_of } = Ranks::of(alloc, keys)?;
+        let Ranks { order, place_of } = Ranks::of(crew, keys)?;
         let senders = picked(alloc, senders, order.as_slice())?;
         Ok(SenderOrder { senders, place_of })
     }

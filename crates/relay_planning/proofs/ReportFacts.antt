@@ -1,9 +1,20 @@
 -- Lines that are reported one part after another.
-use Rattle.std.proofs.Common.{ℕ, Bool, ◌||◌, List, ap, ◌∙◌}
-use Rattle.std.specs.Prelude.{Result, Ok, Err, OnOk}
+use Rattle.std.proofs.Common.{◌≡◌, ℕ, Bool, true, false, ◌||◌, List, refl, ap, ◌∙◌}
+use Rattle.std.specs.Prelude.{Result, Ok, Err, IsOk, OnOk}
+use Rattle.std.specs.List.{list_any}
+use Rattle.std.specs.Str.{bytes_eq}
 use Rattle.std.proofs.Math.Bool.{or_assoc}
 use Rattle.relay_text.specs.Bytes.{has_text}
+use Rattle.relay_aliasfile.specs.AliasFiles.{alias_file_of}
+use Rattle.relay_aliasfile.specs.MailboxFiles.{mailbox_file_of}
+use Rattle.relay_routes.specs.Transports.{transport_table_of}
+use Rattle.relay_routes.specs.Exchanges.{mx_table_of}
+use Rattle.relay_job.specs.declared.job.Job.{Job}
+use Rattle.relay_planning.specs.declared.job_file.JobFile.TheVariants.{Aliases, Mailboxes}
+use Rattle.relay_planning.specs.declared.parsed.Parsed.{Parsed}
 use Rattle.relay_planning.specs.Findings.{ReportsWhere}
+use Rattle.relay_planning.specs.Parsed.{AreParsed}
+use Rattle.relay_planning.specs.Texts.{file_line, has_include_line, is_file_line, is_route_line, is_later_line, has_fault_line}
 
 pub on_ok_given : {A E P : Type 0} (r : Result A E) → P → OnOk r P
 on_ok_given (Ok a) p = p
@@ -12,7 +23,26 @@ on_ok_given (Err e) p = tt
 pub reports_two : (old middle new : List (List ℕ)) (first second : List ℕ → Bool) → ReportsWhere old middle first → ReportsWhere middle new second → ReportsWhere old new (λ q. first q || second q)
 reports_two old middle new first second one two q = two q ∙ ap (λ b. b || second q) (one q) ∙ or_assoc (has_text old q) (first q) (second q)
 
-pub reports_three : (old after before new : List (List ℕ)) (first second third : List ℕ → Bool) → ReportsWhere old after first → ReportsWhere after before second → ReportsWhere before new third
-    → ReportsWhere old new (λ q. first q || (second q || third q))
-reports_three old after before new first second third one two three =
-    reports_two old after new first (λ q. second q || third q) one (reports_two after before new second third two three)
+-- the lines of the files of names, and then those of the others, are all
+pub reports_faults : (job : Job) (parsed : Parsed) (old middle new : List (List ℕ)) → AreParsed job parsed → ReportsWhere old middle (is_file_line parsed.aliases.faults parsed.mailboxes.faults)
+    → ReportsWhere middle new (is_later_line job) → ReportsWhere old new (has_fault_line job)
+reports_faults job parsed old middle new is one two q =
+    reports_two old middle new (is_file_line parsed.aliases.faults parsed.mailboxes.faults) (is_later_line job) one two q
+    ∙ ap (λ a. has_text old q || (is_file_line a.faults parsed.mailboxes.faults q || is_later_line job q)) is.aliases
+    ∙ ap (λ m. has_text old q || (is_file_line (alias_file_of job.aliases).faults m.faults q || is_later_line job q)) is.mailboxes
+    ∙ ap (λ b. has_text old q || b)
+    (regroup
+    (list_any (λ fault. bytes_eq q (file_line Aliases fault)) (alias_file_of job.aliases).faults)
+    (list_any (λ fault. bytes_eq q (file_line Mailboxes fault)) (mailbox_file_of job.mailboxes).faults)
+    (list_any (has_include_line q) job.includes)
+    (is_route_line (transport_table_of job.transport).faults (mx_table_of job.mx).faults q)) where
+      regroup : (a m i r : Bool) → ((a || m) || (i || r)) ≡ ((a || (m || i)) || r)
+      regroup true m i r = refl
+      regroup false true i r = refl
+      regroup false false i r = refl
+
+-- what follows from what held of an earlier result, where that had to be there
+pub on_ok_both : {A E B F P Q S : Type 0} (r : Result A E) (earlier : Result B F) → OnOk r (IsOk earlier) → OnOk earlier P → OnOk r Q → (P → Q → S) → OnOk r S
+on_ok_both (Ok a) (Ok b) there p q both = both p q
+on_ok_both (Ok a) (Err e) there p q both = cc
+on_ok_both (Err e) earlier there p q both = tt

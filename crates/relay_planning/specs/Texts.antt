@@ -55,6 +55,18 @@ is_route_line transports exchanges q =
     list_any (λ fault. bytes_eq q (table_line tables.Transport fault)) transports
     || list_any (λ fault. bytes_eq q (table_line tables.Mx fault)) exchanges
 
+-- one of the lines at fault of an alias file or a mailbox file
+abbrev pub is_file_line : List LineFault → List LineFault → List ℕ → Bool
+is_file_line aliases mailboxes q =
+    list_any (λ fault. bytes_eq q (file_line Aliases fault)) aliases
+    || list_any (λ fault. bytes_eq q (file_line Mailboxes fault)) mailboxes
+
+-- one of the lines at fault of a job's include files or its tables
+abbrev pub is_later_line : Job → List ℕ → Bool
+is_later_line job q =
+    list_any (has_include_line q) job.includes
+    || is_route_line (transport_table_of job.transport).faults (mx_table_of job.mx).faults q
+
 -- one of a job's lines at fault
 abbrev pub has_fault_line : Job → List ℕ → Bool
 has_fault_line job q =

@@ -19,10 +19,12 @@ use relay_destinations::Destinations;
 use relay_job::Settings;
 use relay_pairs::Reached;
 use relay_routes::Route;
+use relay_sharing::Crew;
 use relay_tables::Graph;
 use relay_text::Address;
 use relay_wire::{FindingLines, KeptFindings, Planned};
 use std::alloc::{AllocError, Global};
+use std::thread::Threads;
 
 /// How many recipients a transaction of each transport takes.
 fn limits_of(settings: &Settings) -> BatchLimits
@@ -49,8 +51,8 @@ fn senders_of<'a>(alloc: Global, graph: &'a Graph) -> Result<Vec<Option<&'a Addr
 }
 
 /// The transactions of these deliveries, which place what the job places.
-fn transactions_of<'a>(
-    alloc: Global,
+fn transactions_of<'a, R: Threads + Sync>(
+    crew: &Crew<'_, R>,
     job: &JobView<'_>,
     graph: &'a Graph,
     routes: &'a [Route],
@@ -65,9 +67,9 @@ fn transactions_of<'a>(
     ensures sound { IfOk result (λ transactions. IsSoundFor job.now transactions.items) }
     ensures fewest { IfOk result (λ transactions. IsFewest job.now transactions.items) }
 {
-    let senders = senders_of(alloc, graph)?;
+    let senders = senders_of(crew.alloc, graph)?;
     transactions(
-        alloc,
+        crew,
         senders.as_slice(),
         routes,
         recipients,
@@ -77,8 +79,8 @@ fn transactions_of<'a>(
 }
 
 /// The transactions of what the pairs lead to, by what finds routes, and a line for each address that has no route.
-fn outgoing_transactions<'a, K: KeptFindings>(
-    alloc: Global,
+fn outgoing_transactions<'a, R: Threads + Sync, K: KeptFindings>(
+    crew: &Crew<'_, R>,
     job: &JobView<'_>,
     destinations: &mut Destinations<'a>,
     graph: &'a Graph,
@@ -95,7 +97,7 @@ fn outgoing_transactions<'a, K: KeptFindings>(
     ensures fewest { IfOk result (λ transactions. IsFewest job.now transactions.items) }
     ensures lines { OnOk result (Reports lines.old lines.new (IsLineOf job.now routes)) }
 {
-    let outgoing = outgoing_of(alloc, job, graph, destinations, pairs, lines)?;
+    let outgoing = outgoing_of(crew.alloc, job, graph, destinations, pairs, lines)?;
     let Outgoing {
         recipients,
         deliveries,
@@ -105,7 +107,7 @@ fn outgoing_transactions<'a, K: KeptFindings>(
     // Its room is given back before the transactions need theirs.
     drop(known);
     transactions_of(
-        alloc,
+        crew,
         job,
         graph,
         destinations.routes(),
@@ -116,8 +118,8 @@ fn outgoing_transactions<'a, K: KeptFindings>(
 
 /// The transactions of all addresses that are reached, each once under each of its senders, and a line for each address that has no
 /// route.
-pub fn plan_addresses<'a, K: KeptFindings>(
-    alloc: Global,
+pub fn plan_addresses<'a, R: Threads + Sync, K: KeptFindings>(
+    crew: &Crew<'_, R>,
     job: &JobView<'_>,
     mut destinations: Destinations<'a>,
     graph: &'a Graph,
@@ -134,7 +136,7 @@ pub fn plan_addresses<'a, K: KeptFindings>(
     ensures fewest { IfOk result (λ transactions. IsFewest job.now transactions.items) }
     ensures lines { OnOk result (Reports lines.old lines.new (IsLineOf job.now routes)) }
 {
-    let transactions = outgoing_transactions(alloc, job, &mut destinations, graph, pairs, lines);
+    let transactions = outgoing_transactions(crew, job, &mut destinations, graph, pairs, lines);
     drop(destinations);
     transactions
 }

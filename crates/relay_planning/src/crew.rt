@@ -31,4 +31,16 @@ impl<'a, G, R> Crew<'a, G, R> {
             gate: self.gate,
         }
     }
+
+    /// What work that several threads share is handed.
+    pub fn of_shares(&self) -> relay_sharing::Crew<'a, R>
+        ensures { result.workers ≡ self.now.options.workers }
+    {
+        let workers = self.options.workers;
+        relay_sharing::Crew {
+            rt: self.rt,
+            alloc: self.alloc,
+            workers,
+        }
+    }
 }

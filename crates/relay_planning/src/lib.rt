@@ -6,6 +6,7 @@
 #![tactic(auto)]
 
 mod addresses;
+mod ahead;
 mod both;
 mod crew;
 mod entries;

@@ -7,12 +7,12 @@ use relay_tables::Tables;
 pub struct Lookup {
     pub tables: Tables,
     pub router: Router,
-    /// A key for the hashes of domains and nexthops, in which all files and tables have a part. Who writes some of them doesn't know
+    /// A key for the hashes of names, domains and nexthops, in which all files and tables have a part. Who writes some of them doesn't know
     /// which names have one hash under it.
     pub key: u64,
 }
 
-ghost use Rattle.std.specs.Prelude.{◌≡◌, map, IfOk, OnOk};
+ghost use Rattle.std.specs.Prelude.{◌≡◌, map, IsOk, IfOk, OnOk};
 ghost use Rattle.relay_aliasfile.specs.AliasFiles.{alias_file_of};
 ghost use Rattle.relay_aliasfile.specs.MailboxFiles.{mailbox_file_of};
 ghost use Rattle.relay_routes.specs.Transports.{transport_table_of};
@@ -21,7 +21,7 @@ ghost use Rattle.relay_planning.specs.Delivery.{directory_of, entry_of_include, 
 ghost use Rattle.relay_planning.specs.Findings.{ReportsWhere};
 ghost use Rattle.relay_planning.specs.Parsed.{AreParsed};
 ghost use Rattle.relay_planning.specs.Readable.{IsReadable};
-ghost use Rattle.relay_planning.specs.Texts.{is_name_line, is_route_line, has_fault_line};
+ghost use Rattle.relay_planning.specs.Texts.{is_file_line, is_later_line, is_route_line, has_fault_line};
 
 use crate::both::{beside, both_of};
 use crate::crew::Crew;
@@ -29,7 +29,7 @@ use crate::job_file::JobFile;
 use crate::parsed::Parsed;
 use crate::routing::{push_copies, route_settings_of};
 use crate::table::Table;
-use crate::texts::{read_includes, report_file, report_table};
+use crate::texts::{read_includes, report_file, report_file_by, report_table};
 use relay_aliasfile::{AliasFile, MailboxFile};
 use relay_chains::hash_text;
 use relay_job::{Job, Settings};
@@ -67,25 +67,32 @@ fn local_of(alloc: Global, settings: &Settings) -> Result<Local, AllocError>
     })
 }
 
-/// The include files of a job. Adds the lines of the files of names that are at fault.
-fn report_names<K: KeptFindings>(
+/// Adds the lines of the alias file and the mailbox file that are at fault.
+fn report_files<K: KeptFindings>(
     alloc: Global,
-    job: &Job,
-    aliases: &AliasFile,
-    mailboxes: &MailboxFile,
+    parsed: &Parsed,
     lines: &mut FindingLines<K>,
-) -> Result<Vec<IncludeEntry>, AllocError>
-    ensures includes { IfOk result (λ includes. includes.items ≡ map entry_of_include job.now.includes) }
-    ensures lines { OnOk result (ReportsWhere lines.old lines.new (is_name_line aliases.now.faults mailboxes.now.faults job.now.includes)) }
+) -> Result<(), AllocError>
+    ensures { OnOk result (ReportsWhere lines.old lines.new (is_file_line parsed.now.aliases.faults parsed.now.mailboxes.faults)) }
 {
-    report_file(alloc, JobFile::Aliases, aliases.faults.as_slice(), lines)?;
-    report_file(
-        alloc,
-        JobFile::Mailboxes,
-        mailboxes.faults.as_slice(),
-        lines,
-    )?;
-    read_includes(alloc, job.includes.as_slice(), lines)
+    let aliases = parsed.aliases.faults.as_slice();
+    let mailboxes = parsed.mailboxes.faults.as_slice();
+    report_file(alloc, JobFile::Aliases, aliases, lines)?;
+    report_file(alloc, JobFile::Mailboxes, mailboxes, lines)
+}
+
+/// The same by a crew, which shares the work where there are many.
+fn report_files_by<R: Threads + Sync, K: KeptFindings + Send + Drop>(
+    crew: &relay_sharing::Crew<'_, R>,
+    parsed: &Parsed,
+    lines: &mut FindingLines<K>,
+) -> Result<(), AllocError>
+    ensures { OnOk result (ReportsWhere lines.old lines.new (is_file_line parsed.now.aliases.faults parsed.now.mailboxes.faults)) }
+{
+    let aliases = parsed.aliases.faults.as_slice();
+    let mailboxes = parsed.mailboxes.faults.as_slice();
+    report_file_by(crew, JobFile::Aliases, aliases, lines)?;
+    report_file_by(crew, JobFile::Mailboxes, mailboxes, lines)
 }
 
 /// Adds the lines of the tables that are at fault.
@@ -101,7 +108,7 @@ fn report_routes<K: KeptFindings>(
     report_table(alloc, Table::Mx, exchanges.faults(), lines)
 }
 
-/// The include files of a job. Adds the lines of all its files and tables that are at fault, of which the others are parsed.
+/// The include files of a job. Adds the lines of these and of its tables that are at fault, of which the tables are parsed.
 fn report_parsed<K: KeptFindings>(
     alloc: Global,
     job: &Job,
@@ -110,9 +117,9 @@ fn report_parsed<K: KeptFindings>(
 ) -> Result<Vec<IncludeEntry>, AllocError>
     requires parsed { AreParsed job.now parsed.now }
     ensures includes { IfOk result (λ includes. includes.items ≡ map entry_of_include job.now.includes) }
-    ensures lines { OnOk result (ReportsWhere lines.old lines.new (has_fault_line job.now)) }
+    ensures lines { OnOk result (ReportsWhere lines.old lines.new (is_later_line job.now)) }
 {
-    let includes = report_names(alloc, job, &parsed.aliases, &parsed.mailboxes, lines)?;
+    let includes = read_includes(alloc, job.includes.as_slice(), lines)?;
     report_routes(alloc, &parsed.transports, &parsed.exchanges, lines)?;
     Ok(includes)
 }
@@ -134,8 +141,8 @@ fn table_settings_of(alloc: Global, job: &Job) -> Result<TableSettings, AllocErr
     Ok(TableSettings { local, routes })
 }
 
-/// What a job says beside the parsed files and tables: its settings, and its include files. Adds the lines of all files and tables that
-/// are at fault.
+/// What a job says beside the parsed files and tables: its settings, and its include files. Adds the lines of these and of the tables
+/// that are at fault.
 fn read_others<K: KeptFindings>(
     alloc: Global,
     job: &Job,
@@ -146,7 +153,7 @@ fn read_others<K: KeptFindings>(
     ensures local { IfOk result (λ others. others.0.local ≡ local_of job.now.settings) }
     ensures routes { IfOk result (λ others. others.0.routes ≡ (routing_of job.now).settings) }
     ensures includes { IfOk result (λ others. others.1.items ≡ map entry_of_include job.now.includes) }
-    ensures lines { OnOk result (ReportsWhere lines.old lines.new (has_fault_line job.now)) }
+    ensures lines { OnOk result (ReportsWhere lines.old lines.new (is_later_line job.now)) }
 {
     let settings = table_settings_of(alloc, job)?;
     beside(settings, report_parsed(alloc, job, parsed, lines))
@@ -169,8 +176,7 @@ fn tables_of(
     ensures { IfOk result (λ tables. tables ≡ directory_of job.now) }
 {
     parsed_files();
-    let _ = job;
-    Tables::build(alloc, local, aliases, includes, mailboxes)
+    Tables::build(alloc, key_of(job), local, aliases, includes, mailboxes)
 }
 
 impl Lookup {
@@ -200,26 +206,31 @@ impl Lookup {
         let tables = tables_of(alloc, job, local, aliases, includes, mailboxes);
         let router = Router::new(alloc, routes, transports, exchanges);
         let (tables, router) = both_of(tables, router)?;
+        let key = tables.key();
         Ok(Lookup {
             tables,
             router,
-            key: key_of(job),
+            key,
         })
     }
 
-    /// What the files and tables of a job say, which are parsed. Adds the lines of those that are at fault. `Err` where memory runs out.
-    pub(crate) fn of<K: KeptFindings>(
+    /// What the files and tables of a job say, which are parsed. Adds the lines of those that are at fault, where those of the alias file
+    /// and the mailbox file were reported. `Err` where memory runs out.
+    fn of<K: KeptFindings>(
         alloc: Global,
         job: &Job,
         parsed: Parsed,
+        reported: Result<(), AllocError>,
         lines: &mut FindingLines<K>,
     ) -> Result<Lookup, AllocError>
         requires job { IsReadable job.now }
         requires parsed { AreParsed job.now parsed }
         ensures tables { IfOk result (λ lookup. lookup.tables ≡ directory_of job.now) }
         ensures router { IfOk result (λ lookup. lookup.router ≡ routing_of job.now) }
-        ensures lines { OnOk result (ReportsWhere lines.old lines.new (has_fault_line job.now)) }
+        ensures reported { OnOk result (IsOk reported) }
+        ensures lines { OnOk result (ReportsWhere lines.old lines.new (is_later_line job.now)) }
     {
+        let (parsed, _) = beside(parsed, reported)?;
         let others = read_others(alloc, job, &parsed, lines);
         let (parsed, (settings, includes)) = beside(parsed, others)?;
         Lookup::joined(alloc, job, parsed, settings, includes)
@@ -237,11 +248,12 @@ impl Lookup {
         ensures lines { OnOk result (ReportsWhere lines.old lines.new (has_fault_line job.now)) }
     {
         let parsed = Parsed::one_by_one(alloc, job)?;
-        Lookup::of(alloc, job, parsed, lines)
+        let reported = report_files(alloc, &parsed, lines);
+        Lookup::of(alloc, job, parsed, reported, lines)
     }
 
-    /// The same by a crew, several of which parse files and tables that are long.
-    pub fn read_by<G: Gate, R: Threads + Sync, K: KeptFindings>(
+    /// The same by a crew, which shares the work where files and tables are long, or many lines at fault.
+    pub fn read_by<G: Gate, R: Threads + Sync, K: KeptFindings + Send + Drop>(
         crew: &Crew<G, R>,
         job: &Job,
         lines: &mut FindingLines<K>,
@@ -252,6 +264,7 @@ impl Lookup {
         ensures lines { OnOk result (ReportsWhere lines.old lines.new (has_fault_line job.now)) }
     {
         let parsed = Parsed::by_workers(crew.rt, crew.alloc, crew.options.workers, job)?;
-        Lookup::of(crew.alloc, job, parsed, lines)
+        let reported = report_files_by(&crew.of_shares(), &parsed, lines);
+        Lookup::of(crew.alloc, job, parsed, reported, lines)
     }
 }

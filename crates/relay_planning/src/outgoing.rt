@@ -2,6 +2,7 @@
 //!
 //! A node is looked at once, where the first pair with it comes: its route is found, or the line is added that tells why there is none.
 //! From then on a number says what is known of it, so each further sender of an address costs no look-up.
+use crate::ahead::Ahead;
 use relay_delivery::{Delivery, Routed};
 use relay_tables::Graph;
 
@@ -24,6 +25,7 @@ pub struct Outgoing<'a> {
     pub deliveries: Vec<Delivery>,
     /// By node.
     pub known: Vec<Known>,
+    ahead: Ahead,
 }
 
 ghost use Rattle.std.specs.Prelude.{◌≡◌, ◌≢◌, ◌⊎◌, ◌↔◌, ◌<◌, ◌≤◌, ◌+◌, ◌-◌, ◌^◌, ◌++◌, ◌∷◌, ℕ, List, [], Some, Ok, Err, All, Result, length, slice_get, IfOk, OnOk};
@@ -133,19 +135,20 @@ pub fn recipient_of<'a, K: KeptFindings>(
 }
 
 impl<'a> Outgoing<'a> {
-    /// Nothing yet, with room for so many deliveries.
-    fn new(alloc: Global, graph: &'a Graph, deliveries: usize) -> Result<Outgoing<'a>, AllocError>
+    /// Nothing yet, with room for a delivery of each of so many pairs.
+    fn new(alloc: Global, graph: &'a Graph, pairs: usize) -> Result<Outgoing<'a>, AllocError>
         ensures graph { IfOk result (λ outgoing. outgoing.graph.now ≡ graph.now) }
         ensures empty { IfOk result (λ outgoing. (outgoing.recipients.items ≡ []) × (outgoing.deliveries.items ≡ [])) }
         ensures unseen { IfOk result (λ outgoing. (length outgoing.known.items ≡ length graph.now.nodes) × All (λ k. k ≡ Known.Unseen) outgoing.known.items) }
     {
-        let deliveries = Vec::with_capacity(alloc, deliveries)?;
+        let deliveries = Vec::with_capacity(alloc, pairs)?;
         let known = vec![in alloc; Known::Unseen; graph.nodes()]?;
         Ok(Outgoing {
             graph,
             recipients: Vec::new(alloc),
             deliveries,
             known,
+            ahead: Ahead::of(pairs),
         })
     }
 
@@ -272,7 +275,8 @@ impl<'a> Outgoing<'a> {
         ensures lines { OnOk result (Reports lines.old lines.new (HaveLine job.now self.old.graph.now pairs.now)) }
         ensures few { OnOk result (length self.new.deliveries.items ≤ length pairs.now) }
     {
-        for pair in pairs {
+        for (index, pair) in pairs.iter().enumerate() {
+            self.ahead.read(self.graph, destinations, pairs, index);
             self.add(alloc, job, *pair, destinations, lines)?;
         }
         Ok(())

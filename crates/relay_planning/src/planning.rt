@@ -167,8 +167,8 @@ pub(crate) fn plan_with(
 }
 
 /// The plan of transactions, with the lines that are gathered.
-fn plan_of(
-    alloc: Global,
+fn plan_of<R: Threads + Sync>(
+    crew: &relay_sharing::Crew<'_, R>,
     job: &JobView<'_>,
     transactions: Vec<Planned>,
     lines: FindingLines,
@@ -180,8 +180,8 @@ fn plan_of(
     ensures sound { IfOk result (λ plan. IsSoundFor job.now plan.transactions) }
     ensures fewest { IfOk result (λ plan. IsFewest job.now plan.transactions) }
 {
-    match lines.into_seq(alloc) {
-        Ok(findings) => plan_with(alloc, job, transactions, findings),
+    match lines.into_seq_by(crew) {
+        Ok(findings) => plan_with(crew.alloc, job, transactions, findings),
         Err(error) => {
             drop(transactions);
             Err(error)
@@ -190,8 +190,8 @@ fn plan_of(
 }
 
 /// The plan of a job that reaches these pairs, with the lines that are given and those of addresses without a route.
-fn plan_pairs<'a>(
-    alloc: Global,
+fn plan_pairs<'a, R: Threads + Sync>(
+    crew: &relay_sharing::Crew<'_, R>,
     job: &JobView<'_>,
     destinations: Destinations<'a>,
     graph: &'a Graph,
@@ -208,8 +208,8 @@ fn plan_pairs<'a>(
     ensures fewest { IfOk result (λ plan. IsFewest job.now plan.transactions) }
 {
     let mut lines = lines;
-    let transactions = plan_addresses(alloc, job, destinations, graph, pairs, &mut lines)?;
-    plan_of(alloc, job, transactions, lines)
+    let transactions = plan_addresses(crew, job, destinations, graph, pairs, &mut lines)?;
+    plan_of(crew, job, transactions, lines)
 }
 
 /// The plan of a job that reaches these pairs, with the lines that are given and those of what is reached. `Err` where memory runs out.
@@ -236,7 +236,7 @@ pub fn plan_reached<G: Gate, R: Threads + Sync>(
     report_reached(crew, job, &lookup.tables, graph, pairs, &mut lines)?;
     let via = &job.settings().mailbox_transport;
     let destinations = Destinations::new(alloc, &lookup.router, via, lookup.key)?;
-    plan_pairs(alloc, job, destinations, graph, pairs, lines)
+    plan_pairs(&crew.of_shares(), job, destinations, graph, pairs, lines)
 }
 
 /// The pairs that a job reaches on this graph of it. Adds the lines of what is reached.
@@ -296,8 +296,8 @@ fn graph_reported<G: Gate, R: Threads + Sync, K: KeptFindings>(
 
 /// The transactions of a job that reaches these pairs of its graph, by what routes its addresses. Adds the lines of addresses without a
 /// route. The key is that of the hashes of domains and nexthops.
-fn transactions_by_router<K: KeptFindings>(
-    alloc: Global,
+fn transactions_by_router<R: Threads + Sync, K: KeptFindings>(
+    crew: &relay_sharing::Crew<'_, R>,
     job: &JobView<'_>,
     router: &Router,
     key: u64,
@@ -314,9 +314,9 @@ fn transactions_by_router<K: KeptFindings>(
     ensures lines { OnOk result (Reports lines.old lines.new (IsLineOf job.now routes)) }
 {
     let via = &job.settings().mailbox_transport;
-    let destinations = Destinations::new(alloc, router, via, key)?;
+    let destinations = Destinations::new(crew.alloc, router, via, key)?;
     plan_addresses(
-        alloc,
+        crew,
         job,
         destinations,
         &reached.graph,
@@ -351,7 +351,7 @@ fn transactions_by_tables<G: Gate, R: Threads + Sync, K: KeptFindings>(
         Ok(reached) => reached,
         Err(fault) => return Err(fault),
     };
-    let transactions = transactions_by_router(crew.alloc, job, router, key, &reached, lines);
+    let transactions = transactions_by_router(&crew.of_shares(), job, router, key, &reached, lines);
     drop(reached);
     match transactions {
         Ok(transactions) => Ok(transactions),
@@ -405,7 +405,7 @@ pub fn plan_by_lookup<G: Gate, R: Threads + Sync>(
 {
     let mut lines = lines;
     let transactions = transactions_by_lookup(crew, job, lookup, &mut lines)?;
-    match plan_of(crew.alloc, job, transactions, lines) {
+    match plan_of(&crew.of_shares(), job, transactions, lines) {
         Ok(plan) => Ok(plan),
         Err(_) => Err(RunFault::Memory),
     }

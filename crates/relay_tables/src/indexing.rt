@@ -27,9 +27,10 @@ pub(crate) struct Indices {
 }
 
 impl Indices {
-    /// Those of the tables of these settings and lists. `Err` where memory runs out.
+    /// Those of the tables of these settings and lists, by hashes under a key. `Err` where memory runs out.
     pub(crate) fn of(
         alloc: Global,
+        key: u64,
         local: &Local,
         entries: &[Entry],
         includes: &[IncludeEntry],
@@ -41,7 +42,6 @@ impl Indices {
     {
         let domains = TextSet::of(alloc, local.domains.as_slice())?;
         let marks = marks_of(local);
-        let key = key_of(entries, mailboxes);
         let aliases = links_of(alloc, key, entries)?;
         let includes = links_of(alloc, key, includes)?;
         let mailboxes = links_of(alloc, key, mailboxes)?;
@@ -56,25 +56,6 @@ impl Indices {
             owners,
         })
     }
-}
-
-// An odd number whose bits look drawn at random, another than that of the hashes themselves: the first 64 bits of the root of 3.
-const MULTIPLIER: u64 = 0xbb67_ae85_84ca_a73b;
-
-// A key for the hashes of a job, from the names that are looked up in it.
-//
-// Texts that have one hash under this key have as many as any others under the key of a job with other names.
-fn key_of(entries: &[Entry], mailboxes: &[Text]) -> u64 {
-    key_after(key_after(MULTIPLIER, entries), mailboxes)
-}
-
-// What a key becomes by the names of these.
-fn key_after<T: Named>(start: u64, items: &[T]) -> u64 {
-    let mut key = start;
-    for item in items {
-        key = key.wrapping_mul(MULTIPLIER) ^ u64::from(hash_text(key, item.name_bytes()));
-    }
-    key
 }
 
 // The hashes of the names of these.

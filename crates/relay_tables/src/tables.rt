@@ -57,13 +57,15 @@ ghost use Rattle.relay_tables.specs.Targets.{resolved, is_local_address, include
 ghost use Rattle.relay_tables.specs.Senders.{owner_number, owner_entry, sender_by};
 
 impl Tables {
-    /// The tables of these settings and files.
+    /// The tables of these settings and files, and a key for the hashes of names: who writes some of the names must not know it. No answer
+    /// depends on it.
     ///
     /// Names of entries, bare items and the origin are what relay_aliasfile's parsers and relay_text give: local parts of at most 64
     /// octets as they are written, and a folded domain of at most 189 octets. Of entries with one name the first holds. `Err` where
     /// memory runs out.
     pub fn build(
         alloc: Global,
+        key: u64,
         local: Local,
         aliases: AliasFile,
         includes: Vec<IncludeEntry>,
@@ -81,7 +83,7 @@ impl Tables {
     {
         let entries = aliases.entries.as_slice();
         let names = mailboxes.names.as_slice();
-        let indices = Indices::of(alloc, &local, entries, &includes, names)?;
+        let indices = Indices::of(alloc, key, &local, entries, &includes, names)?;
         let AliasFile { entries, faults: _ } = aliases;
         let MailboxFile { names, faults: _ } = mailboxes;
         Ok(Tables {
@@ -228,8 +230,8 @@ impl Tables {
         }
     }
 
-    // The key of the hashes, which depends on all names of entries and mailboxes.
-    pub(crate) fn key(&self) -> u64 {
+    /// The key of the hashes of names, as it was given.
+    pub fn key(&self) -> u64 {
         self.indices.key
     }
 

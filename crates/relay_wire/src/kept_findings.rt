@@ -6,16 +6,25 @@ ghost use Rattle.std.specs.Prelude.{◌≡◌, ⊤, List, ℕ, [], ◌∷◌, �
 ghost use Rattle.relay_wire.specs.Findings.{finding_text_of};
 
 use crate::finding::Finding;
-use std::alloc::AllocError;
+use std::alloc::{AllocError, Global};
 
 /// Takes the findings whose lines are gathered.
 pub trait KeptFindings {
     /// Whether what is kept is what has these lines, in their order, where anything is kept.
     ghost have: { Self → List (List ℕ) → Type 0 };
 
+    /// Nothing, which takes no memory.
+    fn nothing(alloc: Global) -> Self
+        ensures { have result [] };
+
     /// Takes one more finding. `Err` where memory runs out; what is kept then has the same lines.
     fn keep(&mut self, finding: Finding) -> Result<(), AllocError>
         ensures ok { OnOk result ((lines : List (List ℕ)) → have self.old lines → have self.new (lines ++ finding_text_of finding ∷ [])) }
+        ensures err { OnErr result ((lines : List (List ℕ)) → have self.old lines → have self.new lines) };
+
+    /// Takes what another one keeps, behind what is kept. `Err` where memory runs out; what is kept then has the same lines.
+    fn keep_all(&mut self, other: Self) -> Result<(), AllocError>
+        ensures ok { OnOk result ((lines more : List (List ℕ)) → have self.old lines → have other more → have self.new (lines ++ more)) }
         ensures err { OnErr result ((lines : List (List ℕ)) → have self.old lines → have self.new lines) };
 }
 
@@ -31,6 +40,14 @@ impl KeptFindings for LinesAlone {
         drop(finding);
         Ok(())
     }
+
+    fn nothing(_: Global) -> LinesAlone {
+        LinesAlone
+    }
+
+    fn keep_all(&mut self, _: LinesAlone) -> Result<(), AllocError> {
+        Ok(())
+    }
 }
 
 impl KeptFindings for Vec<Finding> {
@@ -39,5 +56,13 @@ impl KeptFindings for Vec<Finding> {
     fn keep(&mut self, finding: Finding) -> Result<(), AllocError> {
         self.push(finding)?;
         Ok(())
+    }
+
+    fn nothing(alloc: Global) -> Vec<Finding> {
+        Vec::new(alloc)
+    }
+
+    fn keep_all(&mut self, mut other: Vec<Finding>) -> Result<(), AllocError> {
+        self.append(&mut other)
     }
 }

@@ -9,6 +9,7 @@ mod found;
 mod found_line;
 mod front;
 mod fronted_line;
+mod fronted_lines;
 pub mod hostname;
 mod kept_findings;
 mod lengths;

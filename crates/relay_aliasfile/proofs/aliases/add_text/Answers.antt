@@ -7,13 +7,13 @@ use Rattle.relay_aliasfile.proofs.HalvedEntries.{up_to-orphans, up_to-logical_li
 use Rattle.relay_aliasfile.proofs.aliases.add_text.Goals as goal
 
 pub add_orphans-requires : goal.add_orphans-requires
-add_orphans-requires c =
+add_orphans-requires g c =
     let most = length c.args.bytes.now in
     let these : c.orphans.result.now ≡ (logical_lines_of c.args.bytes.now).orphans = c.orphans.ensures ∙ ap (λ (lines : Lines). lines.orphans) c.in_ok-lines.ensures in
     let low = subst (λ (numbers : List ℕ). All (λ n. n ≤ most) numbers) (sym these) (up_to-orphans c.args.bytes.now) in
-    λ k d within. omega (arith, low k d within, c.requires)
+    λ k d within. omega (arith, low k d within, c.requires.numbers)
 
-pub add_lines-requires : goal.add_lines-requires
-add_lines-requires c =
+pub add_lines-requires-clause-numbers : goal.add_lines-requires-clause-numbers
+add_lines-requires-clause-numbers g c =
     let most = length c.args.bytes.now in
-    up_to-more most (2 ^ 64 - 1 - c.args.passed) c.in_ok-lines.lines.lines (omega (arith, c.requires)) (subst (λ (lines : Lines). AreUpTo (length c.args.bytes.now) lines.lines) (sym c.in_ok-lines.ensures) (up_to-logical_lines c.args.bytes.now))
+    up_to-more most (2 ^ 64 - 1 - c.args.passed) c.in_ok-lines.lines.lines (omega (arith, c.requires.numbers)) (subst (λ (lines : Lines). AreUpTo (length c.args.bytes.now) lines.lines) (sym c.in_ok-lines.ensures) (up_to-logical_lines c.args.bytes.now))

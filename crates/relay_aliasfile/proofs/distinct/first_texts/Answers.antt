@@ -1,5 +1,5 @@
 use Rattle.std.proofs.Common.{◌≡◌, ℕ, ◌<◌, ◌≤◌, List, [], length, get_or, arith, sym, ap, ◌∙◌}
-use Rattle.std.proofs.lemmas.List.{length-map, length_push, get_or-map, take_all}
+use Rattle.std.proofs.lemmas.List.{length_push, get_or-map, take_all}
 use Rattle.std.proofs.lemmas.Iterator.Adapters.{YieldsList-from_vec}
 use Rattle.std.proofs.lemmas.Iterator.Consumers.{YieldsList-turn, YieldsList-end}
 use Rattle.relay_text.specs.FirstPlaces.{first_place}

@@ -7,7 +7,7 @@ use Rattle.relay_delivery.proofs.SamePlaced.{sound_over, fewest_over}
 use Rattle.relay_delivery.proofs.delivering.transactions.Goals as goal
 
 pub returns-clause-sound : goal.returns-clause-sound
-returns-clause-sound c =
+returns-clause-sound g c =
     let limit = limit_at c.args.limits in
     let p = c.in_ok-placing.placing in
     let placed_in_order = IsPlacedBy (senders_of p.senders.items) (routes_of p.routes.items) p.recipients.items p.deliveries.items in
@@ -16,7 +16,7 @@ returns-clause-sound c =
     (λ ts h. sound_over limit placed_in_order placed c.in_ok-placing.ensures.placed ts.items h) c.cut.ensures.sound
 
 pub returns-clause-fewest : goal.returns-clause-fewest
-returns-clause-fewest c =
+returns-clause-fewest g c =
     let limit = limit_at c.args.limits in
     let p = c.in_ok-placing.placing in
     let placed_in_order = IsPlacedBy (senders_of p.senders.items) (routes_of p.routes.items) p.recipients.items p.deliveries.items in

@@ -1,7 +1,7 @@
 use Rattle.std.proofs.Common.{◌≡◌, ◌<◌, ◌∙◌, length, get_or, map, sym, ap, arith}
 use Rattle.std.proofs.lemmas.List.{length-map, get_or-map}
 use Rattle.relay_delivery.specs.Orders.{sender_of}
-use Rattle.relay_delivery.proofs.PathFacts.{paths_more, paths_all}
+use Rattle.relay_delivery.proofs.PathFacts.{paths_more}
 use Rattle.relay_delivery.proofs.recipient_order.recipient_paths.Goals as goal
 
 pub loop-recipient-preserved : goal.loop-recipient-preserved

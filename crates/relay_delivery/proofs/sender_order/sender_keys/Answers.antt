@@ -2,9 +2,9 @@ use Rattle.std.proofs.Common.{◌≡◌, ◌+◌, ◌<◌, ◌^◌, ◌∙◌, l
 use Rattle.std.specs.Prelude.{option_copied}
 use Rattle.std.proofs.lemmas.List.{length-map, get_or-map}
 use Rattle.relay_delivery.specs.Placings.{senders_of, IsSender}
-use Rattle.relay_delivery.specs.Ranks.{key_parts}
+use Rattle.relay_delivery.specs.Ranks.{key_parts, AreKeysSoFar}
 use Rattle.relay_delivery.specs.Orders.{sender_key}
-use Rattle.relay_delivery.proofs.KeyFacts.{AreSoFar, parts_are, so_far_more}
+use Rattle.relay_delivery.proofs.KeyFacts.{parts_are, so_far_more}
 use Rattle.relay_delivery.proofs.PathFacts.{paths_begin, paths_behind}
 use Rattle.relay_delivery.proofs.SenderFacts.{sender_key_of}
 use Rattle.relay_delivery.proofs.sender_order.sender_keys.Goals as goal
@@ -38,7 +38,7 @@ loop-index-preserved c =
     let small : i < 2 ^ 32 = omega arith in
     let number : k.number ≡ i = c.new.ensures.number ∙ omega arith in
     record {
-      keys = subst (λ ks. AreSoFar sender_key IsSender senders ks (i + 1)) (sym c.push_reserved.ensures.items)
+      keys = subst (λ ks. AreKeysSoFar sender_key IsSender senders ks (i + 1)) (sym c.push_reserved.ensures.items)
           (so_far_more sender_key IsSender senders keys i k x c.loop-index.invariant.keys inside is parts number small c.split_path.ensures.valid);
       left = paths_behind senders i x inside is c.loop-index.rest.now c.split_path.result.1.now c.loop-index.invariant.left c.split_path.ensures.behind;
       room = omega (arith, c.loop-index.invariant.room, before, c.push_reserved.ensures.len, c.push_reserved.ensures.capacity);

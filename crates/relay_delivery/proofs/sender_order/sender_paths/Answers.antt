@@ -2,7 +2,7 @@ use Rattle.std.proofs.Common.{◌≡◌, ◌<◌, ◌∙◌, length, get_or, sym
 use Rattle.std.specs.Prelude.{option_copied}
 use Rattle.std.proofs.lemmas.List.{length-map, get_or-map}
 use Rattle.relay_delivery.specs.Placings.{senders_of}
-use Rattle.relay_delivery.proofs.PathFacts.{paths_more, paths_all}
+use Rattle.relay_delivery.proofs.PathFacts.{paths_more}
 use Rattle.relay_delivery.proofs.sender_order.sender_paths.Goals as goal
 
 pub loop-sender-preserved : goal.loop-sender-preserved

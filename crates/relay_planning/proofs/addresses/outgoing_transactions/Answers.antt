@@ -8,17 +8,17 @@ use Rattle.relay_planning.proofs.RouteLines.{route_lines}
 use Rattle.relay_planning.proofs.addresses.outgoing_transactions.Goals as goal
 
 pub transactions_of-requires-clause-apart : goal.transactions_of-requires-clause-apart
-transactions_of-requires-clause-apart g c = rw (c.routes.ensures.routes) (record { senders_apart = c.requires.graph.senders_distinct; routes_apart = c.routes.ensures.apart })
+transactions_of-requires-clause-apart g c κs lives = rw (c.routes.ensures.routes) (record { senders_apart = c.requires.graph.senders_distinct; routes_apart = c.routes.ensures.apart })
 
 pub transactions_of-requires-clause-range : goal.transactions_of-requires-clause-range
-transactions_of-requires-clause-range g c =
+transactions_of-requires-clause-range g c κs lives =
     let outgoing = c.in_ok-outgoing.outgoing in
     let h = c.in_ok-outgoing.ensures in
     rw (c.routes.ensures.routes, c.as_slice.ensures.value)
     (in_range c.args.job.now c.args.graph.now c.args.pairs.now c.requires.pairs c.outgoing_of.new.destinations.routes outgoing.recipients.items outgoing.known.items c.outgoing_of.new.lines outgoing.deliveries.items h.known h.outgoing)
 
 pub transactions_of-requires-clause-placed : goal.transactions_of-requires-clause-placed
-transactions_of-requires-clause-placed g c = λ s r a.
+transactions_of-requires-clause-placed g c κs lives = λ s r a.
     let outgoing = c.in_ok-outgoing.outgoing in
     let h = c.in_ok-outgoing.ensures in
     rw (c.routes.ensures.routes, c.as_slice.ensures.value)

@@ -14,13 +14,13 @@ use Rattle.relay_planning.specs.Delivery.{IsPlaced}
 use Rattle.relay_planning.proofs.addresses.transactions_of.Goals as goal
 
 pub transactions-requires-clause-apart : goal.transactions-requires-clause-apart
-transactions-requires-clause-apart c = rw (c.as_slice.ensures.value, c.in_ok-senders.ensures) c.requires.apart
+transactions-requires-clause-apart g c κs lives = rw (c.as_slice.ensures.value, c.in_ok-senders.ensures) c.requires.apart
 
 pub transactions-requires-clause-range : goal.transactions-requires-clause-range
-transactions-requires-clause-range c = rw (c.as_slice.ensures.value, c.in_ok-senders.ensures) c.requires.range
+transactions-requires-clause-range g c κs lives = rw (c.as_slice.ensures.value, c.in_ok-senders.ensures) c.requires.range
 
 pub returns : goal.returns
-returns c =
+returns g c =
     let job = c.args.job.now in
     let limit : Transport → ℕ = limit_of job.settings in
     let P : Sender → Route → AddressParts → Type 0 = IsPlacedBy (senders_of c.as_slice.result.now) c.args.routes.now c.args.recipients.now c.args.deliveries.items in

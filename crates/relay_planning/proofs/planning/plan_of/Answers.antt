@@ -6,7 +6,7 @@ use Rattle.relay_planning.proofs.PlanFacts.{plan_over}
 use Rattle.relay_planning.proofs.planning.plan_of.Goals as goal
 
 pub returns-in-Ok-clause-plan : goal.returns-in-Ok-clause-plan
-returns-in-Ok-clause-plan c =
+returns-in-Ok-clause-plan g c =
     let job = c.args.job.now in
     let same = c.in-Ok.ensures.all in
     IfOk-weaker c.plan_with.result _ _

@@ -7,7 +7,7 @@ use Rattle.relay_planning.proofs.PlanFacts.{plan_over}
 use Rattle.relay_planning.proofs.planning.plan_pairs.Goals as goal
 
 pub returns-clause-plan : goal.returns-clause-plan
-returns-clause-plan c =
+returns-clause-plan g c =
     let job = c.args.job.now in
     let last = c.plan_addresses.new.lines in
     IfOk-weaker c.plan_of.result _ _

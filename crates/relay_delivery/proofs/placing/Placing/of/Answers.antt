@@ -8,14 +8,14 @@ use Rattle.relay_delivery.proofs.PlaceFacts.{places_within, in_order, placed}
 use Rattle.relay_delivery.proofs.placing.Placing.of.Goals as goal
 
 pub deliveries_in_order-requires-clause-places : goal.deliveries_in_order-requires-clause-places
-deliveries_in_order-requires-clause-places c =
+deliveries_in_order-requires-clause-places g c =
     let recipients = c.in_ok-recipient_order.recipient_order.recipients.items in
     let places = c.in_ok-recipient_order.recipient_order.place_of.items in
     let within : All (λ p. p < length recipients) places = places_within c.as_slice-2.result.now recipients places c.in_ok-recipient_order.ensures in
     subst (All (λ (p : ℕ). p < c.len.result)) (sym c.as_slice-4.ensures.value) (subst (λ (n : ℕ). All (λ (p : ℕ). p < n) places) (sym (c.len.ensures ∙ c.in_ok-recipient_order.recipient_order.recipients.ok.0)) within)
 
 pub returns-clause-order : goal.returns-clause-order
-returns-clause-order c =
+returns-clause-order g c =
     let senders = senders_of c.args.senders.now in
     let new_senders = senders_of c.in_ok-sender_order.sender_order.senders.items in
     let sender_places = c.in_ok-sender_order.sender_order.place_of.items in
@@ -37,7 +37,7 @@ returns-clause-order c =
     in_order senders new_senders routes new_routes recipients new_recipients deliveries new_deliveries sender_places route_places recipient_places c.in_ok-sender_order.ensures c.in_ok-route_order.ensures ordered same c.requires.range c.in_ok-deliveries.ensures.ascending
 
 pub returns-clause-placed : goal.returns-clause-placed
-returns-clause-placed c =
+returns-clause-placed g c =
     let senders = senders_of c.args.senders.now in
     let new_senders = senders_of c.in_ok-sender_order.sender_order.senders.items in
     let sender_places = c.in_ok-sender_order.sender_order.place_of.items in

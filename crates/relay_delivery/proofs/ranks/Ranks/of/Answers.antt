@@ -6,7 +6,7 @@ use Rattle.relay_delivery.proofs.ranks.Ranks.of.Goals as goal
 use Rattle.relay_delivery.proofs.ranks.Ranks.of.Goals.{then-index-eq0, then-index-eq0-via-then-index-eq0, then-index-eq0-via-else-index-eq0+then-ne, else-index-eq0+else-ne}
 
 pub index_mut-requires : goal.index_mut-requires
-index_mut-requires c =
+index_mut-requires g c =
     let keys = c.args.keys.items in
     let sorted = c.deref-key-items.result.now in
     let s : AreSorted keys sorted =
@@ -16,12 +16,12 @@ index_mut-requires c =
     omega (arith, within, c.loop-index.place_of.ok.0)
 
 pub overflow_cast-len : goal.overflow_cast-len
-overflow_cast-len c =
+overflow_cast-len g c =
     let same : length c.in_ok-keys.keys.items ≡ length c.args.keys.items = length_permutation c.args.keys.items c.in_ok-keys.keys.items c.in_ok-keys.ensures.permutation in
     search rules
 
 pub loop-index-preserved : goal.loop-index-preserved
-loop-index-preserved c =
+loop-index-preserved g c =
     let keys = c.args.keys.items in
     let sorted = c.deref-key-items.result.now in
     let order = c.loop-index.order.items in
@@ -69,7 +69,7 @@ loop-index-preserved c =
     }
 
 pub returns : goal.returns
-returns c =
+returns g c =
     let keys = c.args.keys.items in
     let sorted = c.deref-key-items.result.now in
     let s : AreSorted keys sorted =

@@ -8,7 +8,7 @@ use Rattle.relay_delivery.proofs.RecipientFacts.{below_by_key, one_recipient}
 use Rattle.relay_delivery.proofs.recipient_order.RecipientOrder.of.Goals as goal
 
 pub returns : goal.returns
-returns c =
+returns g c =
     let recipients = c.args.recipients.now in
     let order = c.in_ok-order.field-0.order.items in
     let place_of = c.in_ok-order.field-0.place_of.items in

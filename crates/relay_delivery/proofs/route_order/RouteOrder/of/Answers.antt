@@ -11,7 +11,7 @@ use Rattle.relay_delivery.proofs.RouteFacts.{route_key_cmp, one_route}
 use Rattle.relay_delivery.proofs.route_order.RouteOrder.of.Goals as goal
 
 pub returns : goal.returns
-returns c =
+returns g c =
     let routes = c.args.routes.now in
     let order = c.in_ok-order.field-0.order.items in
     let place_of = c.in_ok-order.field-0.place_of.items in

@@ -10,7 +10,7 @@ use Rattle.relay_delivery.proofs.SenderFacts.{sender_key_cmp, one_sender}
 use Rattle.relay_delivery.proofs.sender_order.SenderOrder.of.Goals as goal
 
 pub returns : goal.returns
-returns c =
+returns g c =
     let given = c.args.senders.now in
     let senders = senders_of given in
     let order = c.in_ok-order.field-0.order.items in
