@@ -2,13 +2,15 @@
 use crate::inputs::texts;
 use crate::telling::tell_of_call;
 use growth_answers::inputs::{address, are_texts};
-use growth_answers::{Answer, Teller, Unready, judged};
-use relay_text::{Address, Text};
+use growth_answers::{Answer, Teller, Unready, call, judged};
+use relay_sharing::Crew;
+use relay_text::{Address, Seq, Text};
 use relay_wire::{
     Finding, FindingLines, KeptFindings, LineWord, Reason, put_count, put_lines, put_name,
     put_number, put_path, put_reason, put_word,
 };
 use std::alloc::{AllocError, Global};
+use std::thread::Threads;
 
 /// What a call answered that puts something at the end, and what stands there then.
 fn put(answer: Result<(), AllocError>, out: Vec<u8>, wanted: &[u8]) -> Answer {
@@ -96,10 +98,10 @@ fn added(alloc: Global) -> Result<FindingLines, AllocError> {
     Ok(lines)
 }
 
-fn gathers_findings(alloc: Global) -> Result<Answer, Unready> {
-    let lines = added(alloc)?;
-    match lines.into_seq(alloc) {
-        Ok(lines) => Ok(judged(lines, |lines| {
+/// What is answered where the lines of the two findings are asked for.
+fn answer_of(lines: Result<Seq<Text>, AllocError>) -> Answer {
+    match lines {
+        Ok(lines) => judged(lines, |lines| {
             are_texts(
                 lines.as_slice(),
                 &[
@@ -107,7 +109,37 @@ fn gathers_findings(alloc: Global) -> Result<Answer, Unready> {
                     b"finding transport line 2 duplicate",
                 ],
             )
-        })),
+        }),
+        Err(_) => Answer::Refused,
+    }
+}
+
+fn gathers_findings(alloc: Global) -> Result<Answer, Unready> {
+    let lines = added(alloc)?;
+    Ok(answer_of(lines.into_seq(alloc)))
+}
+
+fn gathers_by_crew<R: Threads + Sync>(crew: &Crew<'_, R>) -> Result<Answer, Unready> {
+    let lines = added(crew.alloc)?;
+    Ok(answer_of(lines.into_seq_by(crew)))
+}
+
+/// The line of a finding by itself, in room that is taken for it.
+fn line_of(alloc: Global, finding: Finding) -> Result<FindingLines, AllocError> {
+    let mut lines: FindingLines = FindingLines::empty(alloc);
+    let Ok(()) = lines.reserve(1) else {
+        drop(finding);
+        return Err(AllocError);
+    };
+    lines.add(finding)?;
+    Ok(lines)
+}
+
+fn appends_findings(alloc: Global) -> Result<Answer, Unready> {
+    let mut lines = line_of(alloc, Finding::Transport(2, LineWord::Duplicate))?;
+    let more = line_of(alloc, Finding::Aliases(3, LineWord::BadLine))?;
+    match lines.append(more) {
+        Ok(()) => Ok(answer_of(lines.into_seq(alloc))),
         Err(_) => Ok(Answer::Refused),
     }
 }
@@ -157,7 +189,7 @@ fn merges_findings(alloc: Global) -> Result<Answer, Unready> {
     }
 }
 
-pub(crate) fn tell<R: Print + AllocGlobal>(teller: &mut Teller<'_, R>) {
+pub(crate) fn tell<R: Print + AllocGlobal + Threads + Sync>(teller: &mut Teller<'_, R>) {
     tell_of_call(teller, "put_word", puts_a_word);
     tell_of_call(teller, "put_number", puts_a_number);
     tell_of_call(teller, "put_name", puts_a_name);
@@ -168,4 +200,11 @@ pub(crate) fn tell<R: Print + AllocGlobal>(teller: &mut Teller<'_, R>) {
     tell_of_call(teller, "FindingLines::into_seq", gathers_findings);
     tell_of_call(teller, "FindingLines::into_seq merges", merges_findings);
     tell_of_call(teller, "FindingLines::into_found", gathers_values);
+    tell_of_call(teller, "FindingLines::append", appends_findings);
+    let crew = Crew {
+        rt: teller.rt,
+        alloc: teller.rt.alloc(),
+        workers: 2,
+    };
+    call!(teller, "FindingLines::into_seq_by", gathers_by_crew(&crew));
 }
