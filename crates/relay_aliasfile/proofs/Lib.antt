@@ -18,3 +18,4 @@ pub mod FileSizes
 pub mod BrokenRules
 pub mod PlacedItems
 pub mod EntryLines
+pub mod SpreadTexts

@@ -1,9 +1,14 @@
 -- Where a text may be cut in two, and the lines behind the cut.
-use Rattle.std.specs.Prelude.{◌≡◌, ◌≢◌, ⊤, ℕ, ◌+◌, ◌-◌, ◌≤◌, false, List, [], ◌∷◌, map, length, Some, slice_get}
+use Rattle.std.specs.Prelude.{◌≡◌, ◌==◌, ◌≢◌, ⊤, ℕ, ◌+◌, ◌-◌, ◌≤◌, false, List, [], ◌∷◌, map, length, Some, slice_get}
+use Rattle.std.specs.List.{count_by}
 use Rattle.relay_text.specs.Bytes.{is_white}
 use Rattle.relay_text.specs.Lines.{kept_lines, logical_lines_of}
 use Rattle.relay_text.specs.declared.lines.Line.{Line}
 use Rattle.relay_text.specs.declared.lines.Lines.{Lines}
+
+-- how many line feeds a text has
+abbrev pub feeds_of : List ℕ → ℕ
+feeds_of text = count_by (λ b. b == 10) text
 
 -- The last byte of a text is the LF of its last line.
 abbrev pub EndsWithLine : List ℕ → Type 0

@@ -18,3 +18,4 @@ pub mod Halves
 pub mod ListCuts
 pub mod ListParts
 pub mod MailboxLines
+pub mod Spread

@@ -13,18 +13,23 @@ use crate::list_readers::ListReader;
 use relay_text::Seq;
 use std::alloc::{AllocError, Global};
 
+// Behind so many entries room is made for as many as are expected: a file whose lines are at fault takes none.
+const FEW: usize = 64;
+
 /// The entries of an alias file up to a line, which of the names from there on are repeats, and the faults.
 #[derive(Drop)]
 pub(crate) struct AliasTable<'a> {
     entries: Vec<Entry>,
     repeats: &'a [bool],
     faults: Vec<LineFault>,
+    /// About how many entries are to come. Nothing but memory hangs on it.
+    expected: usize,
 }
 
 impl<'a> AliasTable<'a> {
-    /// No entries, without taking memory. The list says of each name that is to come whether it's a repeat; a name past its end is
-    /// none.
-    pub(crate) fn new(alloc: Global, repeats: &'a [bool]) -> AliasTable<'a>
+    /// No entries, without taking memory, where about so many are expected. The list says of each name that is to come whether it's a
+    /// repeat; a name past its end is none.
+    pub(crate) fn new(alloc: Global, expected: usize, repeats: &'a [bool]) -> AliasTable<'a>
         ensures entries { result.entries.items ≡ [] }
         ensures repeats { result.repeats.now ≡ repeats.now }
         ensures faults { result.faults.items ≡ [] }
@@ -33,7 +38,20 @@ impl<'a> AliasTable<'a> {
             entries: Vec::new(alloc),
             repeats,
             faults: Vec::new(alloc),
+            expected,
         }
+    }
+
+    /// Makes room for the entries that are expected, once there are some.
+    fn make_room(&mut self) -> Result<(), AllocError>
+        ensures entries { OnOk result (self.new.entries.items ≡ self.old.entries.items) }
+        ensures repeats { OnOk result (self.new.repeats ≡ self.old.repeats) }
+        ensures faults { OnOk result (self.new.faults ≡ self.old.faults) }
+    {
+        if self.entries.len() == FEW {
+            self.entries.reserve(self.expected)?;
+        }
+        Ok(())
     }
 
     /// Adds the lines that continue no logical line, where so many lines of the file stand before their text.
@@ -62,6 +80,7 @@ impl<'a> AliasTable<'a> {
         ensures repeats { OnOk result (self.new.repeats.now ≡ repeats_behind (heading_of text.now) self.old.repeats.now) }
         ensures faults { OnOk result (self.new.faults.items ≡ self.old.faults.items ++ new_faults (next_repeat self.old.repeats.now) number (heading_of text.now)) }
     {
+        self.make_room()?;
         let Some(heading) = heading_in(alloc, text)? else {
             return add_fault(number, FaultKind::BadLine, &mut self.faults);
         };

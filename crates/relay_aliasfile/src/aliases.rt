@@ -19,10 +19,11 @@ use crate::alias_table::AliasTable;
 use crate::distinct::distinct_texts;
 use crate::entry::Entry;
 use crate::fault::LineFault;
-use crate::halves::{halves, line_count};
+use crate::halves::{about_lines, halves, line_count};
 use crate::list_readers::{ListReader, OneReader, Readers};
 use crate::paths::add_paths;
 use crate::repeats::repeats_of;
+use crate::spread::are_distinct_by;
 use relay_text::{LogicalLines, Seq, Text};
 use std::alloc::{AllocError, Global};
 use std::thread::{Threads, join};
@@ -46,7 +47,7 @@ pub struct AliasFile {
 pub fn parse_aliases(alloc: Global, bytes: &[u8]) -> Result<AliasFile, AllocError>
     ensures { IfOk result (λ file. file ≡ alias_file_of bytes.now) }
 {
-    let file = read_file(&OneReader, alloc, 0, bytes, &[])?;
+    let file = read_file(&OneReader, alloc, 0, 0, bytes, &[])?;
     with_duplicates(alloc, bytes, file)
 }
 
@@ -59,7 +60,10 @@ pub fn parse_aliases_by<R: Threads + Sync>(
 ) -> Result<AliasFile, AllocError>
     ensures { IfOk result (λ file. file ≡ alias_file_of bytes.now) }
 {
-    let file = read_file_by(rt, alloc, workers, 0, bytes)?;
+    let file = read_file_by(rt, alloc, workers, about_lines(bytes), 0, bytes)?;
+    if are_distinct_by(rt, alloc, workers, file.entries.as_slice())? {
+        return Ok(file);
+    }
     with_duplicates(alloc, bytes, file)
 }
 
@@ -74,14 +78,15 @@ fn with_duplicates(alloc: Global, bytes: &[u8], file: AliasFile) -> Result<Alias
         return Ok(file);
     }
     drop(file);
-    read_file(&OneReader, alloc, 0, bytes, &repeats)
+    read_file(&OneReader, alloc, 0, 0, bytes, &repeats)
 }
 
 /// The alias file of which the names are repeats that the list says are, one after another; a name past its end is none. So many lines
-/// of the file stand before the text.
+/// of the file stand before the text, and about so many entries are expected, of this text and of those that are put behind them.
 fn read_file<L: ListReader>(
     lists: &L,
     alloc: Global,
+    expected: usize,
     passed: usize,
     bytes: &[u8],
     repeats: &[bool],
@@ -90,7 +95,7 @@ fn read_file<L: ListReader>(
     requires numbers { passed + length bytes.now < 2 ^ 64 }
     ensures { IfOk result (λ file. file ≡ file_behind passed repeats.now bytes.now) }
 {
-    let mut table = AliasTable::new(alloc, repeats);
+    let mut table = AliasTable::new(alloc, expected, repeats);
     add_text(lists, alloc, passed, bytes, &mut table)?;
     Ok(table.into_file())
 }
@@ -138,6 +143,7 @@ fn read_file_by<R: Threads + Sync>(
     rt: &R,
     alloc: Global,
     workers: usize,
+    expected: usize,
     passed: usize,
     bytes: &[u8],
 ) -> Result<AliasFile, AllocError>
@@ -145,21 +151,29 @@ fn read_file_by<R: Threads + Sync>(
     ensures { IfOk result (λ file. file ≡ file_behind passed [] bytes.now) }
 {
     let Some((front, back)) = halves(workers, bytes) else {
-        return read_file(&Readers { rt, workers }, alloc, passed, bytes, &[]);
+        return read_file(
+            &Readers { rt, workers },
+            alloc,
+            expected,
+            passed,
+            bytes,
+            &[],
+        );
     };
     let behind = passed + line_count(front);
     let share = workers / 2;
     let rest = workers - share;
+    let fewer = about_lines(back);
     let (here, there) = join(
         rt,
         || -> Result<AliasFile, AllocError>
             requires { IsSync R.row × (passed + length front.now < 2 ^ 64) }
             ensures { IfOk result (λ file. file ≡ file_behind passed [] front.entry.now) }
-        { read_file_by(rt, alloc, share, passed, front) },
+        { read_file_by(rt, alloc, share, expected, passed, front) },
         || -> Result<AliasFile, AllocError>
             requires { IsSync R.row × (behind + length back.now < 2 ^ 64) }
             ensures { IfOk result (λ file. file ≡ file_behind behind [] back.entry.now) }
-        { read_file_by(rt, alloc, rest, behind, back) },
+        { read_file_by(rt, alloc, rest, fewer, behind, back) },
     );
     both_files(here, there)
 }

@@ -1,9 +1,9 @@
 //! Where a file's text is cut in two, for two threads to read.
 ghost use Rattle.std.specs.Prelude.{◌≡◌, ◌≤◌, ◌+◌, ◌*◌, ◌++◌, true, length, IfSome};
 ghost use Rattle.relay_text.specs.Lines.{raw_lines};
-ghost use Rattle.relay_aliasfile.specs.Halves.{EndsWithLine, BeginsLogicalLine};
+ghost use Rattle.relay_aliasfile.specs.Halves.{feeds_of, EndsWithLine, BeginsLogicalLine};
 
-use memchr::{memchr, memchr_iter};
+use memchr::memchr;
 
 // A half has about so many bytes at least: starting a thread takes as long as reading some kilobytes, a small part of this.
 pub(crate) const LEAST_HALF: usize = 65_536;
@@ -11,6 +11,15 @@ pub(crate) const LEAST_HALF: usize = 65_536;
 // So many lines at most are looked at for a place. Where more stand between two places, they are mostly the list of one entry. It is long,
 // so several threads read it anyway.
 const MOST_LINES: usize = 65_536;
+
+// So many bytes at most are counted in a byte: the processor counts sixteen of them at once and more.
+const BLOCK: usize = 224;
+
+// So many bytes at the front of a text tell about how many lines it has.
+const SAMPLE: usize = 65_536;
+
+// A line is taken to have so many bytes at least, so that what is made ready for lines stays within some times their text.
+const SHORTEST: usize = 16;
 
 /// Whether a text has bytes enough for two of so many threads.
 pub(crate) fn is_long(workers: usize, text: &[u8]) -> bool
@@ -54,11 +63,47 @@ fn begins_logical_line(text: &[u8]) -> bool
     }
 }
 
+/// How many line feeds a block has.
+fn feeds_in(block: &[u8]) -> u8
+    requires { length block.now ≤ BLOCK }
+    ensures { result ≡ feeds_of block.now }
+{
+    let mut feeds: u8 = 0;
+    for byte in block {
+        feeds += u8::from(*byte == b'\n');
+    }
+    feeds
+}
+
+/// How many line feeds a text has.
+fn feed_count(text: &[u8]) -> usize
+    ensures feeds { result ≡ feeds_of text.now }
+    ensures most { result ≤ length text.now }
+{
+    let mut count = 0;
+    let mut rest = text;
+    while !rest.is_empty() {
+        let (block, behind) = rest.split_at(rest.len().min(BLOCK));
+        count += usize::from(feeds_in(block));
+        rest = behind;
+    }
+    count
+}
+
 /// How many lines a text has that ends with one.
 pub(crate) fn line_count(text: &[u8]) -> usize
     requires { EndsWithLine text.now }
     ensures lines { result ≡ length (raw_lines text.now) }
     ensures most { result ≤ length text.now }
 {
-    memchr_iter(b'\n', text).count()
+    feed_count(text)
+}
+
+/// About how many lines a text has, by those at its front. A guess, on which only hangs what room is made for entries at once.
+pub(crate) fn about_lines(text: &[u8]) -> usize {
+    let front = &text[..text.len().min(SAMPLE)];
+    let fronts = text.len() / SAMPLE + 1;
+    feed_count(front)
+        .saturating_mul(fronts)
+        .min(text.len() / SHORTEST)
 }

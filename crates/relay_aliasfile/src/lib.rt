@@ -30,6 +30,7 @@ pub mod reason;
 pub mod reasons;
 mod repeats;
 mod special;
+mod spread;
 mod twins;
 mod unquoted;
 

@@ -1,10 +1,13 @@
 //! What the lines of a mailbox file say, before repeats are dropped.
 use crate::fault::{FaultKind, LineFault, add_fault};
-use crate::halves::{halves, line_count};
+use crate::halves::{about_lines, halves, line_count};
 use crate::names::folded_name;
 use relay_text::{KeptLines, Text, trimmed};
 use std::alloc::{AllocError, Global};
 use std::thread::{Threads, join};
+
+// Behind so many names room is made for as many as are expected: a file whose lines are at fault takes none.
+const FEW: usize = 64;
 
 /// The names on the lines of a text, repeats too, and its lines at fault.
 #[derive(Drop)]
@@ -20,9 +23,11 @@ ghost use Rattle.relay_aliasfile.specs.MailboxFiles.{name_in, faults_in};
 ghost use Rattle.relay_aliasfile.specs.MailboxLines.{AreBoth, AreRead};
 
 impl MailboxLines {
-    /// Reads one line after another. So many lines of the file stand before the text.
+    /// Reads one line after another. So many lines of the file stand before the text, and about so many names are expected, of this text
+    /// and of those that are put behind them.
     pub(crate) fn read(
         alloc: Global,
+        expected: usize,
         passed: usize,
         bytes: &[u8],
     ) -> Result<MailboxLines, AllocError>
@@ -34,9 +39,21 @@ impl MailboxLines {
         let mut said = MailboxLines { names, faults };
         let mut lines = KeptLines::new(bytes);
         while let Some(line) = lines.next_line() {
+            said.make_room(expected)?;
             said.add_line(alloc, passed + line.number, line.text)?;
         }
         Ok(said)
+    }
+
+    /// Makes room for the names that are expected, once there are some.
+    fn make_room(&mut self, expected: usize) -> Result<(), AllocError>
+        ensures names { OnOk result (self.new.names.items ≡ self.old.names.items) }
+        ensures faults { OnOk result (self.new.faults ≡ self.old.faults) }
+    {
+        if self.names.len() == FEW {
+            self.names.reserve(expected)?;
+        }
+        Ok(())
     }
 
     /// Adds what a line says.
@@ -56,6 +73,7 @@ impl MailboxLines {
         rt: &R,
         alloc: Global,
         workers: usize,
+        expected: usize,
         passed: usize,
         bytes: &[u8],
     ) -> Result<MailboxLines, AllocError>
@@ -63,21 +81,22 @@ impl MailboxLines {
         ensures { IfOk result (AreRead passed bytes.now) }
     {
         let Some((front, back)) = halves(workers, bytes) else {
-            return MailboxLines::read(alloc, passed, bytes);
+            return MailboxLines::read(alloc, expected, passed, bytes);
         };
         let behind = passed + line_count(front);
         let share = workers / 2;
         let rest = workers - share;
+        let fewer = about_lines(back);
         let (here, there) = join(
             rt,
             || -> Result<MailboxLines, AllocError>
                 requires { IsSync R.row × (passed + length front.now < 2 ^ 64) }
                 ensures { IfOk result (AreRead passed front.entry.now) }
-            { MailboxLines::read_by(rt, alloc, share, passed, front) },
+            { MailboxLines::read_by(rt, alloc, share, expected, passed, front) },
             || -> Result<MailboxLines, AllocError>
                 requires { IsSync R.row × (behind + length back.now < 2 ^ 64) }
                 ensures { IfOk result (AreRead behind back.entry.now) }
-            { MailboxLines::read_by(rt, alloc, rest, behind, back) },
+            { MailboxLines::read_by(rt, alloc, rest, fewer, behind, back) },
         );
         MailboxLines::both(here, there)
     }
