@@ -8,7 +8,7 @@ use Rattle.std.proofs.lemmas.Option.{none-some, same_Some, slice_get_within, sli
 use Rattle.relay_aliasfile.specs.declared.item.Item.{Item}
 use Rattle.relay_tables.specs.declared.node.Node.{Node}
 use Rattle.relay_tables.specs.declared.node.Node.TheVariants.{Alias, Include}
-use Rattle.relay_tables.specs.declared.target.Target.{Target}
+use Rattle.relay_tables.specs.declared.known_name.KnownName.{KnownName}
 use Rattle.relay_tables.specs.Directory.{Directory}
 use Rattle.relay_tables.specs.Targets.{targets_of}
 use Rattle.relay_tables.specs.Looking.{item_found, found_from, AreFirst}
@@ -51,10 +51,10 @@ module _ (d : Directory) (k : ℕ) (ts : List Node) (at : option_map (targets_of
       ∙ ap (λ (xs : List Node). xs ++ flat_map (targets_of d) (drop (k + 1) (entry_nodes d))) targets_more
 
 -- what is found for the items of an entry is cut behind them
-pub entry_cut : (d : Directory) (k : ℕ) (parent : Option ℕ) (items : List Item) (rest : List (Option Target)) (cut : ℕ) → found_from d k ≡ map (item_found d parent) items ++ found_from d (k + 1)
-    → cut ≡ min (length items) (length rest) → AreFirst rest (found_from d k) → AreFirst (take cut rest) (map (item_found d parent) items) × AreFirst (drop cut rest) (found_from d (k + 1))
-entry_cut d k parent items rest cut more place first =
-    first_cut rest (map (item_found d parent) items) (found_from d (k + 1)) cut (omega (arith, length-map items (item_found d parent))) (subst (AreFirst rest) more first)
+pub entry_cut : (d : Directory) (key k : ℕ) (parent : Option ℕ) (items : List Item) (rest : List KnownName) (cut : ℕ) → found_from d key k ≡ map (item_found d key parent) items ++ found_from d key (k + 1)
+    → cut ≡ min (length items) (length rest) → AreFirst rest (found_from d key k) → AreFirst (take cut rest) (map (item_found d key parent) items) × AreFirst (drop cut rest) (found_from d key (k + 1))
+entry_cut d key k parent items rest cut more place first =
+    first_cut rest (map (item_found d key parent) items) (found_from d key (k + 1)) cut (omega (arith, length-map items (item_found d key parent))) (subst (AreFirst rest) more first)
 
 -- the entries by their numbers
 pub alias_entry : (d : Directory) (k : ℕ) → k < length d.aliases → slice_get (entry_nodes d) k ≡ Some (Alias k)

@@ -12,7 +12,7 @@ use Rattle.relay_tables.specs.Rowing.{nodes_in, some_of, LeadTo}
 use Rattle.relay_tables.proofs.Firsts.{with_nodes-none, with_nodes-append, no_fewer, stays}
 
 abbrev with_these : Numbered → List Node → Numbered
-with_these s ns = record { nodes = ns; aliases = s.aliases; includes = s.includes; limit = s.limit }
+with_these s ns = record { nodes = ns; aliases = s.aliases; includes = s.includes; limit = s.limit; key = s.key }
 
 pub with_all-none : (s : Numbered) → with_all s [] ≡ s
 with_all-none s = ap (with_these s) (with_nodes-none s.nodes)

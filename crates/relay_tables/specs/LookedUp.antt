@@ -1,7 +1,7 @@
 -- What a `LookedUp` is to its callers, and what is true of every one.
-use Rattle.std.specs.Prelude.{List, map, Option}
+use Rattle.std.specs.Prelude.{ℕ, List, map}
 use Rattle.relay_text.specs.AddressParts.{AddressParts}
-use Rattle.relay_tables.specs.declared.target.Target.{Target}
+use Rattle.relay_tables.specs.declared.known_name.KnownName.{KnownName}
 use Rattle.relay_tables.specs.Directory.{Directory}
 use Rattle.relay_tables.specs.Looking.{recipient_found, found_from, AreFirst}
 
@@ -10,7 +10,7 @@ pub record TablesFor : Type 0 where
   pub tables : Directory
   pub recipients : List AddressParts
 
--- what is found for the first items of the aliases and then of the include files, and for the first recipients
-pub record AreLookedUp (d : Directory) (recipients : List AddressParts) (items roots : List (Option Target)) : Type 0 where
-  pub items_are : AreFirst items (found_from d 0)
-  pub roots_are : AreFirst roots (map (recipient_found d) recipients)
+-- what is found, under a key, for the first items of the aliases and then of the include files, and for the first recipients
+pub record AreLookedUp (d : Directory) (key : ℕ) (recipients : List AddressParts) (items roots : List KnownName) : Type 0 where
+  pub items_are : AreFirst items (found_from d key 0)
+  pub roots_are : AreFirst roots (map (recipient_found d key) recipients)

@@ -5,12 +5,12 @@
 //! they are waited for at the same time, and the look-ups find them at hand. What is read here decides nothing: a look-up reads it again.
 //!
 //! A name is looked up in the tables, and then among the nodes where there are some, unless it's an alias. Where it's known what it stands
-//! for, only the nodes are read.
+//! for, so is its hash, and only the nodes are read.
 ghost use Rattle.std.specs.Prelude.{◌≤◌, length};
 
+use crate::known_name::KnownName;
 use crate::numbering::Numbering;
 use crate::tables::Tables;
-use crate::target::Target;
 use relay_aliasfile::{Entry, Item};
 use relay_chains::hash_text;
 use relay_text::Address;
@@ -67,27 +67,31 @@ impl Block {
         }
     }
 
-    // What an address is looked up by, among the nodes alone where it's known what it stands for: an alias isn't looked up. Where it isn't
-    // known, whether the address is local is only guessed.
-    fn put_address(&mut self, tables: &Tables, address: &Address, found: Option<&Option<Target>>) {
-        match found {
-            Some(Some(Target::Alias(_))) => {}
-            Some(Some(_)) => self.nodes.put(hash_text(tables.key(), address.local())),
-            None if tables.may_be_local(address) => {
-                self.names.put(hash_text(tables.key(), address.local()));
+    // What is looked up among the nodes, where it's known what an item or a recipient stands for: an alias isn't looked up.
+    fn put_known(&mut self, known: KnownName) {
+        match known {
+            KnownName::Mailbox(hash) | KnownName::Missing(hash) | KnownName::Remote(hash) => {
+                self.nodes.put(hash);
             }
-            _ => self.nodes.put(hash_text(tables.key(), address.joined())),
+            KnownName::Alias(_) | KnownName::Unsought => {}
+        }
+    }
+
+    // What an address is looked up by. Whether it's local is only guessed.
+    fn put_address(&mut self, tables: &Tables, address: &Address) {
+        if tables.may_be_local(address) {
+            self.names.put(hash_text(tables.key(), address.local()));
+        } else {
+            self.nodes.put(hash_text(tables.key(), address.joined()));
         }
     }
 
     // The same of an item. Files and commands are few.
-    fn put_item(&mut self, tables: &Tables, item: &Item, found: Option<&Option<Target>>) {
-        match (item, found) {
-            (Item::Bare(_), Some(Some(Target::Alias(_)))) => {}
-            (Item::Bare(name), Some(_)) => self.nodes.put(hash_text(tables.key(), name.as_bytes())),
-            (Item::Bare(name), None) => self.names.put(hash_text(tables.key(), name.as_bytes())),
-            (Item::Full(address), _) => self.put_address(tables, address, found),
-            _ => {}
+    fn put_item(&mut self, tables: &Tables, item: &Item) {
+        match item {
+            Item::Bare(name) => self.names.put(hash_text(tables.key(), name.as_bytes())),
+            Item::Full(address) => self.put_address(tables, address),
+            Item::Include(_) | Item::Command(_) | Item::File(_) => {}
         }
     }
 
@@ -167,32 +171,37 @@ fn read_items(
     tables: &Tables,
     names: Option<&Numbering>,
     items: &[Item],
-    found: &[Option<Target>],
+    found: &[KnownName],
     start: usize,
 ) -> usize {
     let mut block = Block::none();
     for place in start..items.len().min(start.saturating_add(BLOCK)) {
-        block.put_item(tables, &items[place], found.get(place));
+        match found.get(place) {
+            Some(known) => block.put_known(*known),
+            None => block.put_item(tables, &items[place]),
+        }
     }
     block.read(tables, names)
 }
 
-// The same for the first items of entries.
+// The same for the next items of entries, of which it's known what they stand for.
 #[inline(never)]
-fn read_entries(
-    tables: &Tables,
-    names: Option<&Numbering>,
-    entries: &[Entry],
-    found: &[Option<Target>],
-) -> usize {
+fn read_found(tables: &Tables, names: Option<&Numbering>, found: &[KnownName]) -> usize {
     let mut block = Block::none();
-    let mut place = 0usize;
+    for known in found.iter().take(BLOCK) {
+        block.put_known(*known);
+    }
+    block.read(tables, names)
+}
+
+// The same for the first items of entries, of which nothing is known.
+#[inline(never)]
+fn read_entries(tables: &Tables, names: Option<&Numbering>, entries: &[Entry]) -> usize {
+    let mut block = Block::none();
     for entry in entries.iter().take(BLOCK) {
-        let items = entry.items.as_slice();
-        if let Some(item) = items.first() {
-            block.put_item(tables, item, found.get(place));
+        if let Some(item) = entry.items.as_slice().first() {
+            block.put_item(tables, item);
         }
-        place = place.wrapping_add(items.len());
     }
     block.read(tables, names)
 }
@@ -203,12 +212,15 @@ fn read_recipients(
     tables: &Tables,
     names: Option<&Numbering>,
     recipients: &[Address],
-    found: &[Option<Target>],
+    found: &[KnownName],
     start: usize,
 ) -> usize {
     let mut block = Block::none();
     for place in start..recipients.len().min(start.saturating_add(BLOCK)) {
-        block.put_address(tables, &recipients[place], found.get(place));
+        match found.get(place) {
+            Some(known) => block.put_known(*known),
+            None => block.put_address(tables, &recipients[place]),
+        }
     }
     block.read(tables, names)
 }
@@ -245,7 +257,7 @@ impl Ahead {
         tables: &Tables,
         names: Option<&Numbering>,
         items: &[Item],
-        found: &[Option<Target>],
+        found: &[KnownName],
         start: usize,
     ) {
         if self.is_worth && items.len() > 1 && start % BLOCK == 0 && start < items.len() {
@@ -253,18 +265,23 @@ impl Ahead {
         }
     }
 
-    /// The same for the first items of the entries from one on. What is given is found for their first items.
+    /// The same for the first items of the entries from one on. What is given is found for their first items, and read for whichever of them
+    /// it is of.
     #[inline]
     pub(crate) fn read_entries(
         &mut self,
         tables: &Tables,
         names: Option<&Numbering>,
-        found: &[Option<Target>],
+        found: &[KnownName],
         start: usize,
     ) {
         let entries = tables.aliases();
         if self.is_worth && start % BLOCK == 0 && start < entries.len() {
-            self.seen = read_entries(tables, names, &entries[start..], found);
+            self.seen = if found.is_empty() {
+                read_entries(tables, names, &entries[start..])
+            } else {
+                read_found(tables, names, found)
+            };
         }
     }
 
@@ -275,7 +292,7 @@ impl Ahead {
         tables: &Tables,
         names: Option<&Numbering>,
         recipients: &[Address],
-        found: &[Option<Target>],
+        found: &[KnownName],
         start: usize,
     ) {
         if self.is_worth && start % BLOCK == 0 && start < recipients.len() {

@@ -6,12 +6,13 @@ ghost use Rattle.relay_tables.specs.Building.{AreRows};
 
 use crate::adjacency::Adjacency;
 use crate::fault::TableFault;
+use crate::first_found::FirstFound;
+use crate::known_name::KnownName;
 use crate::listed::{entry_count, list_of};
 use crate::node::Node;
 use crate::numbering::Numbering;
 use crate::rowing::{Scratch, number_entries, number_recipients};
 use crate::tables::Tables;
-use crate::target::Target;
 use relay_text::Address;
 use std::alloc::Global;
 
@@ -32,19 +33,42 @@ pub(crate) fn item_count(tables: &Tables) -> usize {
     count
 }
 
-// How many targets are expected: as many as there are items and recipients, but no more than `most`, and at least 1.
-fn expected(items: usize, recipients: usize, most: usize) -> usize
+// How many heads are taken: as many as items and recipients need, but no more than for `most` nodes, and at least 1.
+fn heads_within(items: usize, recipients: usize, most: usize) -> usize
     ensures { 1 ≤ result }
 {
-    items.saturating_add(recipients).min(most).max(1)
+    items
+        .saturating_add(recipients)
+        .min(most.saturating_mul(2))
+        .max(1)
 }
 
-// How many items are to be numbered: where something is found for them, it's found for all.
-fn known_count(tables: &Tables, found: &[Option<Target>]) -> usize {
+// The heads for what is found: two for each that isn't an alias, since an alias is found by its number.
+fn heads_of(found: &[KnownName]) -> usize {
+    let mut heads = 0usize;
+    for known in found {
+        if !matches!(known, KnownName::Alias(_)) {
+            heads = heads.saturating_add(2);
+        }
+    }
+    heads
+}
+
+// The heads for all items. Where something is found for them, it's found for all; where nothing is, every second is expected to be new.
+fn item_heads(tables: &Tables, found: &[KnownName]) -> usize {
     if found.is_empty() {
         item_count(tables)
     } else {
-        found.len()
+        heads_of(found)
+    }
+}
+
+// The same for so many recipients.
+fn recipient_heads(recipients: usize, found: &[KnownName]) -> usize {
+    if found.is_empty() {
+        recipients
+    } else {
+        heads_of(found)
     }
 }
 
@@ -56,12 +80,19 @@ struct Begun {
     scratch: Scratch,
 }
 
-// The nodes of all entries, and no rows yet. Take about as many heads as targets are expected.
-fn begin(alloc: Global, tables: &Tables, heads: usize, names: usize) -> Result<Begun, TableFault>
+// The nodes of all entries, found under a key, and no rows yet. Take twice as many heads as other nodes are expected.
+fn begin(
+    alloc: Global,
+    tables: &Tables,
+    key: u64,
+    heads: usize,
+    names: usize,
+) -> Result<Begun, TableFault>
     requires heads { 1 ≤ heads }
     requires names { names ≤ 2 ^ 24 }
     ensures nodes { IfOk result (λ begun. begun.names.nodes ≡ entry_nodes tables.now) }
     ensures limit { IfOk result (λ begun. begun.names.limit ≡ names) }
+    ensures key { IfOk result (λ begun. begun.names.key ≡ key) }
     ensures none { IfOk result (λ begun. begun.children ≡ []) }
     ensures few { OnOk result (length tables.now.aliases + length tables.now.includes ≤ names) }
     ensures full { result ≡ Err TableFault.TooManyNames → names < length tables.now.aliases + length tables.now.includes }
@@ -69,7 +100,7 @@ fn begin(alloc: Global, tables: &Tables, heads: usize, names: usize) -> Result<B
 {
     let aliases = tables.aliases().len();
     let includes = tables.includes().len();
-    let numbering = Numbering::new(alloc, tables.key(), aliases, includes, heads, names)?;
+    let numbering = Numbering::new(alloc, key, aliases, includes, heads, names)?;
     let children = Adjacency::with_capacity(alloc, aliases.saturating_add(includes))?;
     Ok(Begun {
         names: numbering,
@@ -84,26 +115,26 @@ pub(crate) fn number_all(
     alloc: Global,
     tables: &Tables,
     recipients: &[Address],
-    items: &[Option<Target>],
-    addresses: &[Option<Target>],
+    found: FirstFound<'_>,
     names: usize,
 ) -> Result<Rows, TableFault>
     requires names { names ≤ 2 ^ 24 }
-    requires items { AreFirst items.now (found_from tables.now 0) }
-    requires addresses { AreFirst addresses.now (map (recipient_found tables.now) recipients.now) }
+    requires items { AreFirst found.items.now (found_from tables.now found.key 0) }
+    requires recipients { AreFirst found.recipients.now (map (recipient_found tables.now found.key) recipients.now) }
     ensures rows { IfOk result (λ rows. AreRows tables.now recipients.now rows.nodes.items rows.children rows.roots.items) }
     ensures within { OnOk result (length (nodes_of tables.now recipients.now) ≤ names) }
     ensures few { IfOk result (λ rows. length rows.nodes.items ≤ names) }
     ensures full { result ≡ Err TableFault.TooManyNames → names < length (nodes_of tables.now recipients.now) }
     ensures owners { result ≡ Err TableFault.TooManyOwners → ⊥ }
 {
-    let count = known_count(tables, items);
-    let heads = expected(count, recipients.len(), names);
-    let mut begun = begin(alloc, tables, heads, names)?;
+    let item_heads = item_heads(tables, found.items);
+    let recipient_heads = recipient_heads(recipients.len(), found.recipients);
+    let heads = heads_within(item_heads, recipient_heads, names);
+    let mut begun = begin(alloc, tables, found.key, heads, names)?;
     number_entries(
         alloc,
         tables,
-        items,
+        found.items,
         &mut begun.names,
         &mut begun.scratch,
         &mut begun.children,
@@ -112,7 +143,7 @@ pub(crate) fn number_all(
         alloc,
         tables,
         recipients,
-        addresses,
+        found.recipients,
         &mut begun.names,
         &mut begun.scratch,
     )?;

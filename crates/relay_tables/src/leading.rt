@@ -1,35 +1,23 @@
 //! The nodes that names, addresses and items lead to, by what is found for them.
+//!
+//! What is numbered for each item is one function in the program: a number that is handed on in memory, from one call to the next, is read
+//! there in another width than it was written in, and waited for until all that was written before it is there.
 ghost use Rattle.std.specs.Prelude.{◌≡◌, ◌∷◌, [], true, slice_get, Some, IfOk, IsTrue};
 ghost use Rattle.relay_text.specs.Bytes.{folded};
 ghost use Rattle.relay_tables.specs.Parts.{is_local_part, is_good_item};
-ghost use Rattle.relay_tables.specs.Targets.{node_named, at_origin, include_target, include_number};
-ghost use Rattle.relay_tables.specs.Looking.{address_node, item_node};
+ghost use Rattle.relay_tables.specs.Targets.{at_origin, include_target, include_number};
+ghost use Rattle.relay_tables.specs.Looking.{name_node, address_node, item_node, HasHash};
 ghost use Rattle.relay_tables.specs.Numbering.{node_of, Numbers, HasGoodAddress};
 
-use crate::domain_kind::DomainKind;
 use crate::fault::TableFault;
+use crate::known_name::KnownName;
 use crate::lead::Lead;
 use crate::looking::{has_capitals, write_folded};
 use crate::numbering::Numbering;
 use crate::tables::Tables;
-use crate::target::Target;
 use relay_aliasfile::Item;
-use relay_text::Address;
+use relay_text::{Address, same_bytes};
 use std::alloc::Global;
-
-// What a folded name leads to that stands for a target.
-fn lead_named<'a>(tables: &'a Tables, name: &'a [u8], target: Target) -> Lead<'a>
-    requires local { IsTrue (is_local_part name.now) }
-    ensures lead { node_of result ≡ node_named tables.now name.now target }
-    ensures good { HasGoodAddress (node_of result) }
-{
-    let origin = tables.origin();
-    match target {
-        Target::Alias(number) => Lead::Alias(number),
-        Target::Mailbox => Lead::Mailbox(name, origin),
-        Target::Missing => Lead::Missing(name),
-    }
-}
 
 // What the path of an include item leads to.
 fn lead_included<'a>(tables: &Tables, path: &'a [u8]) -> Lead<'a>
@@ -46,92 +34,107 @@ fn lead_included<'a>(tables: &Tables, path: &'a [u8]) -> Lead<'a>
 fn is_mailbox_address(tables: &Tables, address: &Address) -> bool
     ensures { result ≡ true → at_origin tables.now (folded address.now.local) ≡ address.now }
 {
-    match tables.domain_kind(address) {
-        DomainKind::Origin => !has_capitals(address.local()),
-        DomainKind::Local | DomainKind::Remote => false,
-    }
+    same_bytes(address.domain(), tables.origin()) && !has_capitals(address.local())
 }
 
-// The number of what a folded name leads to that stands for a target.
+// The number of what a folded name leads to, by what is found for it.
+#[inline(always)]
 fn number_folded(
     alloc: Global,
     tables: &Tables,
     name: &[u8],
-    target: Target,
+    found: KnownName,
     names: &mut Numbering,
 ) -> Result<u32, TableFault>
     requires local { IsTrue (is_local_part name.now) }
-    ensures number { IfOk result (λ number. slice_get names.new.nodes number ≡ Some (node_named tables.now name.now target)) }
-    ensures numbers { Numbers names.old (node_named tables.now name.now target ∷ []) result names.new }
+    requires hash { HasHash names.old.key found (name_node tables.now name.now found) }
+    ensures number { IfOk result (λ number. slice_get names.new.nodes number ≡ Some (name_node tables.now name.now found)) }
+    ensures numbers { Numbers names.old (name_node tables.now name.now found ∷ []) result names.new }
 {
-    let lead = lead_named(tables, name, target);
-    names.number(alloc, lead)
+    match found {
+        KnownName::Alias(number) => names.number(alloc, Lead::Alias(number)),
+        KnownName::Mailbox(hash) => {
+            names.number_hashed(alloc, Lead::Mailbox(name, tables.origin()), hash)
+        }
+        KnownName::Missing(hash) => names.number_hashed(alloc, Lead::Missing(name), hash),
+        KnownName::Remote(_) | KnownName::Unsought => names.number(alloc, Lead::Missing(name)),
+    }
 }
 
-// The number of what a local name leads to that stands for a target; its folded name goes into `name` where that's another.
+// The number of what a local name leads to, by what is found for it; its folded name goes into `name` where that's another.
+#[inline(always)]
 fn number_name(
     alloc: Global,
     tables: &Tables,
     local: &[u8],
-    target: Target,
+    found: KnownName,
     names: &mut Numbering,
     name: &mut Vec<u8>,
 ) -> Result<u32, TableFault>
     requires local { IsTrue (is_local_part local.now) }
-    ensures number { IfOk result (λ number. slice_get names.new.nodes number ≡ Some (node_named tables.now (folded local.now) target)) }
-    ensures numbers { Numbers names.old (node_named tables.now (folded local.now) target ∷ []) result names.new }
+    requires hash { HasHash names.old.key found (name_node tables.now (folded local.now) found) }
+    ensures number { IfOk result (λ number. slice_get names.new.nodes number ≡ Some (name_node tables.now (folded local.now) found)) }
+    ensures numbers { Numbers names.old (name_node tables.now (folded local.now) found ∷ []) result names.new }
 {
     // An alias has its number, and its name isn't read.
-    if let Target::Alias(number) = target {
+    if let KnownName::Alias(number) = found {
         return names.number(alloc, Lead::Alias(number));
     }
     if !has_capitals(local) {
-        return number_folded(alloc, tables, local, target, names);
+        return number_folded(alloc, tables, local, found, names);
     }
     write_folded(local, name)?;
-    number_folded(alloc, tables, name, target, names)
+    number_folded(alloc, tables, name, found, names)
 }
 
 /// The number of what an address leads to, by what is found for it.
+#[inline(always)]
 pub(crate) fn number_address(
     alloc: Global,
     tables: &Tables,
     address: &Address,
-    found: Option<Target>,
+    found: KnownName,
     names: &mut Numbering,
     name: &mut Vec<u8>,
 ) -> Result<u32, TableFault>
+    requires hash { HasHash names.old.key found (address_node tables.now address.now found) }
     ensures number { IfOk result (λ number. slice_get names.new.nodes number ≡ Some (address_node tables.now address.now found)) }
     ensures numbers { Numbers names.old (address_node tables.now address.now found ∷ []) result names.new }
 {
     let local = address.local();
     match found {
-        Some(Target::Mailbox) if is_mailbox_address(tables, address) => {
-            names.number(alloc, Lead::Written(address))
+        KnownName::Alias(number) => names.number(alloc, Lead::Alias(number)),
+        KnownName::Mailbox(hash) if is_mailbox_address(tables, address) => {
+            names.number_hashed(alloc, Lead::Written(address), hash)
         }
-        Some(target) => number_name(alloc, tables, local, target, names, name),
-        None => names.number(alloc, Lead::Remote(address)),
+        KnownName::Mailbox(hash) => {
+            number_name(alloc, tables, local, KnownName::Mailbox(hash), names, name)
+        }
+        KnownName::Missing(hash) => {
+            number_name(alloc, tables, local, KnownName::Missing(hash), names, name)
+        }
+        KnownName::Remote(hash) => names.number_hashed(alloc, Lead::Remote(address), hash),
+        KnownName::Unsought => names.number(alloc, Lead::Remote(address)),
     }
 }
 
 /// The number of what an item leads to, by what is found for it.
+#[inline(always)]
 pub(crate) fn number_item(
     alloc: Global,
     tables: &Tables,
     item: &Item,
-    found: Option<Target>,
+    found: KnownName,
     names: &mut Numbering,
     name: &mut Vec<u8>,
 ) -> Result<u32, TableFault>
     requires item { IsTrue (is_good_item item.now) }
+    requires hash { HasHash names.old.key found (item_node tables.now item.now found) }
     ensures number { IfOk result (λ number. slice_get names.new.nodes number ≡ Some (item_node tables.now item.now found)) }
     ensures numbers { Numbers names.old (item_node tables.now item.now found ∷ []) result names.new }
 {
     match item {
-        Item::Bare(local) => {
-            let target = found.unwrap_or(Target::Missing);
-            number_name(alloc, tables, local.as_bytes(), target, names, name)
-        }
+        Item::Bare(local) => number_name(alloc, tables, local.as_bytes(), found, names, name),
         Item::Full(address) => number_address(alloc, tables, address, found, names, name),
         Item::Include(path) => {
             let lead = lead_included(tables, path.as_bytes());

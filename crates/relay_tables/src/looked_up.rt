@@ -1,21 +1,23 @@
 //! Tables and the recipients of an envelope whose names are looked up before their nodes are numbered.
+use crate::known_name::KnownName;
 use crate::tables::Tables;
-use crate::target::Target;
 use relay_text::Address;
 use std::marker::Model;
 
 /// The tables and an envelope's recipients, and what is found for the first items and the first recipients, 8 bytes for each, which may be
 /// none of them: the others are looked up when they are numbered.
 ///
-/// Nodes are numbered one after another, but what their names stand for may be looked up before, by several threads.
+/// Nodes are numbered one after another, but what their names stand for may be looked up before, by several threads, and the hashes under
+/// which nodes are found are made by these too.
 ///
 /// Contracts see it as the tables and recipients.
 #[derive(Drop)]
 pub struct LookedUp<'a> {
     tables: &'a Tables,
     recipients: &'a [Address],
-    items: Vec<Option<Target>>,
-    roots: Vec<Option<Target>>,
+    key: u64,
+    items: Vec<KnownName>,
+    roots: Vec<KnownName>,
 }
 
 impl<'a> Model for LookedUp<'a> {
@@ -25,7 +27,7 @@ impl<'a> Model for LookedUp<'a> {
 
     ghost view = { λ a. record { tables = a.tables.now; recipients = a.recipients.now } };
 
-    ghost invariant = { λ a. AreLookedUp a.tables.now a.recipients.now a.items.items a.roots.items };
+    ghost invariant = { λ a. AreLookedUp a.tables.now a.key a.recipients.now a.items.items a.roots.items };
 }
 
 ghost use Rattle.std.specs.Prelude.{◌≡◌, ◌<◌, ◌≤◌, ◌^◌, length, IfOk, OnOk, Err};
@@ -34,6 +36,7 @@ ghost use Rattle.relay_tables.specs.Building.{AreRows};
 
 use crate::building::{Rows, item_count, number_all};
 use crate::fault::TableFault;
+use crate::first_found::FirstFound;
 use crate::sharing::first_found;
 use crate::sought_items::SoughtItems;
 use crate::sought_recipients::SoughtRecipients;
@@ -48,6 +51,7 @@ impl<'a> LookedUp<'a> {
         LookedUp {
             tables,
             recipients,
+            key: tables.key(),
             items: Vec::new(alloc),
             roots: Vec::new(alloc),
         }
@@ -64,11 +68,17 @@ impl<'a> LookedUp<'a> {
     ) -> Result<LookedUp<'a>, AllocError>
         ensures { IfOk result (λ looked_up. looked_up ≡ record { tables = tables.now; recipients = recipients.now }) }
     {
-        let items = SoughtItems { tables };
-        let roots = SoughtRecipients { tables, recipients };
+        let key = tables.key();
+        let items = SoughtItems { tables, key };
+        let roots = SoughtRecipients {
+            tables,
+            key,
+            recipients,
+        };
         Ok(LookedUp {
             tables,
             recipients,
+            key,
             items: first_found(rt, alloc, workers, &items, item_count(tables))?,
             roots: first_found(rt, alloc, workers, &roots, recipients.len())?,
         })
@@ -90,8 +100,11 @@ impl<'a> LookedUp<'a> {
         ensures full { result ≡ Err TableFault.TooManyNames → names < length (nodes_of self.entry.tables self.entry.recipients) }
         ensures owners { result ≡ Err TableFault.TooManyOwners → ⊥ }
     {
-        let items = self.items.as_slice();
-        let roots = self.roots.as_slice();
-        number_all(alloc, self.tables, self.recipients, items, roots, names)
+        let found = FirstFound {
+            key: self.key,
+            items: self.items.as_slice(),
+            recipients: self.roots.as_slice(),
+        };
+        number_all(alloc, self.tables, self.recipients, found, names)
     }
 }

@@ -1,11 +1,13 @@
-//! What names stand for, before there are nodes.
+//! What names stand for, and the hashes under which nodes are found, before there are nodes.
 ghost use Rattle.std.specs.Prelude.{◌≡◌, ◌<◌, false, length, IfOk, OnOk, IfSome};
 ghost use Rattle.relay_text.specs.Bytes.{folded};
-ghost use Rattle.relay_tables.specs.Looking.{name_found, address_found, item_found};
+ghost use Rattle.relay_tables.specs.Looking.{known_as, name_found, address_found, item_found};
 
+use crate::known_name::KnownName;
 use crate::tables::Tables;
 use crate::target::Target;
 use relay_aliasfile::Item;
+use relay_chains::hash_text;
 use relay_text::{Address, fold};
 use std::alloc::AllocError;
 
@@ -27,56 +29,66 @@ pub(crate) fn write_folded(local: &[u8], name: &mut Vec<u8>) -> Result<(), Alloc
     Ok(())
 }
 
+// What is known of a folded name that stands for a target.
+fn known_as(key: u64, name: &[u8], target: Target) -> KnownName
+    ensures { result ≡ known_as key name.now target }
+{
+    match target {
+        Target::Alias(number) => KnownName::Alias(number),
+        Target::Mailbox => KnownName::Mailbox(hash_text(key, name)),
+        Target::Missing => KnownName::Missing(hash_text(key, name)),
+    }
+}
+
 // What a local name stands for in a parent; its folded name goes into `name` where that's another.
-fn target_of_name(
+fn known_of_name(
     tables: &Tables,
+    key: u64,
     local: &[u8],
     parent: Option<u32>,
     name: &mut Vec<u8>,
-) -> Result<Target, AllocError>
+) -> Result<KnownName, AllocError>
     requires { IfSome parent (λ number. number < length tables.now.aliases) }
-    ensures { IfOk result (λ target. target ≡ name_found tables.now parent local.now) }
+    ensures { IfOk result (λ known. known ≡ name_found tables.now key parent local.now) }
 {
     if !has_capitals(local) {
-        return Ok(tables.resolve(local, parent));
+        return Ok(known_as(key, local, tables.resolve(local, parent)));
     }
     write_folded(local, name)?;
-    Ok(tables.resolve(name, parent))
+    Ok(known_as(key, name, tables.resolve(name, parent)))
 }
 
-/// What an address stands for in a parent; nothing where it isn't local. `Err` where memory runs out.
-pub(crate) fn target_of_address(
+/// What an address stands for in a parent, and the hash of its node under a key. `Err` where memory runs out.
+pub(crate) fn known_of_address(
     tables: &Tables,
+    key: u64,
     address: &Address,
     parent: Option<u32>,
     name: &mut Vec<u8>,
-) -> Result<Option<Target>, AllocError>
+) -> Result<KnownName, AllocError>
     requires { IfSome parent (λ number. number < length tables.now.aliases) }
-    ensures { IfOk result (λ found. found ≡ address_found tables.now parent address.now) }
+    ensures { IfOk result (λ known. known ≡ address_found tables.now key parent address.now) }
 {
     if !tables.is_local(address) {
-        return Ok(None);
+        return Ok(KnownName::Remote(hash_text(key, address.joined())));
     }
-    let target = target_of_name(tables, address.local(), parent, name)?;
-    Ok(Some(target))
+    known_of_name(tables, key, address.local(), parent, name)
 }
 
-/// What an item stands for in a parent; nothing where it's no local name. `Err` where memory runs out.
-pub(crate) fn target_of_item(
+/// What an item stands for in a parent, and the hash of its node under a key. `Err` where memory runs out.
+pub(crate) fn known_of_item(
     tables: &Tables,
+    key: u64,
     item: &Item,
     parent: Option<u32>,
     name: &mut Vec<u8>,
-) -> Result<Option<Target>, AllocError>
+) -> Result<KnownName, AllocError>
     requires { IfSome parent (λ number. number < length tables.now.aliases) }
-    ensures { IfOk result (λ found. found ≡ item_found tables.now parent item.now) }
+    ensures { IfOk result (λ known. known ≡ item_found tables.now key parent item.now) }
 {
     match item {
-        Item::Bare(local) => {
-            let target = target_of_name(tables, local.as_bytes(), parent, name)?;
-            Ok(Some(target))
-        }
-        Item::Full(address) => target_of_address(tables, address, parent, name),
-        Item::Include(_) | Item::Command(_) | Item::File(_) => Ok(None),
+        Item::Bare(local) => known_of_name(tables, key, local.as_bytes(), parent, name),
+        Item::Full(address) => known_of_address(tables, key, address, parent, name),
+        Item::Include(_) | Item::Command(_) | Item::File(_) => Ok(KnownName::Unsought),
     }
 }

@@ -1,7 +1,7 @@
 //! Nodes by their numbers.
 ghost use Rattle.std.specs.Prelude.{◌≡◌, ◌<◌, ◌≤◌, ◌+◌, ◌-◌, ◌^◌, ◌∷◌, ◌++◌, [], length, slice_get, Some, None, IfOk, IfSome, OnOk, OnErr, Err};
 ghost use Rattle.relay_tables.specs.declared.node.Node.TheVariants.{Alias, Include};
-ghost use Rattle.relay_tables.specs.Numbering.{node_of, entries_of, with_all, with_nodes, Numbers, HasGoodAddress, IsBehind};
+ghost use Rattle.relay_tables.specs.Numbering.{node_of, node_hash, entries_of, with_all, with_nodes, Numbers, HasGoodAddress, IsBehind};
 
 use crate::fault::TableFault;
 use crate::finding::{lead_hash, place_of};
@@ -31,14 +31,14 @@ impl Model for Numbering {
 
     ghost Value = { Numbered };
 
-    ghost view = { λ a. record { nodes = a.nodes.items; aliases = a.aliases; includes = a.includes; limit = a.limit } };
+    ghost view = { λ a. record { nodes = a.nodes.items; aliases = a.aliases; includes = a.includes; limit = a.limit; key = a.key } };
 
     ghost invariant = { λ a. AreNumbered a.nodes.items a.aliases a.includes a.limit a.key a.links };
 }
 
 impl Numbering {
-    /// So many aliases and so many include files in front, and at most `limit` nodes ever, found under a key. Take about as many heads as
-    /// other nodes are expected: there is room for so many of them, so that none is copied when more come.
+    /// So many aliases and so many include files in front, and at most `limit` nodes ever, found under a key. Take twice as many heads
+    /// as other nodes are expected: there is room for these, so that none is copied and no head is made anew when they come.
     pub(crate) fn new(
         alloc: Global,
         key: u64,
@@ -49,7 +49,7 @@ impl Numbering {
     ) -> Result<Numbering, TableFault>
         requires heads { 1 ≤ heads }
         requires limit { limit ≤ 2 ^ 24 }
-        ensures made { IfOk result (λ s. s ≡ record { nodes = entries_of aliases includes; aliases = aliases; includes = includes; limit = limit }) }
+        ensures made { IfOk result (λ s. s ≡ record { nodes = entries_of aliases includes; aliases = aliases; includes = includes; limit = limit; key = key }) }
         ensures full { result ≡ Err TableFault.TooManyNames → limit < aliases + includes }
         ensures owners { result ≡ Err TableFault.TooManyOwners → ⊥ }
     {
@@ -57,7 +57,7 @@ impl Numbering {
             return Err(TableFault::TooManyNames);
         }
         let links = Links::new(alloc, heads)?;
-        let expected = heads.min(limit - aliases - includes);
+        let expected = (heads / 2).min(limit - aliases - includes);
         let nodes = nodes_in_front(alloc, aliases, includes, expected)?;
         Ok(Numbering {
             nodes,
@@ -70,6 +70,7 @@ impl Numbering {
     }
 
     /// The number of a node. A new one gets the next number, where there is room for it.
+    #[inline(always)]
     pub(crate) fn number(&mut self, alloc: Global, lead: Lead<'_>) -> Result<u32, TableFault>
         requires { HasGoodAddress (node_of lead) }
         ensures number { IfOk result (λ number. slice_get self.new.nodes number ≡ Some (node_of lead.entry)) }
@@ -77,11 +78,41 @@ impl Numbering {
     {
         match self.number_in_front(lead) {
             Some(number) => Ok(number),
-            None => self.number_behind(alloc, lead),
+            None => {
+                let hash = lead_hash(self.key(), lead);
+                self.number_behind(alloc, lead, hash)
+            }
         }
     }
 
+    /// The same where its hash is known.
+    #[inline(always)]
+    pub(crate) fn number_hashed(
+        &mut self,
+        alloc: Global,
+        lead: Lead<'_>,
+        hash: u32,
+    ) -> Result<u32, TableFault>
+        requires good { HasGoodAddress (node_of lead) }
+        requires hash { hash ≡ node_hash self.old.key (node_of lead) }
+        ensures number { IfOk result (λ number. slice_get self.new.nodes number ≡ Some (node_of lead.entry)) }
+        ensures numbers { Numbers self.old (node_of lead.entry ∷ []) result self.new }
+    {
+        match self.number_in_front(lead) {
+            Some(number) => Ok(number),
+            None => self.number_behind(alloc, lead, hash),
+        }
+    }
+
+    /// The key under which nodes are found.
+    pub(crate) fn key(&self) -> u64
+        ensures { result ≡ self.now.key }
+    {
+        self.key
+    }
+
     // The number of an entry that stands in front.
+    #[inline(always)]
     fn number_in_front(&self, lead: Lead<'_>) -> Option<u32>
         ensures found { IfSome result (λ number. slice_get self.now.nodes number ≡ Some (node_of lead.entry)) }
         ensures behind { result ≡ None → IsBehind self.now (node_of lead.entry) }
@@ -105,14 +136,15 @@ impl Numbering {
         }
     }
 
-    // The number of a node that is none of these.
-    fn number_behind(&mut self, alloc: Global, lead: Lead<'_>) -> Result<u32, TableFault>
+    // The number of a node that is none of these, by its hash.
+    #[inline(always)]
+    fn number_behind(&mut self, alloc: Global, lead: Lead<'_>, hash: u32) -> Result<u32, TableFault>
         requires good { HasGoodAddress (node_of lead) }
         requires behind { IsBehind self.old (node_of lead) }
+        requires hash { hash ≡ node_hash self.old.key (node_of lead) }
         ensures number { IfOk result (λ number. slice_get self.new.nodes number ≡ Some (node_of lead.entry)) }
         ensures numbers { Numbers self.old (node_of lead.entry ∷ []) result self.new }
     {
-        let hash = lead_hash(self.key, lead);
         let entries = self.aliases + self.includes;
         let behind = &self.nodes[entries..];
         if let Some(place) = place_of(behind, &self.links, self.key, hash, lead) {

@@ -71,9 +71,10 @@ fn reach_roots(
     ensures full { result ≡ Err TableFault.TooManyNames → names < length (nodes_of tables.now recipients.now) }
     ensures owners { result ≡ Err TableFault.TooManyOwners → ⊥ }
 {
-    let heads = recipients.len().max(FEW);
+    let targets = recipients.len().max(FEW);
+    let heads = targets.saturating_mul(2);
     let mut numbering = Numbering::new(alloc, tables.key(), 0, 0, heads, names)?;
-    let mut scratch = Scratch::new(alloc, heads);
+    let mut scratch = Scratch::new(alloc, targets);
     let roots = number_recipients(alloc, tables, recipients, &[], &mut numbering, &mut scratch)?;
     let owners = Vec::new(alloc);
     Ok(Reach {

@@ -11,12 +11,12 @@ ghost use Rattle.relay_tables.specs.Rowing.{nodes_in, some_of, LeadTo};
 use crate::adjacency::Adjacency;
 use crate::ahead::Ahead;
 use crate::fault::TableFault;
+use crate::known_name::KnownName;
 use crate::leading::{number_address, number_item};
 use crate::listed::{Listed, entry_count, list_of};
-use crate::looking::{target_of_address, target_of_item};
+use crate::looking::{known_of_address, known_of_item};
 use crate::numbering::Numbering;
 use crate::tables::Tables;
-use crate::target::Target;
 use relay_aliasfile::Item;
 use relay_text::Address;
 use std::alloc::{AllocError, Global};
@@ -40,39 +40,49 @@ impl Scratch {
     }
 }
 
-// What is found for an item: what stands in its place, or what is looked up now.
-fn item_found_at(
+// What is found in a place, where that was looked up.
+fn known_at(found: &[KnownName], place: usize) -> Option<KnownName>
+    ensures { result ≡ slice_get found.now place }
+{
+    match found.get(place) {
+        Some(known) => Some(*known),
+        None => None,
+    }
+}
+
+// What is found for an item: what is known of it, or what is looked up now.
+fn item_known(
     tables: &Tables,
-    found: &[Option<Target>],
-    place: usize,
+    key: u64,
+    known: Option<KnownName>,
     item: &Item,
     parent: Option<u32>,
     name: &mut Vec<u8>,
-) -> Result<Option<Target>, AllocError>
+) -> Result<KnownName, AllocError>
     requires parent { IfSome parent (λ number. number < length tables.now.aliases) }
-    requires found { IfSome (slice_get found.now place) (λ target. target ≡ item_found tables.now parent item.now) }
-    ensures { IfOk result (λ target. target ≡ item_found tables.now parent item.now) }
+    requires known { IfSome known (λ found. found ≡ item_found tables.now key parent item.now) }
+    ensures { IfOk result (λ found. found ≡ item_found tables.now key parent item.now) }
 {
-    match found.get(place) {
-        Some(target) => Ok(*target),
-        None => target_of_item(tables, item, parent, name),
+    match known {
+        Some(known) => Ok(known),
+        None => known_of_item(tables, key, item, parent, name),
     }
 }
 
 // The same for a recipient.
-fn recipient_found_at(
+fn recipient_known(
     tables: &Tables,
-    found: &[Option<Target>],
-    place: usize,
+    key: u64,
+    known: Option<KnownName>,
     address: &Address,
     name: &mut Vec<u8>,
-) -> Result<Option<Target>, AllocError>
-    requires found { IfSome (slice_get found.now place) (λ target. target ≡ recipient_found tables.now address.now) }
-    ensures { IfOk result (λ target. target ≡ recipient_found tables.now address.now) }
+) -> Result<KnownName, AllocError>
+    requires known { IfSome known (λ found. found ≡ recipient_found tables.now key address.now) }
+    ensures { IfOk result (λ found. found ≡ recipient_found tables.now key address.now) }
 {
-    match found.get(place) {
-        Some(target) => Ok(*target),
-        None => target_of_address(tables, address, None, name),
+    match known {
+        Some(known) => Ok(known),
+        None => known_of_address(tables, key, address, None, name),
     }
 }
 
@@ -82,25 +92,27 @@ pub(crate) fn number_items(
     alloc: Global,
     tables: &Tables,
     list: Listed<'_>,
-    found: &[Option<Target>],
+    found: &[KnownName],
     names: &mut Numbering,
     scratch: &mut Scratch,
 ) -> Result<(), TableFault>
     requires items { IsTrue (list_all is_good_item list.items.now) }
     requires parent { IfSome list.parent (λ number. number < length tables.now.aliases) }
-    requires found { AreFirst found.now (map (item_found tables.now list.parent) list.items.now) }
+    requires found { AreFirst found.now (map (item_found tables.now names.old.key list.parent) list.items.now) }
     ensures row { OnOk result (nodes_in names.new.nodes scratch.new.row.items ≡ some_of (map (item_target tables.now list.entry.parent) list.entry.items.now)) }
     ensures numbers { Numbers names.old (map (item_target tables.now list.entry.parent) list.entry.items.now) result names.new }
 {
     let Listed { items, parent } = list;
+    let key = names.key();
     scratch.row.clear();
     for item in items {
         let start = scratch.row.len();
         scratch
             .ahead
             .read_items(tables, Some(names), items, found, start);
-        let target = item_found_at(tables, found, start, item, parent, &mut scratch.name)?;
-        let number = number_item(alloc, tables, item, target, names, &mut scratch.name)?;
+        let known = known_at(found, start);
+        let known = item_known(tables, key, known, item, parent, &mut scratch.name)?;
+        let number = number_item(alloc, tables, item, known, names, &mut scratch.name)?;
         scratch.row.push(number)?;
     }
     Ok(())
@@ -111,14 +123,14 @@ pub(crate) fn number_items(
 pub(crate) fn number_entries(
     alloc: Global,
     tables: &Tables,
-    found: &[Option<Target>],
+    found: &[KnownName],
     names: &mut Numbering,
     scratch: &mut Scratch,
     rows: &mut Adjacency,
 ) -> Result<(), TableFault>
     requires none { rows.old ≡ [] }
     requires few { length tables.now.aliases + length tables.now.includes ≤ 2 ^ 24 }
-    requires found { AreFirst found.now (found_from tables.now 0) }
+    requires found { AreFirst found.now (found_from tables.now names.old.key 0) }
     ensures rows { OnOk result (LeadTo names.new.nodes rows.new (map (targets_of tables.now) (entry_nodes tables.now))) }
     ensures numbers { Numbers names.old (flat_map (targets_of tables.now) (entry_nodes tables.now)) result names.new }
 {
@@ -141,22 +153,24 @@ pub(crate) fn number_recipients(
     alloc: Global,
     tables: &Tables,
     recipients: &[Address],
-    found: &[Option<Target>],
+    found: &[KnownName],
     names: &mut Numbering,
     scratch: &mut Scratch,
 ) -> Result<Vec<u32>, TableFault>
-    requires found { AreFirst found.now (map (recipient_found tables.now) recipients.now) }
+    requires found { AreFirst found.now (map (recipient_found tables.now names.old.key) recipients.now) }
     ensures roots { IfOk result (λ roots. nodes_in names.new.nodes roots.items ≡ some_of (map (recipient_target tables.now) recipients.now)) }
     ensures numbers { Numbers names.old (map (recipient_target tables.now) recipients.now) result names.new }
 {
+    let key = names.key();
     let mut roots = Vec::with_capacity(alloc, recipients.len())?;
     for address in recipients {
         let start = roots.len();
         scratch
             .ahead
             .read_recipients(tables, Some(names), recipients, found, start);
-        let target = recipient_found_at(tables, found, start, address, &mut scratch.name)?;
-        let number = number_address(alloc, tables, address, target, names, &mut scratch.name)?;
+        let known = known_at(found, start);
+        let known = recipient_known(tables, key, known, address, &mut scratch.name)?;
+        let number = number_address(alloc, tables, address, known, names, &mut scratch.name)?;
         roots.push_reserved(number);
     }
     Ok(roots)

@@ -3,8 +3,8 @@ ghost use Rattle.std.specs.Prelude.{◌≡◌, ◌+◌, ◌<◌, ◌^◌, take, 
 ghost use Rattle.std.specs.Thread.{IsSync};
 ghost use Rattle.relay_tables.specs.Looking.{AreFirst};
 
+use crate::known_name::KnownName;
 use crate::sought::Sought;
-use crate::target::Target;
 use std::alloc::{AllocError, Global};
 use std::thread::{Threads, join};
 
@@ -19,7 +19,7 @@ pub(crate) fn first_found<R: Threads + Sync, S: Sought>(
     workers: usize,
     sought: &S,
     count: usize,
-) -> Result<Vec<Option<Target>>, AllocError>
+) -> Result<Vec<KnownName>, AllocError>
     ensures { IfOk result (λ found. AreFirst found.items (S.all_found sought.now)) }
 {
     let threads = workers.min(count / LEAST);
@@ -39,7 +39,7 @@ fn found_by<R: Threads + Sync, S: Sought>(
     sought: &S,
     start: usize,
     count: usize,
-) -> Result<Vec<Option<Target>>, AllocError>
+) -> Result<Vec<KnownName>, AllocError>
     requires room { start + count < 2 ^ 64 }
     ensures { IfOk result (λ found. found.items ≡ take count (drop start (S.all_found sought.now))) }
 {
@@ -52,11 +52,11 @@ fn found_by<R: Threads + Sync, S: Sought>(
     let others = threads - 1;
     let (there, here) = join(
         rt,
-        || -> Result<Vec<Option<Target>>, AllocError>
+        || -> Result<Vec<KnownName>, AllocError>
             requires { IsSync S.row }
             ensures { IfOk result (λ found. found.items ≡ take share (drop last (S.all_found sought.entry.now))) }
         { sought.part_found(alloc, last, share) },
-        || -> Result<Vec<Option<Target>>, AllocError>
+        || -> Result<Vec<KnownName>, AllocError>
             requires { IsSync R.row × IsSync S.row × (start + rest < 2 ^ 64) }
             ensures { IfOk result (λ found. found.items ≡ take rest (drop start (S.all_found sought.entry.now))) }
         { found_by(rt, alloc, others, sought, start, rest) },

@@ -1,13 +1,13 @@
 //! What is looked up in parts.
-ghost use Rattle.std.specs.Prelude.{◌≡◌, List, Option, take, drop, IfOk};
-ghost use Rattle.relay_tables.specs.declared.target.Target.{Target};
+ghost use Rattle.std.specs.Prelude.{◌≡◌, List, take, drop, IfOk};
+ghost use Rattle.relay_tables.specs.declared.known_name.KnownName.{KnownName};
 
-use crate::target::Target;
+use crate::known_name::KnownName;
 use std::alloc::{AllocError, Global};
 
 /// Items or addresses in a list, which are looked up in parts, from whatever thread.
 pub(crate) trait Sought: Sync {
-    ghost all_found: { Self → List (Option Target) };
+    ghost all_found: { Self → List KnownName };
 
     /// What is found for a part of it: from a place on, so much of it at most. `Err` where memory runs out.
     fn part_found(
@@ -15,7 +15,7 @@ pub(crate) trait Sought: Sync {
         alloc: Global,
         start: usize,
         most: usize,
-    ) -> Result<Vec<Option<Target>>, AllocError>
+    ) -> Result<Vec<KnownName>, AllocError>
         ensures { IfOk result (λ found. found.items ≡ take most (drop start (all_found self.now))) };
 }
 

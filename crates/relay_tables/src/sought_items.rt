@@ -1,20 +1,21 @@
 //! The items of tables, as they are looked up.
 use crate::tables::Tables;
 
-/// The items of all aliases and then of all include files, in order.
+/// The items of all aliases and then of all include files, in order, whose nodes are found under a key.
 #[derive(Drop)]
 pub(crate) struct SoughtItems<'a> {
     pub(crate) tables: &'a Tables,
+    pub(crate) key: u64,
 }
 
-ghost use Rattle.std.specs.Prelude.{◌≡◌, ◌<◌, ◌≤◌, ◌+◌, ◌++◌, length, map, take, drop, IfOk, OnOk, IfSome};
+ghost use Rattle.std.specs.Prelude.{◌≡◌, ◌<◌, ◌≤◌, ◌+◌, ◌++◌, ℕ, length, map, take, drop, IfOk, OnOk, IfSome};
 ghost use Rattle.relay_tables.specs.Looking.{item_found, found_from};
 
 use crate::ahead::Ahead;
+use crate::known_name::KnownName;
 use crate::listed::{Listed, entry_count, list_of};
-use crate::looking::target_of_item;
+use crate::looking::known_of_item;
 use crate::sought::{Sought, part_of};
-use crate::target::Target;
 use std::alloc::{AllocError, Global};
 
 // An item, by the number of its entry and its place there.
@@ -27,7 +28,7 @@ struct Place {
 // The place of an item among those of all entries.
 fn place_of(tables: &Tables, number: usize) -> Place
     ensures within { result.entry ≤ length tables.now.aliases + length tables.now.includes }
-    ensures rest { drop result.item (found_from tables.now result.entry) ≡ drop number (found_from tables.now 0) }
+    ensures rest { (key : ℕ) → drop result.item (found_from tables.now key result.entry) ≡ drop number (found_from tables.now key 0) }
 {
     let entries = entry_count(tables);
     let mut item = number;
@@ -47,19 +48,20 @@ fn place_of(tables: &Tables, number: usize) -> Place
 // Puts what is found for items behind what was found before.
 fn find_items(
     tables: &Tables,
+    key: u64,
     list: Listed<'_>,
-    found: &mut Vec<Option<Target>>,
+    found: &mut Vec<KnownName>,
     name: &mut Vec<u8>,
     ahead: &mut Ahead,
 ) -> Result<(), AllocError>
     requires parent { IfSome list.parent (λ number. number < length tables.now.aliases) }
-    ensures found { OnOk result (found.new.items ≡ found.old.items ++ map (item_found tables.now list.entry.parent) list.entry.items.now) }
+    ensures found { OnOk result (found.new.items ≡ found.old.items ++ map (item_found tables.now key list.entry.parent) list.entry.items.now) }
 {
     let Listed { items, parent } = list;
     for (place, item) in items.iter().enumerate() {
         ahead.read_items(tables, None, items, &[], place);
-        let target = target_of_item(tables, item, parent, name)?;
-        found.push(target)?;
+        let known = known_of_item(tables, key, item, parent, name)?;
+        found.push(known)?;
     }
     Ok(())
 }
@@ -68,10 +70,11 @@ fn find_items(
 fn items_found(
     alloc: Global,
     tables: &Tables,
+    key: u64,
     start: usize,
     most: usize,
-) -> Result<Vec<Option<Target>>, AllocError>
-    ensures { IfOk result (λ found. found.items ≡ take most (drop start (found_from tables.now 0))) }
+) -> Result<Vec<KnownName>, AllocError>
+    ensures { IfOk result (λ found. found.items ≡ take most (drop start (found_from tables.now key 0))) }
 {
     let Place { entry: first, item } = place_of(tables, start);
     let mut found = Vec::with_capacity(alloc, most)?;
@@ -90,7 +93,7 @@ fn items_found(
             items: part,
             parent,
         };
-        find_items(tables, list, &mut found, &mut name, &mut ahead)?;
+        find_items(tables, key, list, &mut found, &mut name, &mut ahead)?;
         passed = passed.saturating_sub(items.len());
         left -= part.len();
     }
@@ -100,14 +103,14 @@ fn items_found(
 impl Sought for SoughtItems<'_> {
     ghost use Rattle.relay_tables.specs.Looking.{found_from};
 
-    ghost all_found = { λ s. found_from s.tables.now 0 };
+    ghost all_found = { λ s. found_from s.tables.now s.key 0 };
 
     fn part_found(
         &self,
         alloc: Global,
         start: usize,
         most: usize,
-    ) -> Result<Vec<Option<Target>>, AllocError> {
-        items_found(alloc, self.tables, start, most)
+    ) -> Result<Vec<KnownName>, AllocError> {
+        items_found(alloc, self.tables, self.key, start, most)
     }
 }

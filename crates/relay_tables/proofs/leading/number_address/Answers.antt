@@ -1,5 +1,8 @@
 use Rattle.relay_tables.proofs.LocalParts.{is_local_part-address}
 use Rattle.relay_tables.proofs.leading.number_address.Goals as goal
 
-pub number_name-requires : goal.number_name-requires
-number_name-requires c = record { local = rw c.local-local.ensures.value (is_local_part-address c.args.address.now c.local-local.ensures.valid) }
+pub number_name-requires-clause-local : goal.number_name-requires-clause-local
+number_name-requires-clause-local c = rw c.local-local.ensures.value (is_local_part-address c.args.address.now c.local-local.ensures.valid)
+
+pub number_name-requires-in-Missing-clause-local : goal.number_name-requires-in-Missing-clause-local
+number_name-requires-in-Missing-clause-local c = rw c.local-local.ensures.value (is_local_part-address c.args.address.now c.local-local.ensures.valid)

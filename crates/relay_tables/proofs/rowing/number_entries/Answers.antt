@@ -1,9 +1,9 @@
-use Rattle.std.proofs.Common.{arith, ◌≡◌, ◌+◌, List, length, map, take, drop, Option, sym, ap, ◌∙◌, subst}
+use Rattle.std.proofs.Common.{arith, ◌≡◌, ℕ, ◌+◌, List, length, map, take, drop, sym, ap, ◌∙◌, subst}
 use Rattle.std.specs.List.{flat_map}
 use Rattle.std.proofs.lemmas.List.{length_push, take_all}
 use Rattle.std.proofs.lemmas.Result.{err_from_is_err_and}
 use Rattle.relay_tables.specs.declared.node.Node.{Node}
-use Rattle.relay_tables.specs.declared.target.Target.{Target}
+use Rattle.relay_tables.specs.declared.known_name.KnownName.{KnownName}
 use Rattle.relay_tables.specs.Targets.{item_target, targets_of}
 use Rattle.relay_tables.specs.Graphs.{entry_nodes}
 use Rattle.relay_tables.specs.Looking.{item_found, found_from, AreFirst}
@@ -27,8 +27,10 @@ number_items-requires-clause-found c =
     let l = c.loop-number in
     let d = c.args.tables.now in
     let list = c.list_of-list.result in
-    let cut = entry_cut d l.number list.parent list.items.now l.rest.now c.min.result c.list_of-list.ensures.found c.min.ensures l.invariant.found in
-    subst (λ (found : List (Option Target)). AreFirst found (map (item_found d list.parent) list.items.now)) (sym c.split_at.ensures.front) cut.0
+    let cut = entry_cut d c.args.names.now.key l.number list.parent list.items.now l.rest.now c.min.result (c.list_of-list.ensures.found c.args.names.now.key) c.min.ensures l.invariant.found in
+    let own : l.names.key ≡ c.args.names.now.key = ap (λ (m : Numbered). m.key) l.invariant.names in
+    subst (λ (key : ℕ). AreFirst c.split_at.result.0.now (map (item_found d key list.parent) list.items.now)) (sym own)
+    (subst (λ (found : List KnownName). AreFirst found (map (item_found d c.args.names.now.key list.parent) list.items.now)) (sym c.split_at.ensures.front) cut.0)
 
 pub returns-in_err-number_items-clause-numbers : goal.returns-in_err-number_items-clause-numbers
 returns-in_err-number_items-clause-numbers c =
@@ -57,11 +59,11 @@ loop-number-preserved c =
     let new = c.number_items.new.names in
     let step : new ≡ with_all l.names ts = c.in_ok-number_items.ensures.numbers in
     let row : nodes_in new.nodes c.deref.result.now ≡ some_of ts = ap (nodes_in new.nodes) c.deref.ensures.value ∙ c.in_ok-number_items.ensures.row in
-    let cut = entry_cut d k list.parent list.items.now l.rest.now c.min.result c.list_of-list.ensures.found c.min.ensures l.invariant.found in
+    let cut = entry_cut d c.args.names.now.key k list.parent list.items.now l.rest.now c.min.result (c.list_of-list.ensures.found c.args.names.now.key) c.min.ensures l.invariant.found in
     record {
       count = omega (arith, l.invariant.count, ap length c.in_ok-push.ensures.ok, length_push l.rows c.deref.result.now);
       names = with_all-more c.args.names.now l.names new (flat_map (targets_of d) (take k (entry_nodes d))) ts (flat_map (targets_of d) (take (k + 1) (entry_nodes d))) l.invariant.names step (targets_more d k ts at);
-      found = subst (λ (found : List (Option Target)). AreFirst found (found_from d (k + 1))) (sym c.split_at.ensures.back) cut.1;
+      found = subst (λ (found : List KnownName). AreFirst found (found_from d c.args.names.now.key (k + 1))) (sym c.split_at.ensures.back) cut.1;
       rows = ap (map (nodes_in new.nodes)) c.in_ok-push.ensures.ok
           ∙ rows_push l.names.nodes new.nodes l.rows (map (targets_of d) (take k (entry_nodes d))) c.deref.result.now ts l.invariant.rows (ap (λ (m : Numbered). m.nodes) step) row
           ∙ ap (map some_of) (sym (rows_more d k ts at));

@@ -11,6 +11,6 @@ abbrev pub invariant-loop-number : goal.invariant-loop-number
 invariant-loop-number l = record {
   count : length l.rows ≡ l.number;
   names : l.names ≡ with_all l.initial.names (flat_map (targets_of l.tables) (take l.number (entry_nodes l.tables)));
-  found : AreFirst l.rest (found_from l.tables l.number);
+  found : AreFirst l.rest (found_from l.tables l.initial.names.key l.number);
   rows : LeadTo l.names.nodes l.rows (map (targets_of l.tables) (take l.number (entry_nodes l.tables)));
 }

@@ -2,7 +2,7 @@ use Rattle.std.proofs.Common.{rules, arith, ◌≡◌, ℕ, ◌+◌, ◌-◌, So
 use Rattle.std.proofs.lemmas.List.{length_push, length-drop, take_all}
 use Rattle.relay_tables.specs.declared.node.Node.{Node}
 use Rattle.relay_tables.specs.Graphs.{same_node}
-use Rattle.relay_tables.specs.Numbering.{Numbered, node_of, behind_of, with_nodes}
+use Rattle.relay_tables.specs.Numbering.{Numbered, node_of, node_hash, behind_of, with_nodes}
 use Rattle.relay_tables.proofs.Numbers.{entries_within, found, there_stays, new_grows, new_numbered, last_is}
 use Rattle.relay_tables.proofs.numbering.Numbering.number_behind.Goals as goal
 
@@ -38,7 +38,7 @@ returns-in-Some-clause-numbers c =
     ∙ ap (position (same_node n)) (sym (all_behind (i.aliases + i.includes) c.deref.result.now)) ∙ sym c.in-Some.ensures in
     let at = found i.nodes.items i.aliases i.includes i.limit i.key i.links c.self.invariant n c.in-Some.place there in
     let stays = there_stays i.nodes.items (i.aliases + i.includes + c.in-Some.place) n at.1 in
-    let viewed : List Node → Numbered = λ ns. record { nodes = ns; aliases = i.aliases; includes = i.includes; limit = i.limit } in
+    let viewed : List Node → Numbered = λ ns. record { nodes = ns; aliases = i.aliases; includes = i.includes; limit = i.limit; key = i.key } in
     rw (← c.self.view_is) (ap viewed (sym stays))
 
 pub returns-then-number-self-clause-numbers : goal.returns-then-number-self-clause-numbers
@@ -59,7 +59,8 @@ pub invariant_of-self-2 : goal.invariant_of-self-2
 invariant_of-self-2 c =
     let i = c.self.inside in
     let more : length i.nodes.items ≡ i.limit → ⊥ = λ full. c.if-number-self.false (omega (arith, i.nodes.ok.0)) in
-    rw (c.in_ok-push_node.ensures.nodes, c.in_ok-push_node.ensures.links, c.lead_hash-hash.ensures)
+    let hash : c.args.hash ≡ node_hash i.key (node_of c.args.lead) = rw (← c.self.view_is) at c.requires.hash in
+    rw (c.in_ok-push_node.ensures.nodes, c.in_ok-push_node.ensures.links, hash)
     (new_numbered i.nodes.items i.aliases i.includes i.limit i.key i.links c.self.invariant (node_of c.args.lead) more)
 
 pub returns-clause-number : goal.returns-clause-number
@@ -79,5 +80,5 @@ returns-clause-numbers c =
     ap (λ (ns : List Node). position (same_node n) (behind_of i.aliases i.includes ns)) (sym c.deref.ensures.value)
     ∙ ap (position (same_node n)) (sym (all_behind entries nodes)) ∙ gone in
     let grown = new_grows i.nodes.items i.aliases i.includes i.limit i.key i.links c.self.invariant n (rw (← c.self.view_is) at c.requires.behind) none in
-    let viewed : List Node → Numbered = λ ns. record { nodes = ns; aliases = i.aliases; includes = i.includes; limit = i.limit } in
+    let viewed : List Node → Numbered = λ ns. record { nodes = ns; aliases = i.aliases; includes = i.includes; limit = i.limit; key = i.key } in
     rw (← c.self.view_is, c.in_ok-push_node.ensures.nodes) (ap viewed (sym grown))

@@ -1,0 +1,10 @@
+//! What is found before nodes are numbered.
+use crate::known_name::KnownName;
+
+/// What is found for the first items of all entries and for the first recipients, with the hashes of their nodes under a key.
+#[derive(Clone, Copy)]
+pub(crate) struct FirstFound<'a> {
+    pub(crate) key: u64,
+    pub(crate) items: &'a [KnownName],
+    pub(crate) recipients: &'a [KnownName],
+}
