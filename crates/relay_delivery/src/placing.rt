@@ -7,7 +7,7 @@ ghost use Rattle.relay_delivery.specs.Placings.{senders_of, routes_of, AreApart,
 
 use crate::delivery::Delivery;
 use crate::delivery_order::deliveries_in_order;
-use crate::recipient_order::{RecipientOrder, with_routes};
+use crate::recipient_order::RecipientOrder;
 use crate::route_order::RouteOrder;
 use crate::routed::Routed;
 use crate::sender_order::SenderOrder;
@@ -45,13 +45,12 @@ impl<'a> Placing<'a> {
         ensures placed { IfOk result (λ placing. (s : Sender) (r : parts.Route) (a : AddressParts) → IsPlacedBy (senders_of placing.senders.items) (routes_of placing.routes.items) placing.recipients.items placing.deliveries.items s r a ↔ IsPlacedBy (senders_of senders.now) routes.now recipients.now deliveries.items s r a) }
         ensures few { IfOk result (λ placing. length placing.deliveries.items ≤ length deliveries.items) }
     {
-        let alloc = crew.alloc;
         let sender_order = SenderOrder::of(crew, senders)?;
         let route_order = RouteOrder::of(crew, routes)?;
-        let moved = with_routes(alloc, recipients, route_order.place_of.as_slice())?;
-        let recipient_order = RecipientOrder::of(crew, moved.as_slice())?;
+        let route_places = route_order.place_of.as_slice();
+        let recipient_order = RecipientOrder::of(crew, recipients, route_places)?;
         let deliveries = deliveries_in_order(
-            alloc,
+            crew,
             deliveries,
             sender_order.place_of.as_slice(),
             recipient_order.place_of.as_slice(),

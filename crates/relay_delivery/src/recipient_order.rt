@@ -2,7 +2,7 @@
 ghost use Rattle.std.specs.Prelude.{◌≡◌, ◌<◌, ◌≤◌, ◌^◌, length, map, take, drop, min, vec_capacity, All, IfOk, IsTrue};
 ghost use Rattle.relay_text.specs.Addresses.{is_address};
 ghost use Rattle.relay_delivery.specs.Ranks.{AreKeysOf, AreKeysSoFar};
-ghost use Rattle.relay_delivery.specs.Orders.{recipient_key, sender_of, moved_to, AreRecipientsInOrder};
+ghost use Rattle.relay_delivery.specs.Orders.{moved_key, sender_of, moved_to, AreRecipientsInOrder};
 ghost use Rattle.relay_delivery.specs.WrittenPaths.{paths_of, AreSharedPaths};
 
 use crate::picks::picked_by_crew;
@@ -14,7 +14,7 @@ use crate::written_path::split_path;
 use relay_sharing::Crew;
 use relay_text::{one_spelling, path_len, write_path};
 use std::alloc::{AllocError, Global};
-use std::thread::{Threads, map_chunks};
+use std::thread::{Threads, for_each_mut, map_chunks};
 
 /// How many numbers of 32 bits there are.
 const NUMBERS: usize = 1 << 32;
@@ -24,25 +24,6 @@ const NUMBERS: usize = 1 << 32;
 pub struct RecipientOrder<'a> {
     pub recipients: Vec<Routed<'a>>,
     pub place_of: Vec<u32>,
-}
-
-/// The recipients with the new numbers of their routes.
-pub(crate) fn with_routes<'a>(
-    alloc: Global,
-    recipients: &[Routed<'a>],
-    route_places: &[u32],
-) -> Result<Vec<Routed<'a>>, AllocError>
-    requires { All (λ r. r.route < length route_places.now) recipients.now }
-    ensures { IfOk result (λ moved. moved.items ≡ map (moved_to route_places.now) recipients.now) }
-{
-    let mut moved = Vec::with_capacity(alloc, recipients.len())?;
-    for recipient in recipients {
-        moved.push_reserved(Routed {
-            route: route_places[recipient.route as usize],
-            address: recipient.address,
-        });
-    }
-    Ok(moved)
 }
 
 /// How many octets the written paths of recipients have, or the largest `usize` where they have more.
@@ -110,9 +91,10 @@ fn shared_paths<R: Threads + Sync>(
     all_texts(alloc, shares)
 }
 
-/// Adds what recipients are sorted by: those from `start` up to `end`, from their written paths.
+/// Adds what recipients are sorted by: those from `start` up to `end`, from their written paths and the new numbers of their routes.
 fn add_keys<'t>(
     recipients: &[Routed],
+    route_places: &[u32],
     start: usize,
     end: usize,
     paths: &'t [u8],
@@ -121,17 +103,19 @@ fn add_keys<'t>(
     requires in_turn { start ≤ end }
     requires range { end ≤ length recipients.now }
     requires few { end ≤ 2 ^ 32 }
+    requires routes { All (λ r. r.route < length route_places.now) recipients.now }
     requires room { end ≤ vec_capacity keys.old }
     requires paths { paths.now ≡ paths_of (drop start (take end (map sender_of recipients.now))) }
-    requires keys { AreKeysSoFar recipient_key (λ r. IsTrue (is_address r.address.now)) recipients.now keys.old.items start }
+    requires keys { AreKeysSoFar (moved_key route_places.now) (λ r. IsTrue (is_address r.address.now)) recipients.now keys.old.items start }
     ensures room { vec_capacity keys.new ≡ vec_capacity keys.old }
-    ensures keys { AreKeysSoFar recipient_key (λ r. IsTrue (is_address r.address.now)) recipients.now keys.new.items end }
+    ensures keys { AreKeysSoFar (moved_key route_places.now) (λ r. IsTrue (is_address r.address.now)) recipients.now keys.new.items end }
 {
     let mut rest = paths;
     for index in start..end {
         let recipient = recipients[index];
         let (path, behind) = split_path(rest, Some(recipient.address));
-        keys.push_reserved(SortKey::new(recipient.route, path, index as u32));
+        let route = route_places[recipient.route as usize];
+        keys.push_reserved(SortKey::new(route, path, index as u32));
         rest = behind;
     }
 }
@@ -140,11 +124,13 @@ fn add_keys<'t>(
 fn recipient_keys<'t>(
     alloc: Global,
     recipients: &[Routed],
+    route_places: &[u32],
     size: usize,
     texts: &'t [Vec<u8>],
 ) -> Result<Vec<SortKey<'t>>, AllocError>
+    requires routes { All (λ r. r.route < length route_places.now) recipients.now }
     requires paths { AreSharedPaths (map sender_of recipients.now) size texts.now }
-    ensures keys { IfOk result (λ keys. AreKeysOf (map recipient_key recipients.now) keys.items) }
+    ensures keys { IfOk result (λ keys. AreKeysOf (map (moved_key route_places.now) recipients.now) keys.items) }
     ensures few { IfOk result (λ keys. length keys.items ≤ 2 ^ 32) }
     ensures valid { IfOk result (λ keys. All (λ r. IsTrue (is_address r.address.now)) recipients.now) }
 {
@@ -155,27 +141,51 @@ fn recipient_keys<'t>(
     let mut start = 0;
     for text in texts {
         let end = start + size.min(recipients.len() - start);
-        add_keys(recipients, start, end, text, &mut keys);
+        add_keys(recipients, route_places, start, end, text, &mut keys);
         start = end;
     }
     Ok(keys)
 }
 
+/// Gives recipients the new numbers of their routes, by a crew.
+fn put_routes<R: Threads + Sync>(
+    crew: &Crew<'_, R>,
+    recipients: &mut [Routed<'_>],
+    route_places: &[u32],
+)
+    requires routes { All (λ r. r.route < length route_places.now) recipients.old }
+    ensures { recipients.new ≡ map (moved_to route_places.now) recipients.old }
+{
+    let threads = threads_for(crew, recipients.len());
+    for_each_mut(
+        crew.rt,
+        recipients,
+        threads,
+        &|_index: usize, recipient: &mut Routed|
+            requires { recipient.now.route < length route_places.now }
+            ensures { recipient.exit.now ≡ moved_to route_places.entry.now recipient.entry.now }
+        { recipient.route = route_places[recipient.route as usize] },
+    );
+}
+
 impl<'a> RecipientOrder<'a> {
-    /// `Err` where memory runs out, or where there are more recipients than numbers.
+    /// Of recipients whose routes have these new numbers. `Err` where memory runs out, or where there are more recipients than numbers.
     pub(crate) fn of<R: Threads + Sync>(
         crew: &Crew<'_, R>,
         recipients: &[Routed<'a>],
+        route_places: &[u32],
     ) -> Result<RecipientOrder<'a>, AllocError>
-        ensures { IfOk result (λ order. AreRecipientsInOrder recipients.now order.recipients.items order.place_of.items) }
+        requires { All (λ r. r.route < length route_places.now) recipients.now }
+        ensures { IfOk result (λ order. AreRecipientsInOrder (map (moved_to route_places.now) recipients.now) order.recipients.items order.place_of.items) }
     {
         one_spelling();
         let alloc = crew.alloc;
         let size = share_size(crew, recipients.len());
         let texts = shared_paths(crew, recipients, size)?;
-        let keys = recipient_keys(alloc, recipients, size, &texts)?;
+        let keys = recipient_keys(alloc, recipients, route_places, size, &texts)?;
         let Ranks { order, place_of } = Ranks::of(crew, keys)?;
-        let recipients = picked_by_crew(crew, recipients, order.as_slice())?;
+        let mut recipients = picked_by_crew(crew, recipients, order.as_slice())?;
+        put_routes(crew, recipients.as_mut_slice(), route_places);
         Ok(RecipientOrder {
             recipients,
             place_of,

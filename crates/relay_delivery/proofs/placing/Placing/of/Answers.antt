@@ -1,6 +1,5 @@
-use Rattle.std.proofs.Common.{◌≡◌, ◌<◌, ◌∙◌, List, ℕ, length, map, sym, ap, subst}
+use Rattle.std.proofs.Common.{◌<◌, ◌∙◌, List, ℕ, length, map, sym, subst}
 use Rattle.std.specs.Prelude.{◌↔◌, All, Contains}
-use Rattle.relay_delivery.specs.declared.routed.Routed.{Routed}
 use Rattle.relay_delivery.specs.declared.delivery.Delivery.{Delivery}
 use Rattle.relay_delivery.specs.Placings.{senders_of, routes_of}
 use Rattle.relay_delivery.specs.Orders.{AreRecipientsInOrder, moved_to, delivery_at}
@@ -8,11 +7,11 @@ use Rattle.relay_delivery.proofs.PlaceFacts.{places_within, in_order, placed}
 use Rattle.relay_delivery.proofs.placing.Placing.of.Goals as goal
 
 pub deliveries_in_order-requires-clause-places : goal.deliveries_in_order-requires-clause-places
-deliveries_in_order-requires-clause-places g c =
+deliveries_in_order-requires-clause-places g c κs within =
     let recipients = c.in_ok-recipient_order.recipient_order.recipients.items in
     let places = c.in_ok-recipient_order.recipient_order.place_of.items in
-    let within : All (λ p. p < length recipients) places = places_within c.as_slice-2.result.now recipients places c.in_ok-recipient_order.ensures in
-    subst (All (λ (p : ℕ). p < c.len.result)) (sym c.as_slice-4.ensures.value) (subst (λ (n : ℕ). All (λ (p : ℕ). p < n) places) (sym (c.len.ensures ∙ c.in_ok-recipient_order.recipient_order.recipients.ok.0)) within)
+    let within : All (λ p. p < length recipients) places = places_within (map (moved_to c.as_slice-route_places.result.now) c.args.recipients.now) recipients places c.in_ok-recipient_order.ensures in
+    subst (All (λ (p : ℕ). p < c.len.result)) (sym c.as_slice-2.ensures.value) (subst (λ (n : ℕ). All (λ (p : ℕ). p < n) places) (sym (c.len.ensures ∙ c.in_ok-recipient_order.recipient_order.recipients.ok.0)) within)
 
 pub returns-clause-order : goal.returns-clause-order
 returns-clause-order g c =
@@ -27,13 +26,11 @@ returns-clause-order g c =
     let recipient_places = c.in_ok-recipient_order.recipient_order.place_of.items in
     let deliveries = c.args.deliveries.items in
     let new_deliveries = c.in_ok-deliveries.deliveries.items in
-    let is_moved : c.as_slice-2.result.now ≡ map (moved_to route_places) recipients =
-    c.as_slice-2.ensures.value ∙ c.in_ok-moved.ensures ∙ ap (λ places. map (moved_to places) recipients) c.as_slice.ensures.value in
-    let IsOrdered : List Routed → Type 0 = λ moved. AreRecipientsInOrder moved new_recipients recipient_places in
-    let ordered : IsOrdered (map (moved_to route_places) recipients) = subst IsOrdered is_moved c.in_ok-recipient_order.ensures in
+    let IsOrdered : List ℕ → Type 0 = λ places. AreRecipientsInOrder (map (moved_to places) recipients) new_recipients recipient_places in
+    let ordered : IsOrdered route_places = subst IsOrdered c.as_slice-route_places.ensures.value c.in_ok-recipient_order.ensures in
     let IsSame : List ℕ → List ℕ → Type 0 = λ ss rs. (x : Delivery) → Contains new_deliveries x ↔ Contains (map (delivery_at ss rs) deliveries) x in
     let same : IsSame sender_places recipient_places =
-    subst (λ ss. IsSame ss recipient_places) c.as_slice-3.ensures.value (subst (λ rs. IsSame c.as_slice-3.result.now rs) c.as_slice-4.ensures.value c.in_ok-deliveries.ensures.same) in
+    subst (λ ss. IsSame ss recipient_places) c.as_slice.ensures.value (subst (λ rs. IsSame c.as_slice.result.now rs) c.as_slice-2.ensures.value c.in_ok-deliveries.ensures.same) in
     in_order senders new_senders routes new_routes recipients new_recipients deliveries new_deliveries sender_places route_places recipient_places c.in_ok-sender_order.ensures c.in_ok-route_order.ensures ordered same c.requires.range c.in_ok-deliveries.ensures.ascending
 
 pub returns-clause-placed : goal.returns-clause-placed
@@ -49,11 +46,9 @@ returns-clause-placed g c =
     let recipient_places = c.in_ok-recipient_order.recipient_order.place_of.items in
     let deliveries = c.args.deliveries.items in
     let new_deliveries = c.in_ok-deliveries.deliveries.items in
-    let is_moved : c.as_slice-2.result.now ≡ map (moved_to route_places) recipients =
-    c.as_slice-2.ensures.value ∙ c.in_ok-moved.ensures ∙ ap (λ places. map (moved_to places) recipients) c.as_slice.ensures.value in
-    let IsOrdered : List Routed → Type 0 = λ moved. AreRecipientsInOrder moved new_recipients recipient_places in
-    let ordered : IsOrdered (map (moved_to route_places) recipients) = subst IsOrdered is_moved c.in_ok-recipient_order.ensures in
+    let IsOrdered : List ℕ → Type 0 = λ places. AreRecipientsInOrder (map (moved_to places) recipients) new_recipients recipient_places in
+    let ordered : IsOrdered route_places = subst IsOrdered c.as_slice-route_places.ensures.value c.in_ok-recipient_order.ensures in
     let IsSame : List ℕ → List ℕ → Type 0 = λ ss rs. (x : Delivery) → Contains new_deliveries x ↔ Contains (map (delivery_at ss rs) deliveries) x in
     let same : IsSame sender_places recipient_places =
-    subst (λ ss. IsSame ss recipient_places) c.as_slice-3.ensures.value (subst (λ rs. IsSame c.as_slice-3.result.now rs) c.as_slice-4.ensures.value c.in_ok-deliveries.ensures.same) in
+    subst (λ ss. IsSame ss recipient_places) c.as_slice.ensures.value (subst (λ rs. IsSame c.as_slice.result.now rs) c.as_slice-2.ensures.value c.in_ok-deliveries.ensures.same) in
     placed senders new_senders routes new_routes recipients new_recipients deliveries new_deliveries sender_places route_places recipient_places c.in_ok-sender_order.ensures c.in_ok-route_order.ensures ordered same c.requires.range
