@@ -1,4 +1,5 @@
 pub mod Bytes
+pub mod WrittenTexts
 pub mod CheckFacts
 pub mod Faults
 pub mod DomainFacts

@@ -49,4 +49,4 @@ pub use returned::Returned;
 pub use returning::returns;
 pub use running::run;
 pub use running_returns::run_returns;
-pub use writing::write_text;
+pub use writing::{write_text, write_texts};

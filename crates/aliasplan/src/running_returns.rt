@@ -8,7 +8,6 @@ ghost use Rattle.relay_planning.specs.Written.{summary_of};
 ghost use Rattle.relay_planning.specs.Plans.{IsFewest, IsPlanOf};
 ghost use Rattle.aliasplan.specs.Returns.{returned_text_in, AreReturnsOf, IsReturnedAnswer, IsReturnedWithin, IsUnreturned, PlansReturns, RefusesReturnBytes, RefusesReturns, WritesReturnsFront};
 
-use crate::answering::Answer;
 use crate::device::{Feed, Sink};
 use crate::reading::read_job;
 use crate::returned::Returned;
@@ -22,6 +21,13 @@ use relay_text::Text;
 use std::alloc::{AllocError, Global};
 use std::thread::Threads;
 
+/// The text of a plan with what is returned, and the plan's numbers.
+#[derive(Drop)]
+struct ReturnedText {
+    text: Text,
+    summary: Summary,
+}
+
 /// A plan and its blocks as they are written.
 fn returned_text(alloc: Global, form: Form, returned: &Returned) -> Result<Text, AllocError>
     ensures { IfOk result (λ text. text ≡ returned_text_in form returned.now.plan returned.now.returns) }
@@ -34,18 +40,21 @@ fn returned_text(alloc: Global, form: Form, returned: &Returned) -> Result<Text,
 }
 
 /// What is written of a plan and its blocks.
-fn answer_of(alloc: Global, form: Form, returned: &Returned) -> Result<Answer, RunFault>
+fn answer_of(alloc: Global, form: Form, returned: &Returned) -> Result<ReturnedText, RunFault>
     ensures written { IfOk result (λ answer. answer.text ≡ returned_text_in form returned.now.plan returned.now.returns) }
     ensures summed { IfOk result (λ answer. answer.summary ≡ summary_of returned.now.plan) }
     ensures memory { IfErr result (λ fault. fault ≡ RunFault.Memory) }
 {
     let summary = Summary::of(&returned.plan)?;
     let text = returned_text(alloc, form, returned)?;
-    Ok(Answer { text, summary })
+    Ok(ReturnedText { text, summary })
 }
 
 /// What is written for a job.
-fn answer_job<G: Gate, R: Threads + Sync>(crew: &Crew<G, R>, job: &Job) -> Result<Answer, RunFault>
+fn answer_job<G: Gate, R: Threads + Sync>(
+    crew: &Crew<G, R>,
+    job: &Job,
+) -> Result<ReturnedText, RunFault>
     requires job { IsJobWithin crew.now.limits.bytes job.now }
     ensures answered { IfOk result (λ answer. IsReturnedWithin crew.now.limits job.now × ((plan : plans.Plan) × IsPlanOf job.now plan × IsFewest job.now plan.transactions × ((blocks : List returned.Return) × AreReturnsOf job.now blocks × (answer.text ≡ returned_text_in crew.now.options.form plan blocks) × (answer.summary ≡ summary_of plan)))) }
     ensures refused { IfErr result (IsUnreturned crew.now.limits job.now) }
@@ -60,7 +69,7 @@ fn answer_job<G: Gate, R: Threads + Sync>(crew: &Crew<G, R>, job: &Job) -> Resul
 fn answer_input<G: Gate, R: Threads + Sync>(
     crew: &Crew<G, R>,
     input: &[u8],
-) -> Result<Answer, RunFault>
+) -> Result<ReturnedText, RunFault>
     requires { length input.now ≤ crew.now.limits.bytes }
     ensures answered { IfOk result (λ answer. IsReturnedAnswer crew.now.limits crew.now.options.form input.now answer.text answer.summary) }
     ensures refused { IfErr result (RefusesReturnBytes crew.now.limits input.now) }
@@ -96,7 +105,7 @@ pub fn run_returns<F: Feed, S: Sink, G: Gate, R: Threads + Sync>(
     ensures ended { (result ≢ Err RunFault.Read) → (result ≢ Err RunFault.TooLong) → (result ≢ Err RunFault.Memory) → F.has_ended reader.new ≡ true }
 {
     let input = read_job(crew.alloc, reader, crew.limits.bytes)?;
-    let Answer { text, summary } = answer_input(crew, input.as_bytes())?;
+    let ReturnedText { text, summary } = answer_input(crew, input.as_bytes())?;
     match write_text(writer, text.as_bytes()) {
         Ok(()) => Ok(summary),
         Err(_) => Err(RunFault::Write),

@@ -1,16 +1,18 @@
 //! The texts of a plan of one transaction, from `a@example.net` to joe's mailbox.
 use crate::inputs::one;
 use crate::telling::{tell_of_call, tell_of_case};
-use growth_answers::inputs::{address, is_address};
-use growth_answers::{Answer, Seen, Teller, Unready, both, judged, lent, twice};
+use growth_answers::inputs::{address, are_texts, is_address};
+use growth_answers::{Answer, Seen, Teller, Unready, both, call, judged, lent, twice};
 use relay_routes::{Hosts, Transport};
+use relay_sharing::Crew;
 use relay_text::{Address, Seq, Text};
 use relay_wire::{
     Finding, Greeting, Place, Plan, Planned, Script, check_text, finding_line, is_hostname,
-    plan_text, read_script, script, wire_text,
+    plan_text, plan_texts_by, read_script, script, wire_text,
 };
 use std::alloc::{AllocError, Global};
 use std::slice;
+use std::thread::Threads;
 
 const HOSTNAME: &[u8] = b"relay.example.org";
 
@@ -98,6 +100,20 @@ fn writes_a_plan(alloc: Global) -> Result<Seen, Unready> {
     )
 }
 
+fn are_parts_written<R: Threads + Sync>(crew: &Crew<'_, R>, plan: &Plan) -> Answer {
+    match plan_texts_by(crew, plan) {
+        Ok(texts) => judged(texts, |texts| are_texts(texts.as_slice(), &[PLAN])),
+        Err(_) => Answer::Refused,
+    }
+}
+
+fn writes_a_plan_in_parts<R: Threads + Sync>(crew: &Crew<'_, R>) -> Result<Answer, Unready> {
+    let plan = plan(crew.alloc)?;
+    let answer = are_parts_written(crew, &plan);
+    drop(plan);
+    Ok(answer)
+}
+
 fn writes_commands(alloc: Global) -> Result<Seen, Unready> {
     let plan = plan(alloc)?;
     lent(
@@ -165,11 +181,17 @@ fn reads_a_script(alloc: Global) -> Result<Answer, Unready> {
     }
 }
 
-pub(crate) fn tell<R: Print + AllocGlobal>(teller: &mut Teller<'_, R>) {
+pub(crate) fn tell<R: Print + AllocGlobal + Threads + Sync>(teller: &mut Teller<'_, R>) {
     tell_of_case(teller, "plan_text", writes_a_plan);
     tell_of_case(teller, "wire_text", writes_commands);
     tell_of_case(teller, "finding_line", writes_a_finding);
     tell_of_case(teller, "check_text", writes_a_check);
     tell_of_case(teller, "script", writes_a_script);
     tell_of_call(teller, "read_script", reads_a_script);
+    let crew = Crew {
+        rt: teller.rt,
+        alloc: teller.rt.alloc(),
+        workers: 2,
+    };
+    call!(teller, "plan_texts_by", writes_a_plan_in_parts(&crew));
 }

@@ -14,7 +14,7 @@ use Rattle.relay_planning.specs.declared.job_file.JobFile.TheVariants.{Aliases, 
 use Rattle.relay_planning.specs.declared.parsed.Parsed.{Parsed}
 use Rattle.relay_planning.specs.Findings.{ReportsWhere}
 use Rattle.relay_planning.specs.Parsed.{AreParsed}
-use Rattle.relay_planning.specs.Texts.{file_line, has_include_line, is_file_line, is_route_line, is_later_line, has_fault_line}
+use Rattle.relay_planning.specs.Texts.{file_line, has_include_line, is_file_line, is_route_line, is_include_or_table_line, has_fault_line}
 
 pub on_ok_given : {A E P : Type 0} (r : Result A E) → P → OnOk r P
 on_ok_given (Ok a) p = p
@@ -25,11 +25,11 @@ reports_two old middle new first second one two q = two q ∙ ap (λ b. b || sec
 
 -- the lines of the files of names, and then those of the others, are all
 pub reports_faults : (job : Job) (parsed : Parsed) (old middle new : List (List ℕ)) → AreParsed job parsed → ReportsWhere old middle (is_file_line parsed.aliases.faults parsed.mailboxes.faults)
-    → ReportsWhere middle new (is_later_line job) → ReportsWhere old new (has_fault_line job)
+    → ReportsWhere middle new (is_include_or_table_line job) → ReportsWhere old new (has_fault_line job)
 reports_faults job parsed old middle new is one two q =
-    reports_two old middle new (is_file_line parsed.aliases.faults parsed.mailboxes.faults) (is_later_line job) one two q
-    ∙ ap (λ a. has_text old q || (is_file_line a.faults parsed.mailboxes.faults q || is_later_line job q)) is.aliases
-    ∙ ap (λ m. has_text old q || (is_file_line (alias_file_of job.aliases).faults m.faults q || is_later_line job q)) is.mailboxes
+    reports_two old middle new (is_file_line parsed.aliases.faults parsed.mailboxes.faults) (is_include_or_table_line job) one two q
+    ∙ ap (λ a. has_text old q || (is_file_line a.faults parsed.mailboxes.faults q || is_include_or_table_line job q)) is.aliases
+    ∙ ap (λ m. has_text old q || (is_file_line (alias_file_of job.aliases).faults m.faults q || is_include_or_table_line job q)) is.mailboxes
     ∙ ap (λ b. has_text old q || b)
     (regroup
     (list_any (λ fault. bytes_eq q (file_line Aliases fault)) (alias_file_of job.aliases).faults)

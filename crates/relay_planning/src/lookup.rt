@@ -21,7 +21,7 @@ ghost use Rattle.relay_planning.specs.Delivery.{directory_of, entry_of_include, 
 ghost use Rattle.relay_planning.specs.Findings.{ReportsWhere};
 ghost use Rattle.relay_planning.specs.Parsed.{AreParsed};
 ghost use Rattle.relay_planning.specs.Readable.{IsReadable};
-ghost use Rattle.relay_planning.specs.Texts.{is_file_line, is_later_line, is_route_line, has_fault_line};
+ghost use Rattle.relay_planning.specs.Texts.{is_file_line, is_include_or_table_line, is_route_line, has_fault_line};
 
 use crate::both::{beside, both_of};
 use crate::crew::Crew;
@@ -117,7 +117,7 @@ fn report_parsed<K: KeptFindings>(
 ) -> Result<Vec<IncludeEntry>, AllocError>
     requires parsed { AreParsed job.now parsed.now }
     ensures includes { IfOk result (λ includes. includes.items ≡ map entry_of_include job.now.includes) }
-    ensures lines { OnOk result (ReportsWhere lines.old lines.new (is_later_line job.now)) }
+    ensures lines { OnOk result (ReportsWhere lines.old lines.new (is_include_or_table_line job.now)) }
 {
     let includes = read_includes(alloc, job.includes.as_slice(), lines)?;
     report_routes(alloc, &parsed.transports, &parsed.exchanges, lines)?;
@@ -153,7 +153,7 @@ fn read_others<K: KeptFindings>(
     ensures local { IfOk result (λ others. others.0.local ≡ local_of job.now.settings) }
     ensures routes { IfOk result (λ others. others.0.routes ≡ (routing_of job.now).settings) }
     ensures includes { IfOk result (λ others. others.1.items ≡ map entry_of_include job.now.includes) }
-    ensures lines { OnOk result (ReportsWhere lines.old lines.new (is_later_line job.now)) }
+    ensures lines { OnOk result (ReportsWhere lines.old lines.new (is_include_or_table_line job.now)) }
 {
     let settings = table_settings_of(alloc, job)?;
     beside(settings, report_parsed(alloc, job, parsed, lines))
@@ -228,7 +228,7 @@ impl Lookup {
         ensures tables { IfOk result (λ lookup. lookup.tables ≡ directory_of job.now) }
         ensures router { IfOk result (λ lookup. lookup.router ≡ routing_of job.now) }
         ensures reported { OnOk result (IsOk reported) }
-        ensures lines { OnOk result (ReportsWhere lines.old lines.new (is_later_line job.now)) }
+        ensures lines { OnOk result (ReportsWhere lines.old lines.new (is_include_or_table_line job.now)) }
     {
         let (parsed, _) = beside(parsed, reported)?;
         let others = read_others(alloc, job, &parsed, lines);

@@ -14,7 +14,7 @@ use Rattle.relay_wire.specs.declared.plan.Plan.{Plan}
 use Rattle.relay_wire.specs.Findings.{spaced}
 use Rattle.relay_wire.specs.PlanText.{line, lines_of, counts_line, first_line, transaction_line, from_line, to_line, via_line, host_line, host_lines, script_line, transaction_text, scripted_text, numbered_texts, text_by}
 use Rattle.relay_wire.specs.Script.{greeting_line, greeting_of, sender_line, recipient_line, recipient_lines, script_of, script_text}
-use Rattle.relay_wire.proofs.Pieces.{numbered_more, lines_append}
+use Rattle.relay_wire.proofs.Pieces.{numbered_more_from, lines_append}
 
 -- Saturated sums: what is cut off once stays cut off.
 pub grown : (m total more r s : ℕ) → r ≡ min total m → s ≡ min (r + more) m → s ≡ min (total + more) m
@@ -33,13 +33,20 @@ sum_step f xs i x m each more len next last h at is before first second =
     let total : sum_by f (take i xs) + each + more ≡ sum_by f (take (i + 1) xs) = omega arith in
     two ∙ ap (λ n. min n m) total
 
+pub numbered_length_step_from : (text : ℕ → Planned → List ℕ) (n : ℕ) (xs : List Planned) (i : ℕ) (x : Planned) (m len more next : ℕ) → i < length xs → x ≡ get_or xs i x
+    → len ≡ min (length (numbered_texts text (take i (enumerate_from n xs)))) m → more ≡ min (length (text (n + i) x)) m → next ≡ min (len + more) m
+    → next ≡ min (length (numbered_texts text (take (i + 1) (enumerate_from n xs)))) m
+numbered_length_step_from text n xs i x m len more next h at before part after =
+    let all : numbered_texts text (take (i + 1) (enumerate_from n xs)) ≡ numbered_texts text (take i (enumerate_from n xs)) ++ text (n + i) x = numbered_more_from text n xs i x h ∙ ap (λ p. numbered_texts text (take i (enumerate_from n xs)) ++ text (n + i) p) (sym at) in
+    let sum : length (numbered_texts text (take (i + 1) (enumerate_from n xs))) ≡ length (numbered_texts text (take i (enumerate_from n xs))) + length (text (n + i) x) = ap length all ∙ length-append (numbered_texts text (take i (enumerate_from n xs))) (text (n + i) x) in
+    grown_by m (length (numbered_texts text (take i (enumerate_from n xs)))) (length (text (n + i) x)) len more next before part after ∙ ap (λ n. min n m) (sym sum)
+
 pub numbered_length_step : (text : ℕ → Planned → List ℕ) (xs : List Planned) (i : ℕ) (x : Planned) (m len more next : ℕ) → i < length xs → x ≡ get_or xs i x
     → len ≡ min (length (numbered_texts text (take i (enumerate_from 1 xs)))) m → more ≡ min (length (text (i + 1) x)) m → next ≡ min (len + more) m
     → next ≡ min (length (numbered_texts text (take (i + 1) (enumerate_from 1 xs)))) m
 numbered_length_step text xs i x m len more next h at before part after =
-    let all : numbered_texts text (take (i + 1) (enumerate_from 1 xs)) ≡ numbered_texts text (take i (enumerate_from 1 xs)) ++ text (i + 1) x = numbered_more text xs i x h ∙ ap (λ p. numbered_texts text (take i (enumerate_from 1 xs)) ++ text (i + 1) p) (sym at) in
-    let sum : length (numbered_texts text (take (i + 1) (enumerate_from 1 xs))) ≡ length (numbered_texts text (take i (enumerate_from 1 xs))) + length (text (i + 1) x) = ap length all ∙ length-append (numbered_texts text (take i (enumerate_from 1 xs))) (text (i + 1) x) in
-    grown_by m (length (numbered_texts text (take i (enumerate_from 1 xs)))) (length (text (i + 1) x)) len more next before part after ∙ ap (λ n. min n m) (sym sum)
+    let same : i + 1 ≡ 1 + i = omega arith in
+    numbered_length_step_from text 1 xs i x m len more next h at before (part ∙ ap (λ n. min (length (text n x)) m) same) after
 
 -- The plan's lines.
 pub counts_length : (transactions recipients findings : ℕ) → length (line (counts_line transactions recipients findings)) ≡ length (decimal transactions) + length (decimal recipients) + length (decimal findings) + 41

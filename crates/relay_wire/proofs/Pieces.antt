@@ -1,7 +1,7 @@
 -- Words and lines, one after another.
-use Rattle.std.proofs.Common.{◌≡◌, ℕ, ◌+◌, ◌<◌, List, [], ◌∷◌, ◌++◌, length, take, map, flat_map, get_or, ap, append_assoc, subst, sym, ◌∙◌, codes, ◌≤◌, arith, rules}
+use Rattle.std.proofs.Common.{◌≡◌, ℕ, ◌+◌, ◌<◌, List, [], ◌∷◌, ◌++◌, length, take, drop, map, flat_map, get_or, ap, append_assoc, subst, sym, ◌∙◌, codes, ◌≤◌, arith, rules}
 use Rattle.std.specs.List.{enumerate_from, join_with_byte}
-use Rattle.std.proofs.lemmas.List.{take_more, take_all, map-append, append-nil}
+use Rattle.std.proofs.lemmas.List.{take_more, take_all, take-append-drop, map-append, append-nil}
 use Rattle.std.proofs.lemmas.List.Concat.{flat_map-append}
 use Rattle.std.proofs.lemmas.List.FromFn.{length-enumerate_from, get_or-enumerate_from}
 use Rattle.relay_wire.specs.Findings.{spaced, after_spaces}
@@ -34,20 +34,45 @@ lines_step out written new lines i d h at before after =
     ∙ append_assoc out (lines_of (take i lines)) (line d)
     ∙ ap (λ (l : List ℕ). out ++ l) (ap (λ (l : List ℕ). lines_of (take i lines) ++ line l) at ∙ sym (pieces_more line lines i d h))
 
+pub numbered_item : (text : ℕ → Planned → List ℕ) (n : ℕ) (xs : List Planned) (i : ℕ) (d : Planned) → i < length xs → text (get_or (enumerate_from n xs) i (0, d)).0 (get_or (enumerate_from n xs) i (0, d)).1 ≡ text (n + i) (get_or xs i d)
+numbered_item text n xs i d h = ap (λ (p : ℕ × Planned). text p.0 p.1) (get_or-enumerate_from n xs i (0, d) h)
+
+pub numbered_more_from : (text : ℕ → Planned → List ℕ) (n : ℕ) (xs : List Planned) (i : ℕ) (d : Planned) → i < length xs → numbered_texts text (take (i + 1) (enumerate_from n xs)) ≡ numbered_texts text (take i (enumerate_from n xs)) ++ text (n + i) (get_or xs i d)
+numbered_more_from text n xs i d h =
+    let within : i < length (enumerate_from n xs) = rw (length-enumerate_from n xs) h in
+    pieces_more (λ t. text t.0 t.1) (enumerate_from n xs) i (0, d) within ∙ ap (λ (l : List ℕ). numbered_texts text (take i (enumerate_from n xs)) ++ l) (numbered_item text n xs i d h)
+
+pub numbered_all_from : (n : ℕ) (xs : List Planned) (i : ℕ) → length xs ≤ i → take i (enumerate_from n xs) ≡ enumerate_from n xs
+numbered_all_from n xs i h = take_all i (enumerate_from n xs) (rw (length-enumerate_from n xs) h)
+
 pub numbered_more : (text : ℕ → Planned → List ℕ) (xs : List Planned) (i : ℕ) (d : Planned) → i < length xs → numbered_texts text (take (i + 1) (enumerate_from 1 xs)) ≡ numbered_texts text (take i (enumerate_from 1 xs)) ++ text (i + 1) (get_or xs i d)
 numbered_more text xs i d h =
-    let within : i < length (enumerate_from 1 xs) = rw (length-enumerate_from 1 xs) h in
-    let item : get_or (enumerate_from 1 xs) i (0, d) ≡ (1 + i, get_or xs i d) = get_or-enumerate_from 1 xs i (0, d) h in
     let next : 1 + i ≡ i + 1 = omega arith in
-    let more : numbered_texts text (take (i + 1) (enumerate_from 1 xs)) ≡ numbered_texts text (take i (enumerate_from 1 xs)) ++ text (get_or (enumerate_from 1 xs) i (0, d)).0 (get_or (enumerate_from 1 xs) i (0, d)).1 = pieces_more (λ t. text t.0 t.1) (enumerate_from 1 xs) i (0, d) within in
-    let here : numbered_texts text (take (i + 1) (enumerate_from 1 xs)) ≡ numbered_texts text (take i (enumerate_from 1 xs)) ++ text (1 + i) (get_or xs i d) = subst (λ (p : ℕ × Planned). numbered_texts text (take (i + 1) (enumerate_from 1 xs)) ≡ numbered_texts text (take i (enumerate_from 1 xs)) ++ text p.0 p.1) item more in
-    subst (λ (n : ℕ). numbered_texts text (take (i + 1) (enumerate_from 1 xs)) ≡ numbered_texts text (take i (enumerate_from 1 xs)) ++ text n (get_or xs i d)) next here
+    subst (λ (n : ℕ). numbered_texts text (take (i + 1) (enumerate_from 1 xs)) ≡ numbered_texts text (take i (enumerate_from 1 xs)) ++ text n (get_or xs i d)) next (numbered_more_from text 1 xs i d h)
 
 pub numbered_all : (xs : List Planned) (i : ℕ) → length xs ≤ i → take i (enumerate_from 1 xs) ≡ enumerate_from 1 xs
-numbered_all xs i h = take_all i (enumerate_from 1 xs) (rw (length-enumerate_from 1 xs) h)
+numbered_all xs i h = numbered_all_from 1 xs i h
+
+parts_joined : {X : Type 0} (xs front back : List X) (mid : ℕ) → front ≡ take mid xs → back ≡ drop mid xs → front ++ back ≡ xs
+parts_joined xs front back mid f b = ap (λ l. l ++ back) f ∙ ap (λ l. take mid xs ++ l) b ∙ take-append-drop mid xs
+
+-- transactions that are parted: the numbers go on
+pub numbered_append : (text : ℕ → Planned → List ℕ) (n : ℕ) (xs ys : List Planned) → numbered_texts text (enumerate_from n (xs ++ ys)) ≡ numbered_texts text (enumerate_from n xs) ++ numbered_texts text (enumerate_from (n + length xs) ys)
+numbered_append text n [] ys = let same : n ≡ n + 0 = omega arith in ap (λ (k : ℕ). numbered_texts text (enumerate_from k ys)) same
+numbered_append text n (x ∷ xs) ys =
+    let same : n + 1 + length xs ≡ n + length (x ∷ xs) = omega arith in
+    ap (λ (l : List ℕ). text n x ++ l) (numbered_append text (n + 1) xs ys ∙ ap (λ (k : ℕ). numbered_texts text (enumerate_from (n + 1) xs) ++ numbered_texts text (enumerate_from k ys)) same)
+    ∙ sym (append_assoc (text n x) (numbered_texts text (enumerate_from (n + 1) xs)) (numbered_texts text (enumerate_from (n + length (x ∷ xs)) ys)))
 
 pub lines_append : (xs ys : List (List ℕ)) → lines_of (xs ++ ys) ≡ lines_of xs ++ lines_of ys
 lines_append xs ys = flat_map-append line xs ys
+
+pub lines_parted : (lines front back : List (List ℕ)) (mid : ℕ) → front ≡ take mid lines → back ≡ drop mid lines → lines_of front ++ lines_of back ≡ lines_of lines
+lines_parted lines front back mid f b = sym (lines_append front back) ∙ ap (λ (l : List (List ℕ)). lines_of l) (parts_joined lines front back mid f b)
+
+pub numbered_parted : (text : ℕ → Planned → List ℕ) (n : ℕ) (xs front back : List Planned) (mid : ℕ) → front ≡ take mid xs → back ≡ drop mid xs
+    → numbered_texts text (enumerate_from n front) ++ numbered_texts text (enumerate_from (n + length front) back) ≡ numbered_texts text (enumerate_from n xs)
+numbered_parted text n xs front back mid f b = sym (numbered_append text n front back) ∙ ap (λ (l : List Planned). numbered_texts text (enumerate_from n l)) (parts_joined xs front back mid f b)
 
 pair_more : (out a b rest : List ℕ) → (out ++ after_spaces (a ∷ b ∷ [])) ++ rest ≡ out ++ (32 ∷ (a ++ (32 ∷ (b ++ rest))))
 pair_more out a b rest =
@@ -95,14 +120,19 @@ transaction_is out first second route to =
     let end : (out ++ lines_of (first ∷ second ∷ [])) ++ (lines_of route ++ lines_of to) ≡ out ++ (line first ++ (line second ++ (lines_of route ++ lines_of to))) = ends_here out (line first) (line second) (lines_of route ++ lines_of to) in
     append_assoc (out ++ lines_of (first ∷ second ∷ [])) (lines_of route) (lines_of to) ∙ end ∙ ap (λ l. out ++ (line first ++ (line second ++ l))) (sym joined)
 
+pub numbered_step_from : (text : ℕ → Planned → List ℕ) (n : ℕ) (out written new : List ℕ) (xs : List Planned) (i : ℕ) (d : Planned) → i < length xs → d ≡ get_or xs i d → written ≡ out ++ numbered_texts text (take i (enumerate_from n xs)) → new ≡ written ++ text (n + i) d → new ≡ out ++ numbered_texts text (take (i + 1) (enumerate_from n xs))
+numbered_step_from text n out written new xs i d h at before after =
+    let more : numbered_texts text (take (i + 1) (enumerate_from n xs)) ≡ numbered_texts text (take i (enumerate_from n xs)) ++ text (n + i) (get_or xs i d) = numbered_more_from text n xs i d h in
+    let same : text (n + i) (get_or xs i d) ≡ text (n + i) d = ap (λ p. text (n + i) p) (sym at) in
+    after
+    ∙ ap (λ l. l ++ text (n + i) d) before
+    ∙ append_assoc out (numbered_texts text (take i (enumerate_from n xs))) (text (n + i) d)
+    ∙ ap (λ l. out ++ l) (ap (λ l. numbered_texts text (take i (enumerate_from n xs)) ++ l) (sym same) ∙ sym more)
+
 pub numbered_step : (text : ℕ → Planned → List ℕ) (out written new : List ℕ) (xs : List Planned) (i : ℕ) (d : Planned) → i < length xs → d ≡ get_or xs i d → written ≡ out ++ numbered_texts text (take i (enumerate_from 1 xs)) → new ≡ written ++ text (i + 1) d → new ≡ out ++ numbered_texts text (take (i + 1) (enumerate_from 1 xs))
 numbered_step text out written new xs i d h at before after =
-    let more : numbered_texts text (take (i + 1) (enumerate_from 1 xs)) ≡ numbered_texts text (take i (enumerate_from 1 xs)) ++ text (i + 1) (get_or xs i d) = numbered_more text xs i d h in
-    let same : text (i + 1) (get_or xs i d) ≡ text (i + 1) d = ap (λ p. text (i + 1) p) (sym at) in
-    after
-    ∙ ap (λ l. l ++ text (i + 1) d) before
-    ∙ append_assoc out (numbered_texts text (take i (enumerate_from 1 xs))) (text (i + 1) d)
-    ∙ ap (λ l. out ++ l) (ap (λ l. numbered_texts text (take i (enumerate_from 1 xs)) ++ l) (sym same) ∙ sym more)
+    let same : i + 1 ≡ 1 + i = omega arith in
+    numbered_step_from text 1 out written new xs i d h at before (after ∙ ap (λ n. written ++ text n d) same)
 
 -- A transaction's script stands behind its lines.
 pub scripted_is : (out first : List ℕ) (route : List (List ℕ)) (last script : List ℕ) → (((out ++ line first) ++ lines_of route) ++ line last) ++ script ≡ out ++ (lines_of (first ∷ route ++ last ∷ []) ++ script)

@@ -1,5 +1,5 @@
 //! How long the texts are, reckoned before they are written. A length that is larger than a `usize` counts is `usize::MAX`.
-ghost use Rattle.std.specs.Prelude.{◌≡◌, ◌+◌, ◌≤◌, Some, decimal, length, sum_by};
+ghost use Rattle.std.specs.Prelude.{◌≡◌, ◌+◌, ◌<◌, ◌≤◌, ◌^◌, Some, decimal, length, sum_by};
 ghost use Rattle.std.specs.List.{enumerate_from};
 ghost use Rattle.relay_text.specs.Addresses.{path_text_of};
 ghost use Rattle.relay_wire.specs.Lengths.{saturated};
@@ -75,13 +75,14 @@ fn transaction_len(number: usize, planned: &Planned) -> usize
         .saturating_add(paths_len(planned.to.as_slice(), b"to \n".len()))
 }
 
-// The length of the transactions.
-fn transactions_len(transactions: &[Planned]) -> usize
-    ensures { result ≡ saturated (length (numbered_texts transaction_text (enumerate_from 1 transactions.now))) }
+// The length of transactions, of which the first has this number.
+pub(crate) fn transactions_len(number: usize, transactions: &[Planned]) -> usize
+    requires { number + length transactions.now < 2 ^ 64 }
+    ensures { result ≡ saturated (length (numbered_texts transaction_text (enumerate_from number transactions.now))) }
 {
     let mut len: usize = 0;
     for (index, planned) in transactions.iter().enumerate() {
-        len = len.saturating_add(transaction_len(index + 1, planned));
+        len = len.saturating_add(transaction_len(number + index, planned));
     }
     len
 }
@@ -92,7 +93,7 @@ pub(crate) fn plan_len(plan: &Plan, recipients: usize) -> usize
     ensures { result ≡ saturated (length (plan_text_of plan.now)) }
 {
     counts_len(plan.transactions.len(), recipients, plan.findings.len())
-        .saturating_add(transactions_len(plan.transactions.as_slice()))
+        .saturating_add(transactions_len(1, plan.transactions.as_slice()))
         .saturating_add(texts_len(plan.findings.as_slice(), b"\n".len()))
         .saturating_add(b"end\n".len())
 }

@@ -1,5 +1,5 @@
 //! Plans.
-ghost use Rattle.std.specs.Prelude.{◌≡◌, ◌≤◌, ◌^◌, ◌∷◌, ◌++◌, [], codes, map, option_map, IfOk, IfSome, IfNone, OnOk};
+ghost use Rattle.std.specs.Prelude.{◌≡◌, ◌≤◌, ◌<◌, ◌+◌, ◌^◌, ◌∷◌, ◌++◌, [], codes, length, map, option_map, IfOk, IfSome, IfNone, OnOk};
 ghost use Rattle.std.specs.List.{enumerate_from};
 ghost use Rattle.relay_wire.specs.PlanText.{line, lines_of, recipient_count, counts_line, first_line, via_line, host_line, host_lines, from_line, to_line, transaction_line, transaction_text, numbered_texts, plan_text_of};
 
@@ -157,13 +157,18 @@ fn put_transaction(number: usize, planned: &Planned, out: &mut Vec<u8>) -> Resul
     put_recipients(planned.to.as_slice(), out)
 }
 
-// Writes the transactions.
-#[tactic(auto, using(crate::proofs::Pieces::numbered_all))]
-fn put_transactions(transactions: &[Planned], out: &mut Vec<u8>) -> Result<(), AllocError>
-    ensures { OnOk result (out.new.items ≡ out.old.items ++ numbered_texts transaction_text (enumerate_from 1 transactions.now)) }
+// Writes transactions, of which the first has this number.
+#[tactic(auto, using(crate::proofs::Pieces::numbered_all_from))]
+pub(crate) fn put_transactions(
+    number: usize,
+    transactions: &[Planned],
+    out: &mut Vec<u8>,
+) -> Result<(), AllocError>
+    requires { number + length transactions.now < 2 ^ 64 }
+    ensures { OnOk result (out.new.items ≡ out.old.items ++ numbered_texts transaction_text (enumerate_from number transactions.now)) }
 {
     for (index, planned) in transactions.iter().enumerate() {
-        put_transaction(index + 1, planned, out)?;
+        put_transaction(number + index, planned, out)?;
     }
     Ok(())
 }
@@ -187,7 +192,7 @@ fn put_plan(plan: &Plan, recipients: usize, out: &mut Vec<u8>) -> Result<(), All
     ensures { OnOk result (out.new.items ≡ out.old.items ++ plan_text_of plan.now) }
 {
     put_first_line(plan, recipients, out)?;
-    put_transactions(plan.transactions.as_slice(), out)?;
+    put_transactions(1, plan.transactions.as_slice(), out)?;
     put_last_lines(plan, out)
 }
 
