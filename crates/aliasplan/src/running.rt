@@ -4,12 +4,12 @@ ghost use Rattle.std.specs.Io.KnownBytes.{Keeps};
 ghost use Rattle.relay_planning.specs.Limits.{AreOptions, AreLimits};
 ghost use Rattle.aliasplan.specs.Outcomes.{Plans, Refuses, WritesFront};
 
-use crate::answering::{Answer, answer_input};
+use crate::answering::answer_input;
 use crate::device::{Feed, Sink};
 use crate::reading::read_job;
 use crate::writing::write_texts;
 use relay_job::RunFault;
-use relay_planning::{Limits, Options, Summary};
+use relay_planning::{Limits, Options, Summary, WrittenPlan};
 use relay_rounds::Gate;
 use std::alloc::Global;
 use std::thread::Threads;
@@ -43,7 +43,7 @@ pub fn run<F: Feed, S: Sink, G: Gate, R: Threads + Sync>(
     ensures ended { (result ≢ Err RunFault.Read) → (result ≢ Err RunFault.TooLong) → (result ≢ Err RunFault.Memory) → F.has_ended reader.new ≡ true }
 {
     let input = read_job(alloc, reader, limits.bytes)?;
-    let Answer { texts, summary } = answer_input(rt, alloc, input, options, limits, gate)?;
+    let WrittenPlan { texts, summary } = answer_input(rt, alloc, input, options, limits, gate)?;
     match write_texts(writer, &texts) {
         Ok(()) => Ok(summary),
         Err(_) => Err(RunFault::Write),

@@ -1,14 +1,15 @@
 //! The texts of a plan of one transaction, from `a@example.net` to joe's mailbox.
 use crate::inputs::one;
 use crate::telling::{tell_of_call, tell_of_case};
+use crate::words::two_findings;
 use growth_answers::inputs::{address, are_texts, is_address};
 use growth_answers::{Answer, Seen, Teller, Unready, both, call, judged, lent, twice};
 use relay_routes::{Hosts, Transport};
 use relay_sharing::Crew;
 use relay_text::{Address, Seq, Text};
 use relay_wire::{
-    Finding, Greeting, Place, Plan, Planned, Script, check_text, finding_line, is_hostname,
-    plan_text, plan_texts_by, read_script, script, wire_text,
+    Finding, FindingLines, Greeting, Place, Plan, Planned, Script, check_text, finding_line,
+    is_hostname, plan_text, read_script, script, wire_text,
 };
 use std::alloc::{AllocError, Global};
 use std::slice;
@@ -22,6 +23,16 @@ const PLAN: &[u8] = b"plan 1 transactions 1 recipients 0 findings\n\
     via lmtp unix:mbox\n\
     host unix:mbox\n\
     to <joe@example.org>\n\
+    end\n";
+
+const PLAN_WITH_FINDINGS: &[u8] = b"plan 1 transactions 1 recipients 2 findings\n\
+    transaction 1\n\
+    from <a@example.net>\n\
+    via lmtp unix:mbox\n\
+    host unix:mbox\n\
+    to <joe@example.org>\n\
+    finding aliases line 3 badline\n\
+    finding transport line 2 duplicate\n\
     end\n";
 
 const COMMANDS: &[u8] = b"plan 1 transactions 1 recipients 0 findings\n\
@@ -100,17 +111,25 @@ fn writes_a_plan(alloc: Global) -> Result<Seen, Unready> {
     )
 }
 
-fn are_parts_written<R: Threads + Sync>(crew: &Crew<'_, R>, plan: &Plan) -> Answer {
-    match plan_texts_by(crew, plan) {
-        Ok(texts) => judged(texts, |texts| are_texts(texts.as_slice(), &[PLAN])),
+fn are_parts_written<R: Threads + Sync>(
+    crew: &Crew<'_, R>,
+    transactions: &[Planned],
+    lines: FindingLines,
+) -> Answer {
+    match lines.plan_texts_by(crew, transactions) {
+        Ok(written) => judged(written, |written| {
+            written.recipients == 1
+                && written.findings == 2
+                && are_texts(written.texts.as_slice(), &[PLAN_WITH_FINDINGS])
+        }),
         Err(_) => Answer::Refused,
     }
 }
 
 fn writes_a_plan_in_parts<R: Threads + Sync>(crew: &Crew<'_, R>) -> Result<Answer, Unready> {
-    let plan = plan(crew.alloc)?;
-    let answer = are_parts_written(crew, &plan);
-    drop(plan);
+    let (transactions, lines) = both(transactions(crew.alloc), two_findings(crew.alloc))?;
+    let answer = are_parts_written(crew, &transactions, lines);
+    drop(transactions);
     Ok(answer)
 }
 
@@ -193,5 +212,9 @@ pub(crate) fn tell<R: Print + AllocGlobal + Threads + Sync>(teller: &mut Teller<
         alloc: teller.rt.alloc(),
         workers: 2,
     };
-    call!(teller, "plan_texts_by", writes_a_plan_in_parts(&crew));
+    call!(
+        teller,
+        "FindingLines::plan_texts_by",
+        writes_a_plan_in_parts(&crew)
+    );
 }

@@ -114,6 +114,12 @@ fn answer_of(lines: Result<Seq<Text>, AllocError>) -> Answer {
     }
 }
 
+/// The lines of two findings.
+pub(crate) fn two_findings(alloc: Global) -> Result<FindingLines, Unready> {
+    let lines = added(alloc)?;
+    Ok(lines)
+}
+
 fn gathers_findings(alloc: Global) -> Result<Answer, Unready> {
     let lines = added(alloc)?;
     Ok(answer_of(lines.into_seq(alloc)))

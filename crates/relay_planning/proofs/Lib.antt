@@ -14,3 +14,4 @@ pub mod OutgoingFacts
 pub mod PlanFacts
 pub mod RouteLines
 pub mod PlacedFacts
+pub mod WrittenFacts

@@ -1,6 +1,6 @@
 -- What a job's graph is, and what refuses it, by the tables and recipients that are given.
 use Rattle.std.proofs.Common.{◌≡◌, ◌∙◌, ℕ, ◌≤◌, List, ap, subst, arith}
-use Rattle.std.specs.Prelude.{Option, Ok, Err, None}
+use Rattle.std.specs.Prelude.{Option, Err, None}
 use Rattle.relay_text.specs.AddressParts.{AddressParts}
 use Rattle.relay_tables.specs.Directory.{Directory}
 use Rattle.relay_tables.specs.GraphParts.{GraphParts}

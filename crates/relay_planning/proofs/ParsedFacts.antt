@@ -1,6 +1,6 @@
 -- What was parsed of a job, from its parts.
 use Rattle.std.proofs.Common.{◌≡◌, ◌∙◌, ℕ, List, ap, sym, subst}
-use Rattle.std.specs.Prelude.{Result, Ok, Err, IfOk, OnOk}
+use Rattle.std.specs.Prelude.{Result, Ok, IfOk, OnOk}
 use Rattle.std.proofs.lemmas.Result.{IfOk-at_ok, IfOk-weaker}
 use Rattle.relay_aliasfile.specs.declared.aliases.AliasFile.{AliasFile}
 use Rattle.relay_aliasfile.specs.declared.mailboxes.MailboxFile.{MailboxFile}

@@ -2,7 +2,8 @@
 //!
 //! A [`Lookup`] is made of what a job's files and tables say, and with it the lines of those that are at fault. By it comes the graph of
 //! names ([`graph_of`]), then the pairs of sender and node that are reached ([`pairs_of`]); of what is reached come the lines of entries, the
-//! routes of addresses with the lines of those that have none, and the transactions ([`plan_reached`]). [`plan_job`] goes all the way.
+//! routes of addresses with the lines of those that have none, and the transactions ([`plan_reached`]). [`plan_job`] goes all the way, and
+//! [`write_job`] on to the text.
 #![tactic(auto)]
 
 mod addresses;
@@ -26,6 +27,7 @@ mod summary;
 mod table;
 mod texts;
 mod with_findings;
+mod written;
 
 pub use crew::Crew;
 pub use entries::{report_node, report_target};
@@ -40,3 +42,4 @@ pub use planning::{graph_of, nodes_of, pairs_of, plan_by_lookup, plan_job, plan_
 pub use routing::own_names;
 pub use summary::Summary;
 pub use with_findings::{PlanWithFindings, plan_with_findings};
+pub use written::{WrittenPlan, write_job};

@@ -13,6 +13,7 @@ pub struct Lookup {
 }
 
 ghost use Rattle.std.specs.Prelude.{◌≡◌, map, IsOk, IfOk, OnOk};
+ghost use Rattle.std.specs.Thread.{IsSync};
 ghost use Rattle.relay_aliasfile.specs.AliasFiles.{alias_file_of};
 ghost use Rattle.relay_aliasfile.specs.MailboxFiles.{mailbox_file_of};
 ghost use Rattle.relay_routes.specs.Transports.{transport_table_of};
@@ -39,7 +40,7 @@ use relay_tables::{IncludeEntry, Local, parsed_files};
 use relay_text::{Seq, Text};
 use relay_wire::{FindingLines, KeptFindings};
 use std::alloc::{AllocError, Global};
-use std::thread::Threads;
+use std::thread::{Threads, join};
 
 // An odd number whose bits look drawn at random: the first 64 bits of the root of 5.
 const MULTIPLIER: u64 = 0x3c6e_f372_fe94_f82b;
@@ -51,6 +52,32 @@ fn key_of(job: &Job) -> u64 {
         key = key.wrapping_mul(MULTIPLIER) ^ u64::from(hash_text(key, table.as_bytes()));
     }
     key
+}
+
+// From so many bytes on a job's key is made beside its parsing: starting a thread takes as long as the key of some 100 kilobytes.
+const LONG_JOB: usize = 1 << 20;
+
+/// The key of a job's files and tables, and what is parsed of them by so many workers. The key is made in a new thread, where there are
+/// several and it's worth that.
+fn keyed<R: Threads + Sync>(
+    rt: &R,
+    alloc: Global,
+    workers: usize,
+    job: &Job,
+) -> (u64, Result<Parsed, AllocError>)
+    ensures { IfOk result.1 (AreParsed job.now) }
+{
+    if workers < 2 || job.aliases.len() < LONG_JOB && job.mailboxes.len() < LONG_JOB {
+        return (key_of(job), Parsed::by_workers(rt, alloc, workers, job));
+    }
+    join(
+        rt,
+        || -> u64 { key_of(job) },
+        || -> Result<Parsed, AllocError>
+            requires { IsSync R.row }
+            ensures { IfOk result (AreParsed job.entry.now) }
+        { Parsed::by_workers(rt, alloc, workers, job) },
+    )
 }
 
 /// Which domains are local, and how a local name is read.
@@ -159,31 +186,34 @@ fn read_others<K: KeptFindings>(
     beside(settings, report_parsed(alloc, job, parsed, lines))
 }
 
-/// What names stand for.
+/// What names stand for, found under a key.
 fn tables_of(
     alloc: Global,
     job: &Job,
+    key: u64,
     local: Local,
-    aliases: AliasFile,
+    files: (AliasFile, MailboxFile),
     includes: Vec<IncludeEntry>,
-    mailboxes: MailboxFile,
 ) -> Result<Tables, AllocError>
     requires job { IsReadable job.now }
     requires local { local ≡ local_of job.now.settings }
-    requires aliases { aliases ≡ alias_file_of job.now.aliases }
+    requires aliases { files.0 ≡ alias_file_of job.now.aliases }
     requires includes { includes.items ≡ map entry_of_include job.now.includes }
-    requires mailboxes { mailboxes ≡ mailbox_file_of job.now.mailboxes }
+    requires mailboxes { files.1 ≡ mailbox_file_of job.now.mailboxes }
     ensures { IfOk result (λ tables. tables ≡ directory_of job.now) }
 {
     parsed_files();
-    Tables::build(alloc, key_of(job), local, aliases, includes, mailboxes)
+    let _ = job;
+    let (aliases, mailboxes) = files;
+    Tables::build(alloc, key, local, aliases, includes, mailboxes)
 }
 
 impl Lookup {
-    /// What names stand for, and what routes addresses, by what is parsed and what a job says beside it.
+    /// What names stand for, and what routes addresses, by what is parsed and what a job says beside it, under a key.
     fn joined(
         alloc: Global,
         job: &Job,
+        key: u64,
         parsed: Parsed,
         settings: TableSettings,
         includes: Vec<IncludeEntry>,
@@ -203,10 +233,9 @@ impl Lookup {
             exchanges,
         } = parsed;
         let TableSettings { local, routes } = settings;
-        let tables = tables_of(alloc, job, local, aliases, includes, mailboxes);
+        let tables = tables_of(alloc, job, key, local, (aliases, mailboxes), includes);
         let router = Router::new(alloc, routes, transports, exchanges);
         let (tables, router) = both_of(tables, router)?;
-        let key = tables.key();
         Ok(Lookup {
             tables,
             router,
@@ -214,11 +243,12 @@ impl Lookup {
         })
     }
 
-    /// What the files and tables of a job say, which are parsed. Adds the lines of those that are at fault, where those of the alias file
-    /// and the mailbox file were reported. `Err` where memory runs out.
+    /// What the files and tables of a job say, which are parsed, under a key. Adds the lines of those that are at fault, where those of the
+    /// alias file and the mailbox file were reported. `Err` where memory runs out.
     fn of<K: KeptFindings>(
         alloc: Global,
         job: &Job,
+        key: u64,
         parsed: Parsed,
         reported: Result<(), AllocError>,
         lines: &mut FindingLines<K>,
@@ -233,7 +263,7 @@ impl Lookup {
         let (parsed, _) = beside(parsed, reported)?;
         let others = read_others(alloc, job, &parsed, lines);
         let (parsed, (settings, includes)) = beside(parsed, others)?;
-        Lookup::joined(alloc, job, parsed, settings, includes)
+        Lookup::joined(alloc, job, key, parsed, settings, includes)
     }
 
     /// What the files and tables of a job say. Adds the lines of those that are at fault. `Err` where memory runs out.
@@ -249,7 +279,7 @@ impl Lookup {
     {
         let parsed = Parsed::one_by_one(alloc, job)?;
         let reported = report_files(alloc, &parsed, lines);
-        Lookup::of(alloc, job, parsed, reported, lines)
+        Lookup::of(alloc, job, key_of(job), parsed, reported, lines)
     }
 
     /// The same by a crew, which shares the work where files and tables are long, or many lines at fault.
@@ -263,8 +293,9 @@ impl Lookup {
         ensures router { IfOk result (λ lookup. lookup.router ≡ routing_of job.now) }
         ensures lines { OnOk result (ReportsWhere lines.old lines.new (has_fault_line job.now)) }
     {
-        let parsed = Parsed::by_workers(crew.rt, crew.alloc, crew.options.workers, job)?;
+        let (key, parsed) = keyed(crew.rt, crew.alloc, crew.options.workers, job);
+        let parsed = parsed?;
         let reported = report_files_by(&crew.of_shares(), &parsed, lines);
-        Lookup::of(crew.alloc, job, parsed, reported, lines)
+        Lookup::of(crew.alloc, job, key, parsed, reported, lines)
     }
 }

@@ -1,14 +1,11 @@
 //! What a run is asked for.
 ghost use Rattle.std.specs.Prelude.{◌≡◌, IfOk};
-ghost use Rattle.std.specs.List.{concat};
 ghost use Rattle.relay_planning.specs.Written.{text_in};
 
-use relay_sharing::Crew;
 use relay_text::Text;
 use relay_wire::plan::plan_text;
-use relay_wire::{Plan, plan_texts_by, wire_text};
+use relay_wire::{Plan, wire_text};
 use std::alloc::{AllocError, Global};
-use std::thread::Threads;
 
 /// What a plan is written as.
 #[derive(Clone, Copy, Debug, PartialEq, Eq)]
@@ -27,21 +24,6 @@ impl Form {
         match self {
             Form::Plan => plan_text(alloc, plan),
             Form::Wire => wire_text(alloc, plan),
-        }
-    }
-
-    /// A plan as it is written, in parts that stand one behind the other, of which a crew writes many where the plan is large. `Err` where
-    /// memory runs out.
-    pub fn texts_of<R: Threads + Sync>(
-        self,
-        crew: &Crew<'_, R>,
-        plan: &Plan,
-    ) -> Result<Vec<Text>, AllocError>
-        ensures { IfOk result (λ texts. concat texts.items ≡ text_in self plan.now) }
-    {
-        match self {
-            Form::Plan => plan_texts_by(crew, plan),
-            Form::Wire => Ok(vec![in crew.alloc; wire_text(crew.alloc, plan)?]?),
         }
     }
 }

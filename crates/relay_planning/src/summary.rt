@@ -1,6 +1,6 @@
 //! What a run sums up.
 use relay_job::RunFault;
-use relay_wire::{Plan, Planned};
+use relay_wire::{Plan, recipient_count};
 
 /// The three numbers of a plan's first line.
 #[derive(Clone, Copy, Debug, PartialEq, Eq)]
@@ -26,17 +26,4 @@ impl Summary {
             findings: plan.findings.as_slice().len(),
         })
     }
-}
-
-ghost use Rattle.std.specs.Prelude.{◌≡◌, IfSome, length, sum_by};
-
-// How many recipients the transactions have.
-fn recipient_count(transactions: &[Planned]) -> Option<usize>
-    ensures { IfSome result (λ count. count ≡ sum_by (λ t. length t.to) transactions.now) }
-{
-    let mut count: usize = 0;
-    for transaction in transactions {
-        count = count.checked_add(transaction.to.as_slice().len())?;
-    }
-    Some(count)
 }

@@ -1,11 +1,12 @@
 -- Words and lines, one after another.
-use Rattle.std.proofs.Common.{◌≡◌, ℕ, ◌+◌, ◌<◌, List, [], ◌∷◌, ◌++◌, length, take, drop, map, flat_map, get_or, ap, append_assoc, subst, sym, ◌∙◌, codes, ◌≤◌, arith, rules}
+use Rattle.std.proofs.Common.{◌≡◌, ℕ, ◌+◌, ◌<◌, List, Bor, [], ◌∷◌, ◌++◌, length, take, drop, map, flat_map, sum_by, get_or, ap, append_assoc, subst, sym, ◌∙◌, codes, ◌≤◌, arith, rules}
 use Rattle.std.specs.List.{enumerate_from, join_with_byte}
-use Rattle.std.proofs.lemmas.List.{take_more, take_all, take-append-drop, map-append, append-nil}
+use Rattle.std.proofs.lemmas.List.{take_more, take_all, take-append-drop, map-append, append-nil, length-map}
 use Rattle.std.proofs.lemmas.List.Concat.{flat_map-append}
 use Rattle.std.proofs.lemmas.List.FromFn.{length-enumerate_from, get_or-enumerate_from}
 use Rattle.relay_wire.specs.Findings.{spaced, after_spaces}
-use Rattle.relay_wire.specs.PlanText.{line, lines_of, numbered_texts}
+use Rattle.relay_wire.specs.PlanText.{counts_line, first_line, line, lines_of, numbered_texts}
+use Rattle.relay_wire.specs.PlanTexts.{bare, plan_from}
 use Rattle.relay_wire.specs.declared.plan.Planned.{Planned}
 
 pub spaced_after : (w : List ℕ) (ws : List (List ℕ)) → join_with_byte 32 (w ∷ ws) ≡ w ++ after_spaces ws
@@ -69,6 +70,11 @@ lines_append xs ys = flat_map-append line xs ys
 
 pub lines_parted : (lines front back : List (List ℕ)) (mid : ℕ) → front ≡ take mid lines → back ≡ drop mid lines → lines_of front ++ lines_of back ≡ lines_of lines
 lines_parted lines front back mid f b = sym (lines_append front back) ∙ ap (λ (l : List (List ℕ)). lines_of l) (parts_joined lines front back mid f b)
+
+pub bare_parted : (lines front back : List (Bor (List ℕ))) (mid : ℕ) → front ≡ take mid lines → back ≡ drop mid lines → lines_of (bare front) ++ lines_of (bare back) ≡ lines_of (bare lines)
+bare_parted lines front back mid f b =
+    sym (lines_append (bare front) (bare back))
+    ∙ ap (λ (l : List (List ℕ)). lines_of l) (sym (map-append (λ line. line.now) front back) ∙ ap (λ (l : List (Bor (List ℕ))). bare l) (parts_joined lines front back mid f b))
 
 pub numbered_parted : (text : ℕ → Planned → List ℕ) (n : ℕ) (xs front back : List Planned) (mid : ℕ) → front ≡ take mid xs → back ≡ drop mid xs
     → numbered_texts text (enumerate_from n front) ++ numbered_texts text (enumerate_from (n + length front) back) ≡ numbered_texts text (enumerate_from n xs)
@@ -144,3 +150,9 @@ scripted_is out first route last script =
     ∙ append_assoc out (line first ++ lines_of route) (line last)
     ∙ ap (λ l. out ++ l) (append_assoc (line first) (lines_of route) (line last) ∙ ap (λ l. line first ++ l) (sym end)) in
     ap (λ l. l ++ script) middle ∙ append_assoc out (lines_of (first ∷ route ++ last ∷ [])) script
+
+-- the first line of a plan that is made of these parts
+pub first_line_from : (hostname : List ℕ) (ts : List Planned) (fs : List (Bor (List ℕ))) (r : ℕ) → r ≡ sum_by (λ t. length t.to) ts → line (counts_line (length ts) r (length fs)) ≡ line (first_line (plan_from hostname ts (bare fs)))
+first_line_from hostname ts fs r r_is =
+    ap (λ (k : ℕ). line (counts_line (length ts) k (length fs))) r_is
+    ∙ ap (λ (k : ℕ). line (counts_line (length ts) (sum_by (λ t. length t.to) ts) k)) (sym (length-map fs (λ line. line.now)))

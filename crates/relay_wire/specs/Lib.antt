@@ -1,6 +1,7 @@
 pub mod Findings
 pub mod Script
 pub mod PlanText
+pub mod PlanTexts
 pub mod Lengths
 pub mod Fronts
 pub mod FrontedLines

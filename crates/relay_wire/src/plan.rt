@@ -1,5 +1,5 @@
 //! Plans.
-ghost use Rattle.std.specs.Prelude.{◌≡◌, ◌≤◌, ◌<◌, ◌+◌, ◌^◌, ◌∷◌, ◌++◌, [], codes, length, map, option_map, IfOk, IfSome, IfNone, OnOk};
+ghost use Rattle.std.specs.Prelude.{◌≡◌, ◌≤◌, ◌<◌, ◌+◌, ◌^◌, ◌∷◌, ◌++◌, [], codes, length, map, option_map, sum_by, IfOk, IfSome, IfNone, OnOk};
 ghost use Rattle.std.specs.List.{enumerate_from};
 ghost use Rattle.relay_wire.specs.PlanText.{line, lines_of, recipient_count, counts_line, first_line, via_line, host_line, host_lines, from_line, to_line, transaction_line, transaction_text, numbered_texts, plan_text_of};
 
@@ -32,21 +32,21 @@ pub struct Plan {
     pub findings: Seq<Text>,
 }
 
-// How many recipients the transactions have; `None` where a `usize` holds no such number.
+/// How many recipients the transactions have; `None` where a `usize` holds no such number.
 #[tactic(auto, using(std::proofs::lemmas::List::Sums::sum_by_more_le))]
-pub(crate) fn recipient_count(plan: &Plan) -> Option<usize>
-    ensures some { IfSome result (λ count. count ≡ recipient_count plan.now) }
-    ensures none { IfNone result (2 ^ 64 ≤ recipient_count plan.now) }
+pub fn recipient_count(transactions: &[Planned]) -> Option<usize>
+    ensures some { IfSome result (λ count. count ≡ sum_by (λ t. length t.to) transactions.now) }
+    ensures none { IfNone result (2 ^ 64 ≤ sum_by (λ t. length t.to) transactions.now) }
 {
     let mut count: usize = 0;
-    for planned in plan.transactions.as_slice() {
+    for planned in transactions {
         count = count.checked_add(planned.to.len())?;
     }
     Some(count)
 }
 
 // Writes the line that counts.
-fn put_counts(
+pub(crate) fn put_counts(
     transactions: usize,
     recipients: usize,
     findings: usize,
@@ -178,7 +178,7 @@ pub(crate) fn put_transactions(
 pub fn plan_text(alloc: Global, plan: &Plan) -> Result<Text, AllocError>
     ensures { IfOk result (λ text. text ≡ plan_text_of plan.now) }
 {
-    let Some(recipients) = recipient_count(plan) else {
+    let Some(recipients) = recipient_count(plan.transactions.as_slice()) else {
         return Err(AllocError);
     };
     let mut out = Vec::with_capacity(alloc, plan_len(plan, recipients))?;

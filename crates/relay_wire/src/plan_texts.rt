@@ -1,16 +1,27 @@
 //! The text of a plan in parts, which a crew writes.
 //!
 //! Each thread writes to room of its own, so that what it writes is copied nowhere else, and meets the new pages of that room itself.
-ghost use Rattle.std.specs.Prelude.{◌≡◌, ◌+◌, ◌<◌, ◌^◌, ◌++◌, ℕ, List, length, IfOk, OnOk};
+use relay_text::Text;
+
+/// The text of a plan in parts that stand one behind the other, and how many recipients and findings it has.
+#[derive(Drop)]
+pub struct PlanTexts {
+    pub texts: Vec<Text>,
+    pub recipients: usize,
+    pub findings: usize,
+}
+
+ghost use Rattle.std.specs.Prelude.{◌≡◌, ◌+◌, ◌<◌, ◌^◌, ◌++◌, ℕ, List, length, sum_by, IfOk, OnOk};
 ghost use Rattle.std.specs.List.{concat, enumerate_from};
 ghost use Rattle.std.specs.Thread.{IsSync};
-ghost use Rattle.relay_wire.specs.PlanText.{first_line, line, lines_of, numbered_texts, plan_text_of, recipient_count, transaction_text};
+ghost use Rattle.relay_wire.specs.Lengths.{saturated};
+ghost use Rattle.relay_wire.specs.PlanText.{counts_line, line, lines_of, numbered_texts, plan_text_of, transaction_text};
+ghost use Rattle.relay_wire.specs.PlanTexts.{bare, plan_from};
 
-use crate::lengths::{texts_len, transactions_len};
-use crate::plan::{Plan, Planned, plan_text, put_first_line, put_transactions, recipient_count};
-use crate::words::{put_each_line, text_put};
+use crate::lengths::transactions_len;
+use crate::plan::{Planned, put_counts, put_transactions, recipient_count};
+use crate::words::{put_line, text_put};
 use relay_sharing::Crew;
-use relay_text::Text;
 use std::alloc::{AllocError, Global};
 use std::thread::{Threads, join};
 
@@ -19,6 +30,9 @@ const FEWEST: usize = 65_536;
 
 // A thread has so many of them at least: starting it takes as long as writing some thousands.
 const LEAST: usize = 16_384;
+
+// The first line and the last have at most so many bytes.
+const FRAME: usize = 128;
 
 /// The text of transactions, of which the first has this number.
 fn transactions_text(
@@ -34,22 +48,47 @@ fn transactions_text(
     text_put(put, out)
 }
 
-/// The text of lines, which are given without their ends.
-fn lines_text(alloc: Global, lines: &[Text]) -> Result<Text, AllocError>
-    ensures { IfOk result (λ text. text ≡ lines_of lines.now) }
+/// The length of lines with their ends; `usize::MAX` where a `usize` doesn't count it.
+fn lines_len(lines: &[&[u8]]) -> usize
+    ensures { result ≡ saturated (sum_by (λ line. 1 + length line.now) lines.now) }
 {
-    let mut out = Vec::with_capacity(alloc, texts_len(lines, b"\n".len()))?;
-    let put = put_each_line(lines, &mut out);
+    let mut len: usize = 0;
+    for line in lines {
+        len = len.saturating_add(1).saturating_add(line.len());
+    }
+    len
+}
+
+/// Puts lines at the end, which are given without their ends. `Err` where memory runs out.
+fn put_bare_lines(lines: &[&[u8]], out: &mut Vec<u8>) -> Result<(), AllocError>
+    ensures { OnOk result (out.new.items ≡ out.old.items ++ lines_of (bare lines.now)) }
+{
+    for line in lines {
+        put_line(line, out)?;
+    }
+    Ok(())
+}
+
+/// The text of lines, which are given without their ends.
+fn lines_text(alloc: Global, lines: &[&[u8]]) -> Result<Text, AllocError>
+    ensures { IfOk result (λ text. text ≡ lines_of (bare lines.now)) }
+{
+    let mut out = Vec::with_capacity(alloc, lines_len(lines))?;
+    let put = put_bare_lines(lines, &mut out);
     text_put(put, out)
 }
 
 /// The text of a plan's first line.
-fn first_text(alloc: Global, plan: &Plan, recipients: usize) -> Result<Text, AllocError>
-    requires { recipients ≡ recipient_count plan.now }
-    ensures { IfOk result (λ text. text ≡ line (first_line plan.now)) }
+fn counts_text(
+    alloc: Global,
+    transactions: usize,
+    recipients: usize,
+    findings: usize,
+) -> Result<Text, AllocError>
+    ensures { IfOk result (λ text. text ≡ line (counts_line transactions recipients findings)) }
 {
     let mut out = Vec::new(alloc);
-    let put = put_first_line(plan, recipients, &mut out);
+    let put = put_counts(transactions, recipients, findings, &mut out);
     text_put(put, out)
 }
 
@@ -93,9 +132,9 @@ fn lines_by<R: Threads + Sync>(
     rt: &R,
     alloc: Global,
     threads: usize,
-    lines: &[Text],
+    lines: &[&[u8]],
 ) -> Result<Vec<Text>, AllocError>
-    ensures { IfOk result (λ texts. concat texts.items ≡ lines_of lines.now) }
+    ensures { IfOk result (λ texts. concat texts.items ≡ lines_of (bare lines.now)) }
 {
     if threads < 2 {
         return one_text(alloc, lines_text(alloc, lines));
@@ -105,11 +144,11 @@ fn lines_by<R: Threads + Sync>(
     let (there, here) = join(
         rt,
         || -> Result<Text, AllocError>
-            ensures { IfOk result (λ text. text ≡ lines_of last.entry.now) }
+            ensures { IfOk result (λ text. text ≡ lines_of (bare last.entry.now)) }
         { lines_text(alloc, last) },
         || -> Result<Vec<Text>, AllocError>
             requires { IsSync R.row }
-            ensures { IfOk result (λ texts. concat texts.items ≡ lines_of first.entry.now) }
+            ensures { IfOk result (λ texts. concat texts.items ≡ lines_of (bare first.entry.now)) }
         { lines_by(rt, alloc, others, first) },
     );
     with_last(here, there)
@@ -145,46 +184,100 @@ fn add(more: Result<Vec<Text>, AllocError>, texts: &mut Vec<Text>) -> Result<(),
     Ok(())
 }
 
-/// The text of a plan of so many recipients in parts, by so many threads.
+/// The text of a plan in parts, by so many threads.
 fn shared_texts<R: Threads + Sync>(
     crew: &Crew<'_, R>,
     threads: usize,
-    plan: &Plan,
+    transactions: &[Planned],
     recipients: usize,
+    findings: &[&[u8]],
 ) -> Result<Vec<Text>, AllocError>
-    requires { recipients ≡ recipient_count plan.now }
-    ensures { IfOk result (λ texts. concat texts.items ≡ plan_text_of plan.now) }
+    requires { recipients ≡ sum_by (λ t. length t.to) transactions.now }
+    ensures { IfOk result (λ texts. (hostname : List ℕ) → concat texts.items ≡ plan_text_of (plan_from hostname transactions.now (bare findings.now))) }
 {
     let rt = crew.rt;
     let alloc = crew.alloc;
-    let mut texts = one_text(alloc, first_text(alloc, plan, recipients))?;
+    let counts = counts_text(alloc, transactions.len(), recipients, findings.len());
+    let mut texts = one_text(alloc, counts)?;
     add(
-        transactions_by(rt, alloc, threads, 1, plan.transactions.as_slice()),
+        transactions_by(rt, alloc, threads, 1, transactions),
         &mut texts,
     )?;
-    add(
-        lines_by(rt, alloc, threads, plan.findings.as_slice()),
-        &mut texts,
-    )?;
+    add(lines_by(rt, alloc, threads, findings), &mut texts)?;
     texts.push(Text::copy_of(alloc, b"end\n")?)?;
     Ok(texts)
 }
 
-/// The text of a plan in parts that stand one behind the other: `plan_text`'s alone, or where the plan has many lines those that a crew
-/// writes. A plan whose recipients a `usize` doesn't count is larger than memory, and gets an `Err`.
-pub fn plan_texts_by<R: Threads + Sync>(
-    crew: &Crew<'_, R>,
-    plan: &Plan,
-) -> Result<Vec<Text>, AllocError>
-    ensures { IfOk result (λ texts. concat texts.items ≡ plan_text_of plan.now) }
+/// Writes a plan.
+fn put_whole(
+    transactions: &[Planned],
+    recipients: usize,
+    findings: &[&[u8]],
+    out: &mut Vec<u8>,
+) -> Result<(), AllocError>
+    requires { recipients ≡ sum_by (λ t. length t.to) transactions.now }
+    ensures { OnOk result ((hostname : List ℕ) → out.new.items ≡ out.old.items ++ plan_text_of (plan_from hostname transactions.now (bare findings.now))) }
 {
-    let Some(recipients) = recipient_count(plan) else {
-        return Err(AllocError);
-    };
-    let lines = recipients.saturating_add(plan.findings.len());
+    put_counts(transactions.len(), recipients, findings.len(), out)?;
+    put_transactions(1, transactions, out)?;
+    put_bare_lines(findings, out)?;
+    out.extend_from_slice(b"end\n")
+}
+
+/// The text of a plan as one part.
+fn whole_text(
+    alloc: Global,
+    transactions: &[Planned],
+    recipients: usize,
+    findings: &[&[u8]],
+) -> Result<Text, AllocError>
+    requires { recipients ≡ sum_by (λ t. length t.to) transactions.now }
+    ensures { IfOk result (λ text. (hostname : List ℕ) → text ≡ plan_text_of (plan_from hostname transactions.now (bare findings.now))) }
+{
+    let len = transactions_len(1, transactions)
+        .saturating_add(lines_len(findings))
+        .saturating_add(FRAME);
+    let mut out = Vec::with_capacity(alloc, len)?;
+    put_whole(transactions, recipients, findings, &mut out)?;
+    Ok(Text::of(out))
+}
+
+/// The text of a plan of so many recipients in parts: one part, or where the plan has many lines those that a crew writes.
+fn texts_by<R: Threads + Sync>(
+    crew: &Crew<'_, R>,
+    transactions: &[Planned],
+    recipients: usize,
+    findings: &[&[u8]],
+) -> Result<Vec<Text>, AllocError>
+    requires { recipients ≡ sum_by (λ t. length t.to) transactions.now }
+    ensures { IfOk result (λ texts. (hostname : List ℕ) → concat texts.items ≡ plan_text_of (plan_from hostname transactions.now (bare findings.now))) }
+{
+    let lines = recipients.saturating_add(findings.len());
     let threads = crew.workers.min(lines / LEAST);
     if threads < 2 || lines < FEWEST {
-        return one_text(crew.alloc, plan_text(crew.alloc, plan));
+        let text = whole_text(crew.alloc, transactions, recipients, findings);
+        return one_text(crew.alloc, text);
     }
-    shared_texts(crew, threads, plan, recipients)
+    shared_texts(crew, threads, transactions, recipients, findings)
+}
+
+/// The text of the plan of these transactions, with these lines as its findings, in parts that stand one behind the other. A plan whose
+/// recipients a `usize` doesn't count is larger than memory, and gets an `Err`.
+pub(crate) fn plan_texts<R: Threads + Sync>(
+    crew: &Crew<'_, R>,
+    transactions: &[Planned],
+    findings: &[&[u8]],
+) -> Result<PlanTexts, AllocError>
+    ensures texts { IfOk result (λ it. (hostname : List ℕ) → concat it.texts.items ≡ plan_text_of (plan_from hostname transactions.now (bare findings.now))) }
+    ensures recipients { IfOk result (λ it. it.recipients ≡ sum_by (λ t. length t.to) transactions.now) }
+    ensures findings { IfOk result (λ it. it.findings ≡ length findings.now) }
+{
+    let Some(recipients) = recipient_count(transactions) else {
+        return Err(AllocError);
+    };
+    Ok(PlanTexts {
+        texts: texts_by(crew, transactions, recipients, findings)?,
+        recipients,
+        findings: findings.len(),
+    })
 }

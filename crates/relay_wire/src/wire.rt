@@ -62,7 +62,7 @@ fn put_scripted_transactions(
 pub fn wire_text(alloc: Global, plan: &Plan) -> Result<Text, AllocError>
     ensures { IfOk result (λ text. text ≡ wire_text_of plan.now) }
 {
-    let Some(recipients) = recipient_count(plan) else {
+    let Some(recipients) = recipient_count(plan.transactions.as_slice()) else {
         return Err(AllocError);
     };
     let mut out = Vec::with_capacity(alloc, wire_len(plan, recipients))?;

@@ -63,16 +63,16 @@ pub(crate) fn put_each_line(lines: &[Text], out: &mut Vec<u8>) -> Result<(), All
     ensures { OnOk result (out.new.items ≡ out.old.items ++ lines_of lines.now) }
 {
     for text in lines {
-        put_line(text, out)?;
+        put_line(text.as_bytes(), out)?;
     }
     Ok(())
 }
 
-// Puts a line at the end.
-fn put_line(text: &Text, out: &mut Vec<u8>) -> Result<(), AllocError>
+// Puts a line at the end, which is given without its end.
+pub(crate) fn put_line(text: &[u8], out: &mut Vec<u8>) -> Result<(), AllocError>
     ensures { OnOk result (out.new.items ≡ out.old.items ++ line text.now) }
 {
-    out.extend_from_slice(text.as_bytes())?;
+    out.extend_from_slice(text)?;
     end_line(out)
 }
 
