@@ -15,3 +15,4 @@ pub mod PlanFacts
 pub mod RouteLines
 pub mod PlacedFacts
 pub mod WrittenFacts
+pub mod LineFacts

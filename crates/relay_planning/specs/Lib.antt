@@ -1,6 +1,7 @@
 pub mod Delivery
 pub mod Report
 pub mod Reaching
+pub mod ReachedGraph
 pub mod Plans
 pub mod Texts
 pub mod Limits

@@ -22,10 +22,12 @@ mod outgoing;
 mod parsed;
 mod planning;
 mod reach;
+mod reached_graph;
 mod routing;
 mod summary;
 mod table;
 mod texts;
+mod transacted;
 mod with_findings;
 mod written;
 

@@ -21,12 +21,12 @@ use crate::laws::parsed_is_readable;
 use crate::lookup::Lookup;
 use crate::options::{Limits, Options};
 use crate::reach::Reach;
+use crate::transacted::{Transacted, transactions_by_lookup};
 use relay_destinations::Destinations;
 use relay_job::{Job, RunFault};
 use relay_loops::on_loops;
 use relay_pairs::{Reached, pairs_are_counted, pairs_by_numbers, reached_nodes, reached_pairs};
 use relay_rounds::{Gate, ReachFault};
-use relay_routes::Router;
 use relay_tables::{Graph, LookedUp, TableFault, Tables};
 use relay_text::{Seq, Text};
 use relay_wire::{FindingLines, KeptFindings, Plan, Planned};
@@ -119,7 +119,7 @@ pub fn nodes_of(
 }
 
 /// Adds the lines of what the entries that a job reaches lead to and shouldn't.
-fn report_reached<G: Gate, R: Threads + Sync, K: KeptFindings>(
+pub(crate) fn report_reached<G: Gate, R: Threads + Sync, K: KeptFindings>(
     crew: &Crew<G, R>,
     job: &JobView<'_>,
     tables: &Tables,
@@ -239,152 +239,6 @@ pub fn plan_reached<G: Gate, R: Threads + Sync>(
     plan_pairs(&crew.of_shares(), job, destinations, graph, pairs, lines)
 }
 
-/// The pairs that a job reaches on this graph of it. Adds the lines of what is reached.
-fn pairs_reported<G: Gate, R: Threads + Sync, K: KeptFindings>(
-    crew: &Crew<G, R>,
-    job: &JobView<'_>,
-    tables: &Tables,
-    graph: &Graph,
-    lines: &mut FindingLines<K>,
-) -> Result<Vec<Reached>, RunFault>
-    requires tables { tables.now ≡ directory_of job.now }
-    requires graph { IsJobPart job.now graph.now }
-    requires names { name_count job.now ≤ crew.now.limits.names }
-    requires owners { owned_count job.now ≤ crew.now.limits.owners }
-    ensures reached { IfOk result (λ pairs. AreReachedPairs job.now graph.now pairs.items) }
-    ensures few { IfOk result (λ pairs. length pairs.items ≤ 16777216) }
-    ensures at_most { OnOk result (HasAtMostPairs job.now crew.now.limits.pairs) }
-    ensures lines { OnOk result (Reports lines.old lines.new (IsLineOf job.now entries)) }
-    ensures refused { IfErr result (IsRefused crew.now.limits job.now) }
-{
-    let pairs = pairs_of(crew, job, graph)?;
-    report_reached(crew, job, tables, graph, &pairs, lines)?;
-    Ok(pairs)
-}
-
-/// The graph of a job, and the pairs that it reaches there, by their numbers.
-#[derive(Drop)]
-struct ReachedGraph {
-    graph: Graph,
-    pairs: Vec<Reached>,
-}
-
-/// The graph of a job, and the pairs that it reaches there. Adds the lines of what is reached.
-fn graph_reported<G: Gate, R: Threads + Sync, K: KeptFindings>(
-    crew: &Crew<G, R>,
-    job: &JobView<'_>,
-    tables: &Tables,
-    lines: &mut FindingLines<K>,
-) -> Result<ReachedGraph, RunFault>
-    requires tables { tables.now ≡ directory_of job.now }
-    ensures graph { IfOk result (λ reached. IsJobPart job.now reached.graph) }
-    ensures reached { IfOk result (λ reached. AreReachedPairs job.now reached.graph reached.pairs.items) }
-    ensures few { IfOk result (λ reached. length reached.pairs.items ≤ 16777216) }
-    ensures lines { OnOk result (Reports lines.old lines.new (IsLineOf job.now entries)) }
-    ensures within { OnOk result (IsWithin crew.now.limits job.now) }
-    ensures refused { IfErr result (IsRefused crew.now.limits job.now) }
-{
-    let graph = graph_of(crew, job, tables)?;
-    match pairs_reported(crew, job, tables, &graph, lines) {
-        Ok(pairs) => Ok(ReachedGraph { graph, pairs }),
-        Err(fault) => {
-            drop(graph);
-            Err(fault)
-        }
-    }
-}
-
-/// The transactions of a job that reaches these pairs of its graph, by what routes its addresses. Adds the lines of addresses without a
-/// route. The key is that of the hashes of domains and nexthops.
-fn transactions_by_router<R: Threads + Sync, K: KeptFindings>(
-    crew: &relay_sharing::Crew<'_, R>,
-    job: &JobView<'_>,
-    router: &Router,
-    key: u64,
-    reached: &ReachedGraph,
-    lines: &mut FindingLines<K>,
-) -> Result<Vec<Planned>, AllocError>
-    requires router { router.now ≡ routing_of job.now }
-    requires graph { IsJobPart job.now reached.now.graph }
-    requires reached { AreReachedPairs job.now reached.now.graph reached.now.pairs.items }
-    requires few { length reached.now.pairs.items ≤ 16777216 }
-    ensures transactions { IfOk result (λ transactions. AreTransactionsOf job.now transactions.items) }
-    ensures sound { IfOk result (λ transactions. IsSoundFor job.now transactions.items) }
-    ensures fewest { IfOk result (λ transactions. IsFewest job.now transactions.items) }
-    ensures lines { OnOk result (Reports lines.old lines.new (IsLineOf job.now routes)) }
-{
-    let via = &job.settings().mailbox_transport;
-    let destinations = Destinations::new(crew.alloc, router, via, key)?;
-    plan_addresses(
-        crew,
-        job,
-        destinations,
-        &reached.graph,
-        &reached.pairs,
-        lines,
-    )
-}
-
-/// The transactions of a job of these tables, by what routes its addresses. Adds the lines of what is reached. The key is that of the
-/// hashes of domains and nexthops.
-fn transactions_by_tables<G: Gate, R: Threads + Sync, K: KeptFindings>(
-    crew: &Crew<G, R>,
-    job: &JobView<'_>,
-    tables: Tables,
-    router: &Router,
-    key: u64,
-    lines: &mut FindingLines<K>,
-) -> Result<Vec<Planned>, RunFault>
-    requires tables { tables ≡ directory_of job.now }
-    requires router { router.now ≡ routing_of job.now }
-    ensures transactions { IfOk result (λ transactions. AreTransactionsOf job.now transactions.items) }
-    ensures sound { IfOk result (λ transactions. IsSoundFor job.now transactions.items) }
-    ensures fewest { IfOk result (λ transactions. IsFewest job.now transactions.items) }
-    ensures lines { OnOk result (Reports lines.old lines.new (IsOwnFindingLine job.now)) }
-    ensures within { OnOk result (IsWithin crew.now.limits job.now) }
-    ensures refused { IfErr result (IsRefused crew.now.limits job.now) }
-{
-    let reported = graph_reported(crew, job, &tables, lines);
-    // Nobody needs the tables any more: their room is given back before the transactions need theirs.
-    drop(tables);
-    let reached = match reported {
-        Ok(reached) => reached,
-        Err(fault) => return Err(fault),
-    };
-    let transactions = transactions_by_router(&crew.of_shares(), job, router, key, &reached, lines);
-    drop(reached);
-    match transactions {
-        Ok(transactions) => Ok(transactions),
-        Err(_) => Err(RunFault::Memory),
-    }
-}
-
-/// The transactions of a job whose files and tables are read. Adds the lines of what is reached.
-pub(crate) fn transactions_by_lookup<G: Gate, R: Threads + Sync, K: KeptFindings>(
-    crew: &Crew<G, R>,
-    job: &JobView<'_>,
-    lookup: Lookup,
-    lines: &mut FindingLines<K>,
-) -> Result<Vec<Planned>, RunFault>
-    requires tables { lookup.tables ≡ directory_of job.now }
-    requires router { lookup.router ≡ routing_of job.now }
-    ensures transactions { IfOk result (λ transactions. AreTransactionsOf job.now transactions.items) }
-    ensures sound { IfOk result (λ transactions. IsSoundFor job.now transactions.items) }
-    ensures fewest { IfOk result (λ transactions. IsFewest job.now transactions.items) }
-    ensures lines { OnOk result (Reports lines.old lines.new (IsOwnFindingLine job.now)) }
-    ensures within { OnOk result (IsWithin crew.now.limits job.now) }
-    ensures refused { IfErr result (IsRefused crew.now.limits job.now) }
-{
-    let Lookup {
-        tables,
-        router,
-        key,
-    } = lookup;
-    let transactions = transactions_by_tables(crew, job, tables, &router, key, lines);
-    drop(router);
-    transactions
-}
-
 /// The plan of a job whose files and tables are read. Their lines that are at fault are given.
 ///
 /// The errors are those of [`plan_job`], in the same order.
@@ -404,7 +258,11 @@ pub fn plan_by_lookup<G: Gate, R: Threads + Sync>(
     ensures refused { IfErr result (IsRefused crew.now.limits job.now) }
 {
     let mut lines = lines;
-    let transactions = transactions_by_lookup(crew, job, lookup, &mut lines)?;
+    let Transacted {
+        transactions,
+        basis,
+    } = transactions_by_lookup(crew, job, lookup, &mut lines)?;
+    drop(basis);
     match plan_of(&crew.of_shares(), job, transactions, lines) {
         Ok(plan) => Ok(plan),
         Err(_) => Err(RunFault::Memory),

@@ -12,7 +12,8 @@ use crate::crew::Crew;
 use crate::job_view::JobView;
 use crate::laws::parsed_is_readable;
 use crate::lookup::Lookup;
-use crate::planning::{plan_with, transactions_by_lookup};
+use crate::planning::plan_with;
+use crate::transacted::{Transacted, transactions_by_lookup};
 use relay_job::{Job, RunFault};
 use relay_rounds::Gate;
 use relay_wire::{Finding, FindingLines, Found, Plan, Planned};
@@ -77,10 +78,18 @@ fn plan_by_lookup_with_findings<G: Gate, R: Threads + Sync>(
 {
     let mut lines = lines;
     match transactions_by_lookup(crew, job, lookup, &mut lines) {
-        Ok(transactions) => match plan_with_found(crew.alloc, job, transactions, lines) {
-            Ok(reported) => Ok(reported),
-            Err(_) => Err(RunFault::Memory),
-        },
+        Ok(
+            Transacted {
+                transactions,
+                basis,
+            },
+        ) => {
+            drop(basis);
+            match plan_with_found(crew.alloc, job, transactions, lines) {
+                Ok(reported) => Ok(reported),
+                Err(_) => Err(RunFault::Memory),
+            }
+        }
         Err(fault) => {
             drop(lines);
             Err(fault)

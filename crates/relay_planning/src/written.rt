@@ -12,7 +12,8 @@ pub struct WrittenPlan {
     pub summary: Summary,
 }
 
-ghost use Rattle.std.specs.Prelude.{◌≡◌, ◌<◌, ℕ, List, IfOk, IfErr, OnOk};
+ghost use Rattle.std.specs.Prelude.{◌≡◌, ◌<◌, true, ℕ, List, IfOk, IfErr, OnOk};
+ghost use Rattle.std.specs.Thread.{IsSync};
 ghost use Rattle.relay_text.specs.Bytes.{has_text};
 ghost use Rattle.relay_job.specs.JobAnswers.{IsJobWithin};
 ghost use Rattle.relay_planning.specs.Delivery.{directory_of, routing_of};
@@ -25,12 +26,13 @@ use crate::job_view::JobView;
 use crate::laws::parsed_is_readable;
 use crate::lookup::Lookup;
 use crate::options::Form;
-use crate::planning::{plan_by_lookup, transactions_by_lookup};
+use crate::planning::plan_by_lookup;
+use crate::transacted::{Basis, MANY, Transacted, transactions_by_lookup};
 use relay_job::{Job, RunFault};
 use relay_rounds::Gate;
 use relay_wire::{FindingLines, Plan, PlanTexts, Planned};
 use std::alloc::{AllocError, Global};
-use std::thread::Threads;
+use std::thread::{Threads, join};
 
 /// What is written of a plan.
 fn written_of(alloc: Global, form: Form, plan: &Plan) -> Result<WrittenPlan, RunFault>
@@ -65,6 +67,51 @@ fn written_with<R: Threads + Sync>(
     })
 }
 
+/// The same by so many workers. Apart from their crew, since of a closure that borrows one `join` tells nothing.
+fn written_by<R: Threads + Sync>(
+    rt: &R,
+    alloc: Global,
+    workers: usize,
+    transactions: &[Planned],
+    lines: FindingLines,
+) -> Result<WrittenPlan, AllocError>
+    ensures { IfOk result (AreWritten transactions.now lines) }
+{
+    let crew = relay_sharing::Crew { rt, alloc, workers };
+    written_with(&crew, transactions, lines)
+}
+
+/// The same, and the basis of the transactions is let go of: in a thread of its own where it is large and there are several workers.
+fn written_beside<R: Threads + Sync>(
+    rt: &R,
+    alloc: Global,
+    workers: usize,
+    basis: Basis,
+    transactions: &[Planned],
+    lines: FindingLines,
+) -> Result<WrittenPlan, AllocError>
+    ensures { IfOk result (AreWritten transactions.now lines) }
+{
+    if workers < 2 || basis.reached.pairs.len() < MANY {
+        drop(basis);
+        return written_by(rt, alloc, workers, transactions, lines);
+    }
+    let (_, written) = join(
+        rt,
+        || -> bool
+            ensures { result ≡ true }
+        {
+            drop(basis);
+            true
+        },
+        || -> Result<WrittenPlan, AllocError>
+            requires { IsSync R.row }
+            ensures { IfOk result (AreWritten transactions.entry.now lines) }
+        { written_by(rt, alloc, workers, transactions, lines) },
+    );
+    written
+}
+
 /// What is written of the plan of a job whose files and tables are read. Their lines that are at fault are given.
 fn written_by_lookup<G: Gate, R: Threads + Sync>(
     crew: &Crew<G, R>,
@@ -80,8 +127,18 @@ fn written_by_lookup<G: Gate, R: Threads + Sync>(
     ensures refused { IfErr result (IsRefused crew.now.limits job.now) }
 {
     let mut lines = lines;
-    let transactions = transactions_by_lookup(crew, job, lookup, &mut lines)?;
-    let written = written_with(&crew.of_shares(), &transactions, lines);
+    let Transacted {
+        transactions,
+        basis,
+    } = transactions_by_lookup(crew, job, lookup, &mut lines)?;
+    let written = written_beside(
+        crew.rt,
+        crew.alloc,
+        crew.options.workers,
+        basis,
+        &transactions,
+        lines,
+    );
     drop(transactions);
     match written {
         Ok(written) => Ok(written),
