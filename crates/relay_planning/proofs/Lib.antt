@@ -10,6 +10,7 @@ pub mod ReachFacts
 pub mod EntryFacts
 pub mod FindingFacts
 pub mod KnownFacts
+pub mod WayFacts
 pub mod OutgoingFacts
 pub mod PlanFacts
 pub mod RouteLines

@@ -10,5 +10,6 @@ pub mod Listing
 pub mod Findings
 pub mod Entries
 pub mod Routes
+pub mod Wayfinding
 pub mod Parsed
 pub mod Readable

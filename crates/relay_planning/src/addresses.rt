@@ -14,8 +14,8 @@ ghost use Rattle.relay_planning.specs.Report.{routes, IsLineOf};
 
 use crate::job_view::JobView;
 use crate::outgoing::{Outgoing, outgoing_of};
+use crate::wayfinder::Wayfinder;
 use relay_delivery::{BatchLimits, Delivery, Routed, transactions};
-use relay_destinations::Destinations;
 use relay_job::Settings;
 use relay_pairs::Reached;
 use relay_routes::Route;
@@ -82,13 +82,13 @@ fn transactions_of<'a, R: Threads + Sync>(
 fn outgoing_transactions<'a, R: Threads + Sync, K: KeptFindings>(
     crew: &Crew<'_, R>,
     job: &JobView<'_>,
-    destinations: &mut Destinations<'a>,
+    finder: &mut Wayfinder<'a>,
     graph: &'a Graph,
     pairs: &[Reached],
     lines: &mut FindingLines<K>,
 ) -> Result<Vec<Planned>, AllocError>
-    requires routing { destinations.old.routing ≡ routing_of job.now }
-    requires via { destinations.old.via ≡ job.now.settings.mailbox_transport }
+    requires routing { finder.old.routing ≡ routing_of job.now }
+    requires via { finder.old.via ≡ job.now.settings.mailbox_transport }
     requires graph { IsJobPart job.now graph.now }
     requires pairs { AreReachedPairs job.now graph.now pairs.now }
     requires few { length pairs.now ≤ 16777216 }
@@ -97,7 +97,7 @@ fn outgoing_transactions<'a, R: Threads + Sync, K: KeptFindings>(
     ensures fewest { IfOk result (λ transactions. IsFewest job.now transactions.items) }
     ensures lines { OnOk result (Reports lines.old lines.new (IsLineOf job.now routes)) }
 {
-    let outgoing = outgoing_of(crew.alloc, job, graph, destinations, pairs, lines)?;
+    let outgoing = outgoing_of(crew.alloc, job, graph, finder, pairs, lines)?;
     let Outgoing {
         recipients,
         deliveries,
@@ -110,7 +110,7 @@ fn outgoing_transactions<'a, R: Threads + Sync, K: KeptFindings>(
         crew,
         job,
         graph,
-        destinations.routes(),
+        finder.routes(),
         recipients.as_slice(),
         deliveries,
     )
@@ -121,13 +121,13 @@ fn outgoing_transactions<'a, R: Threads + Sync, K: KeptFindings>(
 pub fn plan_addresses<'a, R: Threads + Sync, K: KeptFindings>(
     crew: &Crew<'_, R>,
     job: &JobView<'_>,
-    mut destinations: Destinations<'a>,
+    mut finder: Wayfinder<'a>,
     graph: &'a Graph,
     pairs: &[Reached],
     lines: &mut FindingLines<K>,
 ) -> Result<Vec<Planned>, AllocError>
-    requires routing { destinations.routing ≡ routing_of job.now }
-    requires via { destinations.via ≡ job.now.settings.mailbox_transport }
+    requires routing { finder.routing ≡ routing_of job.now }
+    requires via { finder.via ≡ job.now.settings.mailbox_transport }
     requires graph { IsJobPart job.now graph.now }
     requires pairs { AreReachedPairs job.now graph.now pairs.now }
     requires few { length pairs.now ≤ 16777216 }
@@ -136,7 +136,7 @@ pub fn plan_addresses<'a, R: Threads + Sync, K: KeptFindings>(
     ensures fewest { IfOk result (λ transactions. IsFewest job.now transactions.items) }
     ensures lines { OnOk result (Reports lines.old lines.new (IsLineOf job.now routes)) }
 {
-    let transactions = outgoing_transactions(crew, job, &mut destinations, graph, pairs, lines);
-    drop(destinations);
+    let transactions = outgoing_transactions(crew, job, &mut finder, graph, pairs, lines);
+    drop(finder);
     transactions
 }

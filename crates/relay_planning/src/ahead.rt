@@ -3,7 +3,7 @@
 //! A look-up of a domain reads the head of a bucket, the hashes in it, a text and its way, which lie apart in memory, and waits for each
 //! of them in turn. Read by themselves for a block of addresses they are waited for at the same time, and the look-ups find them at hand.
 //! What is read here decides nothing: a look-up reads it again.
-use relay_destinations::Destinations;
+use crate::wayfinder::Wayfinder;
 use relay_pairs::Reached;
 use relay_tables::{Graph, Node};
 
@@ -31,40 +31,34 @@ impl Ahead {
 
     /// Reads for the nodes of the pairs from one on, where a block begins there.
     #[inline]
-    pub fn read(
-        &mut self,
-        graph: &Graph,
-        destinations: &Destinations<'_>,
-        pairs: &[Reached],
-        start: usize,
-    ) {
+    pub fn read(&mut self, graph: &Graph, finder: &Wayfinder<'_>, pairs: &[Reached], start: usize) {
         if self.is_worth && start % BLOCK == 0 && start < pairs.len() {
-            self.seen = read_block(graph, destinations, &pairs[start..]);
+            self.seen = read_block(graph, finder, &pairs[start..]);
         }
     }
 }
 
 // Reads for the first of the pairs.
 #[inline(never)]
-fn read_block(graph: &Graph, destinations: &Destinations<'_>, pairs: &[Reached]) -> usize {
+fn read_block(graph: &Graph, finder: &Wayfinder<'_>, pairs: &[Reached]) -> usize {
     let mut words = [0u32; BLOCK];
     for (place, pair) in pairs.iter().take(BLOCK).enumerate() {
-        words[place] = newest_of(graph, destinations, pair.node);
+        words[place] = newest_of(graph, finder, pair.node);
     }
     let mut seen = 0usize;
     for word in words {
-        seen = seen.wrapping_add(destinations.read(word));
+        seen = seen.wrapping_add(finder.read(word));
     }
     seen
 }
 
 // The word of what a look-up of a node's address reads first; 0 where the node is no remote address.
-fn newest_of(graph: &Graph, destinations: &Destinations<'_>, node: u32) -> u32 {
+fn newest_of(graph: &Graph, finder: &Wayfinder<'_>, node: u32) -> u32 {
     if node as usize >= graph.nodes() {
         return 0;
     }
     match graph.node(node) {
-        Node::Remote(address) => destinations.newest(address),
+        Node::Remote(address) => finder.newest(node, address),
         _ => 0,
     }
 }

@@ -28,6 +28,7 @@ mod summary;
 mod table;
 mod texts;
 mod transacted;
+mod wayfinder;
 mod with_findings;
 mod written;
 

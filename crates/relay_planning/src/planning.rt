@@ -22,6 +22,7 @@ use crate::lookup::Lookup;
 use crate::options::{Limits, Options};
 use crate::reach::Reach;
 use crate::transacted::{Transacted, transactions_by_lookup};
+use crate::wayfinder::Wayfinder;
 use relay_destinations::Destinations;
 use relay_job::{Job, RunFault};
 use relay_loops::on_loops;
@@ -193,13 +194,13 @@ fn plan_of<R: Threads + Sync>(
 fn plan_pairs<'a, R: Threads + Sync>(
     crew: &relay_sharing::Crew<'_, R>,
     job: &JobView<'_>,
-    destinations: Destinations<'a>,
+    finder: Wayfinder<'a>,
     graph: &'a Graph,
     pairs: &[Reached],
     lines: FindingLines,
 ) -> Result<Plan, AllocError>
-    requires routing { destinations.routing ≡ routing_of job.now }
-    requires via { destinations.via ≡ job.now.settings.mailbox_transport }
+    requires routing { finder.routing ≡ routing_of job.now }
+    requires via { finder.via ≡ job.now.settings.mailbox_transport }
     requires graph { IsJobPart job.now graph.now }
     requires reached { AreReachedPairs job.now graph.now pairs.now }
     requires few { length pairs.now ≤ 16777216 }
@@ -208,7 +209,7 @@ fn plan_pairs<'a, R: Threads + Sync>(
     ensures fewest { IfOk result (λ plan. IsFewest job.now plan.transactions) }
 {
     let mut lines = lines;
-    let transactions = plan_addresses(crew, job, destinations, graph, pairs, &mut lines)?;
+    let transactions = plan_addresses(crew, job, finder, graph, pairs, &mut lines)?;
     plan_of(crew, job, transactions, lines)
 }
 
@@ -236,7 +237,8 @@ pub fn plan_reached<G: Gate, R: Threads + Sync>(
     report_reached(crew, job, &lookup.tables, graph, pairs, &mut lines)?;
     let via = &job.settings().mailbox_transport;
     let destinations = Destinations::new(alloc, &lookup.router, via, lookup.key)?;
-    plan_pairs(&crew.of_shares(), job, destinations, graph, pairs, lines)
+    let finder = Wayfinder::new(alloc, destinations, job.recipients());
+    plan_pairs(&crew.of_shares(), job, finder, graph, pairs, lines)
 }
 
 /// The plan of a job whose files and tables are read. Their lines that are at fault are given.

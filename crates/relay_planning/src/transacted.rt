@@ -1,7 +1,8 @@
 //! The transactions of a job whose files and tables are read.
 //!
 //! Lines of what is reached are made from the tables and the graph, and transactions from the graph and the router, so several workers do both
-//! at the same time where there is much of it ([`transactions_side_by_side`]). What each step leaves behind is let go of where nobody waits for
+//! at the same time where there is much of it ([`transactions_side_by_side`]). Where most recipients are remote addresses, their ways are found
+//! before that, while the graph is made and searched ([`reached_beside_ways`]). What each step leaves behind is let go of where nobody waits for
 //! it: the tables behind those lines, and the basis by who writes the transactions.
 use crate::reached_graph::ReachedGraph;
 use relay_routes::Router;
@@ -24,6 +25,7 @@ pub(crate) struct Basis {
 ghost use Rattle.std.specs.Prelude.{◌≡◌, ◌||◌, ℕ, List, [], IfOk, IfErr, OnOk};
 ghost use Rattle.std.specs.Thread.{IsSync, IsSend};
 ghost use Rattle.relay_text.specs.Bytes.{has_text};
+ghost use Rattle.relay_destinations.specs.Ways.{Keeps};
 ghost use Rattle.relay_planning.specs.Delivery.{directory_of, routing_of};
 ghost use Rattle.relay_planning.specs.Findings.{Reports};
 ghost use Rattle.relay_planning.specs.Limits.{IsWithin, IsRefused};
@@ -37,15 +39,16 @@ use crate::crew::Crew;
 use crate::job_view::JobView;
 use crate::lookup::Lookup;
 use crate::planning::report_reached;
+use crate::wayfinder::Wayfinder;
 use relay_destinations::Destinations;
 use relay_job::RunFault;
 use relay_rounds::Gate;
 use relay_tables::Tables;
 use relay_wire::{FindingLines, KeptFindings};
 use std::alloc::AllocError;
-use std::thread::{Threads, join};
+use std::thread::{Threads, join, join_mut};
 
-/// From so many pairs on two threads share the work: to start one takes as long as to look at some thousands of pairs.
+/// From so many pairs or recipients on two threads share the work: to start one takes as long as to look at some thousands of pairs.
 pub(crate) const MANY: usize = 65_536;
 
 /// The transactions of what a job reaches, and the lines of what is reached: first those lines, then the transactions.
@@ -53,13 +56,13 @@ fn transactions_in_turn<'a, G: Gate, R: Threads + Sync, K: KeptFindings>(
     crew: &Crew<G, R>,
     job: &JobView<'_>,
     tables: Tables,
-    destinations: Destinations<'a>,
+    finder: Wayfinder<'a>,
     reached: &'a ReachedGraph,
     lines: &mut FindingLines<K>,
 ) -> Result<Vec<Planned>, AllocError>
     requires tables { tables ≡ directory_of job.now }
-    requires routing { destinations.routing ≡ routing_of job.now }
-    requires via { destinations.via ≡ job.now.settings.mailbox_transport }
+    requires routing { finder.routing ≡ routing_of job.now }
+    requires via { finder.via ≡ job.now.settings.mailbox_transport }
     requires reached { IsReachedGraph job.now reached.now }
     ensures transactions { IfOk result (λ transactions. AreTransactionsOf job.now transactions.items) }
     ensures sound { IfOk result (λ transactions. IsSoundFor job.now transactions.items) }
@@ -70,9 +73,9 @@ fn transactions_in_turn<'a, G: Gate, R: Threads + Sync, K: KeptFindings>(
     let reported = report_reached(crew, job, &tables, graph, pairs, lines);
     drop(tables);
     match reported {
-        Ok(()) => plan_addresses(&crew.of_shares(), job, destinations, graph, pairs, lines),
+        Ok(()) => plan_addresses(&crew.of_shares(), job, finder, graph, pairs, lines),
         Err(error) => {
-            drop(destinations);
+            drop(finder);
             Err(error)
         }
     }
@@ -106,11 +109,11 @@ fn lines_of_entries<G: Gate, R: Threads + Sync, K: KeptFindings + Drop>(
 fn routed_of<'a, G: Gate, R: Threads + Sync, K: KeptFindings + Drop>(
     crew: &Crew<G, R>,
     job: &JobView<'_>,
-    destinations: Destinations<'a>,
+    finder: Wayfinder<'a>,
     reached: &'a ReachedGraph,
 ) -> Result<(Vec<Planned>, FindingLines<K>), AllocError>
-    requires routing { destinations.routing ≡ routing_of job.now }
-    requires via { destinations.via ≡ job.now.settings.mailbox_transport }
+    requires routing { finder.routing ≡ routing_of job.now }
+    requires via { finder.via ≡ job.now.settings.mailbox_transport }
     requires reached { IsReachedGraph job.now reached.now }
     ensures transactions { IfOk result (λ routed. AreTransactionsOf job.now routed.0.items) }
     ensures sound { IfOk result (λ routed. IsSoundFor job.now routed.0.items) }
@@ -119,14 +122,7 @@ fn routed_of<'a, G: Gate, R: Threads + Sync, K: KeptFindings + Drop>(
 {
     let mut lines = FindingLines::empty(crew.alloc);
     let ReachedGraph { graph, pairs } = reached;
-    match plan_addresses(
-        &crew.of_shares(),
-        job,
-        destinations,
-        graph,
-        pairs,
-        &mut lines,
-    ) {
+    match plan_addresses(&crew.of_shares(), job, finder, graph, pairs, &mut lines) {
         Ok(transactions) => Ok((transactions, lines)),
         Err(error) => {
             drop(lines);
@@ -157,13 +153,13 @@ fn transactions_side_by_side<'a, G: Gate, R: Threads + Sync, K: KeptFindings + S
     crew: &Crew<G, R>,
     job: &JobView<'_>,
     tables: Tables,
-    destinations: Destinations<'a>,
+    finder: Wayfinder<'a>,
     reached: &'a ReachedGraph,
     lines: &mut FindingLines<K>,
 ) -> Result<Vec<Planned>, AllocError>
     requires tables { tables ≡ directory_of job.now }
-    requires routing { destinations.routing ≡ routing_of job.now }
-    requires via { destinations.via ≡ job.now.settings.mailbox_transport }
+    requires routing { finder.routing ≡ routing_of job.now }
+    requires via { finder.via ≡ job.now.settings.mailbox_transport }
     requires reached { IsReachedGraph job.now reached.now }
     ensures transactions { IfOk result (λ transactions. AreTransactionsOf job.now transactions.items) }
     ensures sound { IfOk result (λ transactions. IsSoundFor job.now transactions.items) }
@@ -177,9 +173,9 @@ fn transactions_side_by_side<'a, G: Gate, R: Threads + Sync, K: KeptFindings + S
             ensures { IfOk result (λ lines. Reports [] lines (IsLineOf job.entry.now entries)) }
         { lines_of_entries(crew, job, tables, reached) },
         move || -> Result<(Vec<Planned>, FindingLines<K>), AllocError>
-            requires { IsSync G.row × IsSync R.row × (destinations.routing ≡ routing_of job.now) × (destinations.via ≡ job.now.settings.mailbox_transport) × IsReachedGraph job.now reached.now }
+            requires { IsSync G.row × IsSync R.row × (finder.routing ≡ routing_of job.now) × (finder.via ≡ job.now.settings.mailbox_transport) × IsReachedGraph job.now reached.now }
             ensures { IfOk result (λ routed. AreTransactionsOf job.entry.now routed.0.items × IsSoundFor job.entry.now routed.0.items × IsFewest job.entry.now routed.0.items × Reports [] routed.1 (IsLineOf job.entry.now routes)) }
-        { routed_of(crew, job, destinations, reached) },
+        { routed_of(crew, job, finder, reached) },
     );
     let (of_entries, (transactions, of_routes)) = both_of(there, here)?;
     match add_both(of_entries, of_routes, lines) {
@@ -196,13 +192,13 @@ fn transactions_of_reached<'a, G: Gate, R: Threads + Sync, K: KeptFindings + Sen
     crew: &Crew<G, R>,
     job: &JobView<'_>,
     tables: Tables,
-    destinations: Destinations<'a>,
+    finder: Wayfinder<'a>,
     reached: &'a ReachedGraph,
     lines: &mut FindingLines<K>,
 ) -> Result<Vec<Planned>, AllocError>
     requires tables { tables ≡ directory_of job.now }
-    requires routing { destinations.routing ≡ routing_of job.now }
-    requires via { destinations.via ≡ job.now.settings.mailbox_transport }
+    requires routing { finder.routing ≡ routing_of job.now }
+    requires via { finder.via ≡ job.now.settings.mailbox_transport }
     requires reached { IsReachedGraph job.now reached.now }
     ensures transactions { IfOk result (λ transactions. AreTransactionsOf job.now transactions.items) }
     ensures sound { IfOk result (λ transactions. IsSoundFor job.now transactions.items) }
@@ -210,9 +206,84 @@ fn transactions_of_reached<'a, G: Gate, R: Threads + Sync, K: KeptFindings + Sen
     ensures lines { OnOk result (Reports lines.old lines.new (IsOwnFindingLine job.now)) }
 {
     if crew.options.workers < 2 || reached.pairs.len() < MANY {
-        transactions_in_turn(crew, job, tables, destinations, reached, lines)
+        transactions_in_turn(crew, job, tables, finder, reached, lines)
     } else {
-        transactions_side_by_side(crew, job, tables, destinations, reached, lines)
+        transactions_side_by_side(crew, job, tables, finder, reached, lines)
+    }
+}
+
+/// Whether the ways of the recipients are to be found while another thread finds out what they reach: where they are many, and the one in
+/// the middle is no local address.
+fn looks_ahead<G: Gate, R: Threads + Sync>(
+    crew: &Crew<G, R>,
+    job: &JobView<'_>,
+    tables: &Tables,
+) -> bool {
+    let recipients = job.recipients();
+    if crew.options.workers < 2 || recipients.len() < MANY {
+        return false;
+    }
+    match recipients.get(recipients.len() / 2) {
+        Some(address) => !tables.is_local(address),
+        None => false,
+    }
+}
+
+/// What a job reaches, found by another thread, and meanwhile in this one the ways of its recipients.
+fn reached_beside_ways<G: Gate, R: Threads + Sync>(
+    crew: &Crew<G, R>,
+    job: &JobView<'_>,
+    tables: &Tables,
+    finder: &mut Wayfinder<'_>,
+) -> Result<ReachedGraph, RunFault>
+    requires tables { tables.now ≡ directory_of job.now }
+    ensures reached { IfOk result (IsReachedGraph job.now) }
+    ensures within { OnOk result (IsWithin crew.now.limits job.now) }
+    ensures refused { IfErr result (IsRefused crew.now.limits job.now) }
+    ensures kept { Keeps finder.old finder.new }
+{
+    let alloc = crew.alloc;
+    let mut reach = || -> Result<ReachedGraph, RunFault>
+        requires { IsSync G.row × IsSync R.row × (tables.now ≡ directory_of job.now) }
+        ensures { IfOk result (IsReachedGraph job.entry.now) × OnOk result (IsWithin crew.entry.now.limits job.entry.now) × IfErr result (IsRefused crew.entry.now.limits job.entry.now) }
+    { ReachedGraph::of(crew, job, tables) };
+    let mut look = || -> Result<(), AllocError>
+        ensures { Keeps finder.entry.now finder.exit.now }
+    { finder.look_ahead(alloc) };
+    let (reached, found) = join_mut(crew.rt, &mut reach, &mut look);
+    let reached = reached?;
+    match found {
+        Ok(()) => Ok(reached),
+        Err(_) => {
+            drop(reached);
+            Err(RunFault::Memory)
+        }
+    }
+}
+
+/// What a job reaches. The ways of its recipients are found meanwhile where that pays.
+fn reached_of<G: Gate, R: Threads + Sync>(
+    crew: &Crew<G, R>,
+    job: &JobView<'_>,
+    tables: &Tables,
+    finder: &mut Wayfinder<'_>,
+) -> Result<ReachedGraph, RunFault>
+    requires tables { tables.now ≡ directory_of job.now }
+    ensures reached { IfOk result (IsReachedGraph job.now) }
+    ensures within { OnOk result (IsWithin crew.now.limits job.now) }
+    ensures refused { IfErr result (IsRefused crew.now.limits job.now) }
+    ensures kept { Keeps finder.old finder.new }
+{
+    if !looks_ahead(crew, job, tables) {
+        return ReachedGraph::of(crew, job, tables);
+    }
+    let reached = reached_beside_ways(crew, job, tables, finder)?;
+    match finder.place(crew.alloc, &reached.graph) {
+        Ok(()) => Ok(reached),
+        Err(_) => {
+            drop(reached);
+            Err(RunFault::Memory)
+        }
     }
 }
 
@@ -235,20 +306,21 @@ fn transactions_by_tables<G: Gate, R: Threads + Sync, K: KeptFindings + Send + D
     ensures within { OnOk result (IsWithin crew.now.limits job.now) }
     ensures refused { IfErr result (IsRefused crew.now.limits job.now) }
 {
-    let reached = match ReachedGraph::of(crew, job, &tables) {
-        Ok(reached) => reached,
-        Err(fault) => {
-            drop(tables);
-            return Err(fault);
-        }
-    };
     let via = &job.settings().mailbox_transport;
     let Ok(destinations) = Destinations::new(crew.alloc, router, via, key) else {
         drop(tables);
-        drop(reached);
         return Err(RunFault::Memory);
     };
-    match transactions_of_reached(crew, job, tables, destinations, &reached, lines) {
+    let mut finder = Wayfinder::new(crew.alloc, destinations, job.recipients());
+    let reached = match reached_of(crew, job, &tables, &mut finder) {
+        Ok(reached) => reached,
+        Err(fault) => {
+            drop(tables);
+            drop(finder);
+            return Err(fault);
+        }
+    };
+    match transactions_of_reached(crew, job, tables, finder, &reached, lines) {
         Ok(transactions) => Ok((transactions, reached)),
         Err(_) => {
             drop(reached);

@@ -15,14 +15,14 @@ transactions_of-requires-clause-range g c κs lives =
     let outgoing = c.in_ok-outgoing.outgoing in
     let h = c.in_ok-outgoing.ensures in
     rw (c.routes.ensures.routes, c.as_slice.ensures.value)
-    (in_range c.args.job.now c.args.graph.now c.args.pairs.now c.requires.pairs c.outgoing_of.new.destinations.routes outgoing.recipients.items outgoing.known.items c.outgoing_of.new.lines outgoing.deliveries.items h.known h.outgoing)
+    (in_range c.args.job.now c.args.graph.now c.args.pairs.now c.requires.pairs c.outgoing_of.new.finder.routes outgoing.recipients.items outgoing.known.items c.outgoing_of.new.lines outgoing.deliveries.items h.known h.outgoing)
 
 pub transactions_of-requires-clause-placed : goal.transactions_of-requires-clause-placed
 transactions_of-requires-clause-placed g c κs lives = λ s r a.
     let outgoing = c.in_ok-outgoing.outgoing in
     let h = c.in_ok-outgoing.ensures in
     rw (c.routes.ensures.routes, c.as_slice.ensures.value)
-    (let both = placed_by_numbers c.args.job.now c.args.graph.now c.args.pairs.now c.requires.pairs c.outgoing_of.new.destinations.routes outgoing.recipients.items outgoing.known.items c.outgoing_of.new.lines outgoing.deliveries.items h.known h.outgoing s r a in (both.1, both.0))
+    (let both = placed_by_numbers c.args.job.now c.args.graph.now c.args.pairs.now c.requires.pairs c.outgoing_of.new.finder.routes outgoing.recipients.items outgoing.known.items c.outgoing_of.new.lines outgoing.deliveries.items h.known h.outgoing s r a in (both.1, both.0))
 
 pub returns-clause-lines : goal.returns-clause-lines
 returns-clause-lines g c =
