@@ -19,3 +19,4 @@ pub mod ListCuts
 pub mod ListParts
 pub mod MailboxLines
 pub mod Spread
+pub mod ItemCounts

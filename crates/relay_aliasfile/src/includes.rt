@@ -1,5 +1,5 @@
 //! Include files.
-ghost use Rattle.std.specs.Prelude.{◌≡◌, ◌++◌, IfOk, OnOk};
+ghost use Rattle.std.specs.Prelude.{◌≡◌, ◌++◌, [], IfOk, OnOk};
 ghost use Rattle.relay_aliasfile.specs.IncludeFiles.{include_file_of, bad_item_faults};
 ghost use Rattle.relay_aliasfile.specs.Items.{good_items};
 ghost use Rattle.relay_aliasfile.specs.IncludeNames.{include_names_in};
@@ -7,6 +7,7 @@ ghost use Rattle.relay_aliasfile.specs.IncludeNames.{include_names_in};
 use crate::distinct::distinct_texts;
 use crate::fault::LineFault;
 use crate::item::Item;
+use crate::item_counts::about_items;
 use crate::item_texts::ItemTexts;
 use crate::lists::read_item;
 use crate::paths::add_paths;
@@ -29,7 +30,7 @@ pub struct IncludeFile {
 pub fn parse_include(alloc: Global, bytes: &[u8]) -> Result<IncludeFile, AllocError>
     ensures { IfOk result (λ file. file ≡ include_file_of bytes.now) }
 {
-    let mut items: Vec<Item> = Vec::new(alloc);
+    let mut items = room_for(alloc, about_items(bytes));
     let mut faults: Vec<LineFault> = Vec::new(alloc);
     let mut lines = KeptLines::new(bytes);
     while let Some(line) = lines.next_line() {
@@ -39,6 +40,17 @@ pub fn parse_include(alloc: Global, bytes: &[u8]) -> Result<IncludeFile, AllocEr
         items: Seq::of(items),
         faults: Seq::of(faults),
     })
+}
+
+/// Room for so many items, made at once: threads that ask one heap again and again wait for each other. Where it is refused there is none,
+/// and it is asked for as the items come, of which there may be fewer.
+fn room_for(alloc: Global, count: usize) -> Vec<Item>
+    ensures { result.items ≡ [] }
+{
+    match Vec::with_capacity(alloc, count) {
+        Ok(items) => items,
+        Err(AllocError) => Vec::new(alloc),
+    }
 }
 
 /// Reads the items of a line. A bad item is a fault at the line, and doesn't touch the others.

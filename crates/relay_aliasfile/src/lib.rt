@@ -12,6 +12,7 @@ mod halves;
 mod heading;
 pub mod includes;
 pub mod item;
+mod item_counts;
 mod item_text;
 mod item_texts;
 pub mod items;

@@ -3,6 +3,7 @@ pub mod NumberFacts
 pub mod SetFacts
 pub mod LimitFacts
 pub mod ReportFacts
+pub mod IncludeFacts
 pub mod ParsedFacts
 pub mod JobFileFacts
 pub mod TextFacts

@@ -4,6 +4,7 @@ pub mod Reaching
 pub mod ReachedGraph
 pub mod Plans
 pub mod Texts
+pub mod Includes
 pub mod Limits
 pub mod Written
 pub mod Listing

@@ -61,12 +61,6 @@ is_file_line aliases mailboxes q =
     list_any (λ fault. bytes_eq q (file_line Aliases fault)) aliases
     || list_any (λ fault. bytes_eq q (file_line Mailboxes fault)) mailboxes
 
--- one of the lines at fault of a job's include files or its tables
-abbrev pub is_include_or_table_line : Job → List ℕ → Bool
-is_include_or_table_line job q =
-    list_any (has_include_line q) job.includes
-    || is_route_line (transport_table_of job.transport).faults (mx_table_of job.mx).faults q
-
 -- one of a job's lines at fault
 abbrev pub has_fault_line : Job → List ℕ → Bool
 has_fault_line job q =

@@ -12,6 +12,7 @@ mod both;
 mod crew;
 mod entries;
 mod findings;
+mod includes;
 mod job_file;
 mod job_view;
 mod laws;

@@ -22,15 +22,16 @@ ghost use Rattle.relay_planning.specs.Delivery.{directory_of, entry_of_include, 
 ghost use Rattle.relay_planning.specs.Findings.{ReportsWhere};
 ghost use Rattle.relay_planning.specs.Parsed.{AreParsed};
 ghost use Rattle.relay_planning.specs.Readable.{IsReadable};
-ghost use Rattle.relay_planning.specs.Texts.{is_file_line, is_include_or_table_line, is_route_line, has_fault_line};
+ghost use Rattle.relay_planning.specs.Texts.{is_file_line, is_name_line, is_route_line, has_fault_line};
 
 use crate::both::{beside, both_of};
 use crate::crew::Crew;
+use crate::includes::{read_includes, read_includes_by};
 use crate::job_file::JobFile;
 use crate::parsed::Parsed;
 use crate::routing::{push_copies, route_settings_of};
 use crate::table::Table;
-use crate::texts::{read_includes, report_file, report_file_by, report_table};
+use crate::texts::{report_file, report_file_by, report_table};
 use relay_aliasfile::{AliasFile, MailboxFile};
 use relay_chains::hash_text;
 use relay_job::{Job, Settings};
@@ -122,6 +123,34 @@ fn report_files_by<R: Threads + Sync, K: KeptFindings + Send + Drop>(
     report_file_by(crew, JobFile::Mailboxes, mailboxes, lines)
 }
 
+/// The include files of a job. Adds the lines of its files that are at fault, of which the alias file and the mailbox file are parsed.
+fn read_files<K: KeptFindings>(
+    alloc: Global,
+    job: &Job,
+    parsed: &Parsed,
+    lines: &mut FindingLines<K>,
+) -> Result<Vec<IncludeEntry>, AllocError>
+    ensures includes { IfOk result (λ includes. includes.items ≡ map entry_of_include job.now.includes) }
+    ensures lines { OnOk result (ReportsWhere lines.old lines.new (is_name_line parsed.now.aliases.faults parsed.now.mailboxes.faults job.now.includes)) }
+{
+    report_files(alloc, parsed, lines)?;
+    read_includes(alloc, job.includes.as_slice(), lines)
+}
+
+/// The same by a crew, which shares the work where the files are long, or many lines at fault.
+fn read_files_by<R: Threads + Sync, K: KeptFindings + Send + Drop>(
+    crew: &relay_sharing::Crew<'_, R>,
+    job: &Job,
+    parsed: &Parsed,
+    lines: &mut FindingLines<K>,
+) -> Result<Vec<IncludeEntry>, AllocError>
+    ensures includes { IfOk result (λ includes. includes.items ≡ map entry_of_include job.now.includes) }
+    ensures lines { OnOk result (ReportsWhere lines.old lines.new (is_name_line parsed.now.aliases.faults parsed.now.mailboxes.faults job.now.includes)) }
+{
+    report_files_by(crew, parsed, lines)?;
+    read_includes_by(crew, job.includes.as_slice(), lines)
+}
+
 /// Adds the lines of the tables that are at fault.
 fn report_routes<K: KeptFindings>(
     alloc: Global,
@@ -133,22 +162,6 @@ fn report_routes<K: KeptFindings>(
 {
     report_table(alloc, Table::Transport, transports.faults(), lines)?;
     report_table(alloc, Table::Mx, exchanges.faults(), lines)
-}
-
-/// The include files of a job. Adds the lines of these and of its tables that are at fault, of which the tables are parsed.
-fn report_parsed<K: KeptFindings>(
-    alloc: Global,
-    job: &Job,
-    parsed: &Parsed,
-    lines: &mut FindingLines<K>,
-) -> Result<Vec<IncludeEntry>, AllocError>
-    requires parsed { AreParsed job.now parsed.now }
-    ensures includes { IfOk result (λ includes. includes.items ≡ map entry_of_include job.now.includes) }
-    ensures lines { OnOk result (ReportsWhere lines.old lines.new (is_include_or_table_line job.now)) }
-{
-    let includes = read_includes(alloc, job.includes.as_slice(), lines)?;
-    report_routes(alloc, &parsed.transports, &parsed.exchanges, lines)?;
-    Ok(includes)
 }
 
 /// What a job's settings say of names and of routes.
@@ -168,22 +181,19 @@ fn table_settings_of(alloc: Global, job: &Job) -> Result<TableSettings, AllocErr
     Ok(TableSettings { local, routes })
 }
 
-/// What a job says beside the parsed files and tables: its settings, and its include files. Adds the lines of these and of the tables
-/// that are at fault.
-fn read_others<K: KeptFindings>(
+/// What the settings of a job say of names and of routes. Adds the lines of its tables that are at fault, which are parsed.
+fn read_settings<K: KeptFindings>(
     alloc: Global,
     job: &Job,
     parsed: &Parsed,
     lines: &mut FindingLines<K>,
-) -> Result<(TableSettings, Vec<IncludeEntry>), AllocError>
-    requires parsed { AreParsed job.now parsed.now }
-    ensures local { IfOk result (λ others. others.0.local ≡ local_of job.now.settings) }
-    ensures routes { IfOk result (λ others. others.0.routes ≡ (routing_of job.now).settings) }
-    ensures includes { IfOk result (λ others. others.1.items ≡ map entry_of_include job.now.includes) }
-    ensures lines { OnOk result (ReportsWhere lines.old lines.new (is_include_or_table_line job.now)) }
+) -> Result<TableSettings, AllocError>
+    ensures local { IfOk result (λ settings. settings.local ≡ local_of job.now.settings) }
+    ensures routes { IfOk result (λ settings. settings.routes ≡ (routing_of job.now).settings) }
+    ensures lines { OnOk result (ReportsWhere lines.old lines.new (is_route_line parsed.now.transports.faults parsed.now.exchanges.faults)) }
 {
-    let settings = table_settings_of(alloc, job)?;
-    beside(settings, report_parsed(alloc, job, parsed, lines))
+    report_routes(alloc, &parsed.transports, &parsed.exchanges, lines)?;
+    table_settings_of(alloc, job)
 }
 
 /// What names stand for, found under a key.
@@ -243,26 +253,27 @@ impl Lookup {
         })
     }
 
-    /// What the files and tables of a job say, which are parsed, under a key. Adds the lines of those that are at fault, where those of the
-    /// alias file and the mailbox file were reported. `Err` where memory runs out.
+    /// What the files and tables of a job say, which are parsed, under a key. Adds the lines of the tables that are at fault, where the
+    /// include files were read. `Err` where memory runs out.
     fn of<K: KeptFindings>(
         alloc: Global,
         job: &Job,
         key: u64,
         parsed: Parsed,
-        reported: Result<(), AllocError>,
+        includes: Result<Vec<IncludeEntry>, AllocError>,
         lines: &mut FindingLines<K>,
     ) -> Result<Lookup, AllocError>
         requires job { IsReadable job.now }
         requires parsed { AreParsed job.now parsed }
+        requires includes { IfOk includes (λ includes. includes.items ≡ map entry_of_include job.now.includes) }
         ensures tables { IfOk result (λ lookup. lookup.tables ≡ directory_of job.now) }
         ensures router { IfOk result (λ lookup. lookup.router ≡ routing_of job.now) }
-        ensures reported { OnOk result (IsOk reported) }
-        ensures lines { OnOk result (ReportsWhere lines.old lines.new (is_include_or_table_line job.now)) }
+        ensures read { OnOk result (IsOk includes) }
+        ensures lines { OnOk result (ReportsWhere lines.old lines.new (is_route_line parsed.transports.faults parsed.exchanges.faults)) }
     {
-        let (parsed, _) = beside(parsed, reported)?;
-        let others = read_others(alloc, job, &parsed, lines);
-        let (parsed, (settings, includes)) = beside(parsed, others)?;
+        let files = beside(parsed, includes)?;
+        let settings = read_settings(alloc, job, &files.0, lines);
+        let ((parsed, includes), settings) = beside(files, settings)?;
         Lookup::joined(alloc, job, key, parsed, settings, includes)
     }
 
@@ -278,8 +289,8 @@ impl Lookup {
         ensures lines { OnOk result (ReportsWhere lines.old lines.new (has_fault_line job.now)) }
     {
         let parsed = Parsed::one_by_one(alloc, job)?;
-        let reported = report_files(alloc, &parsed, lines);
-        Lookup::of(alloc, job, key_of(job), parsed, reported, lines)
+        let includes = read_files(alloc, job, &parsed, lines);
+        Lookup::of(alloc, job, key_of(job), parsed, includes, lines)
     }
 
     /// The same by a crew, which shares the work where files and tables are long, or many lines at fault.
@@ -295,7 +306,7 @@ impl Lookup {
     {
         let (key, parsed) = keyed(crew.rt, crew.alloc, crew.options.workers, job);
         let parsed = parsed?;
-        let reported = report_files_by(&crew.of_shares(), &parsed, lines);
-        Lookup::of(crew.alloc, job, key, parsed, reported, lines)
+        let includes = read_files_by(&crew.of_shares(), job, &parsed, lines);
+        Lookup::of(crew.alloc, job, key, parsed, includes, lines)
     }
 }

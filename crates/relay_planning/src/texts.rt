@@ -1,22 +1,16 @@
 //! The lines of files and tables that are at fault.
-ghost use Rattle.std.specs.Prelude.{◌≡◌, ℕ, List, map, IfOk, OnOk};
+ghost use Rattle.std.specs.Prelude.{◌≡◌, ℕ, List, IfOk, OnOk};
 ghost use Rattle.std.specs.List.{list_any};
 ghost use Rattle.std.specs.Str.{bytes_eq};
 ghost use Rattle.std.specs.Thread.{IsSync, IsSend};
 ghost use Rattle.relay_text.specs.Bytes.{has_text};
-ghost use Rattle.relay_aliasfile.specs.IncludeFiles.{include_file_of};
-ghost use Rattle.relay_planning.specs.Delivery.{entry_of_include};
 ghost use Rattle.relay_planning.specs.Findings.{ReportsWhere};
-ghost use Rattle.relay_planning.specs.Texts.{file_line, has_include_line, table_line};
+ghost use Rattle.relay_planning.specs.Texts.{file_line, table_line};
 
-use crate::both::beside;
 use crate::job_file::JobFile;
 use crate::table::Table;
-use relay_aliasfile::{IncludeFile, LineFault, parse_include};
-use relay_job::JobInclude;
+use relay_aliasfile::LineFault;
 use relay_sharing::Crew;
-use relay_tables::IncludeEntry;
-use relay_text::Text;
 use relay_wire::{FindingLines, KeptFindings};
 use std::alloc::{AllocError, Global};
 use std::thread::{Threads, join};
@@ -142,53 +136,4 @@ pub fn report_table<K: KeptFindings>(
         report_table_fault(alloc, table, *fault, lines)?;
     }
     Ok(())
-}
-
-/// The path of an include file, which is parsed. Adds the lines that are at fault.
-fn reported_path<K: KeptFindings>(
-    alloc: Global,
-    include: &JobInclude,
-    file: &IncludeFile,
-    lines: &mut FindingLines<K>,
-) -> Result<Text, AllocError>
-    requires file { file.now ≡ include_file_of include.now.bytes }
-    ensures path { IfOk result (λ path. path ≡ include.now.path) }
-    ensures lines { OnOk result (ReportsWhere lines.old lines.new (λ q. has_include_line q include.now)) }
-{
-    let job_file = JobFile::Include(include.path.as_bytes());
-    report_file(alloc, job_file, file.faults.as_slice(), lines)?;
-    Text::copy_of(alloc, include.path.as_bytes())
-}
-
-/// The items of an include file under its path. Adds the lines that are at fault.
-fn read_include<K: KeptFindings>(
-    alloc: Global,
-    include: &JobInclude,
-    lines: &mut FindingLines<K>,
-) -> Result<IncludeEntry, AllocError>
-    ensures entry { IfOk result (λ entry. entry ≡ entry_of_include include.now) }
-    ensures lines { OnOk result (ReportsWhere lines.old lines.new (λ q. has_include_line q include.now)) }
-{
-    let file = parse_include(alloc, include.bytes.as_bytes())?;
-    let path = reported_path(alloc, include, &file, lines);
-    let IncludeFile { items, faults } = file;
-    drop(faults);
-    let (items, path) = beside(items, path)?;
-    Ok(IncludeEntry { path, items })
-}
-
-/// The include files of a job. Adds the lines that are at fault.
-pub fn read_includes<K: KeptFindings>(
-    alloc: Global,
-    includes: &[JobInclude],
-    lines: &mut FindingLines<K>,
-) -> Result<Vec<IncludeEntry>, AllocError>
-    ensures entries { IfOk result (λ entries. entries.items ≡ map entry_of_include includes.now) }
-    ensures lines { OnOk result (ReportsWhere lines.old lines.new (λ q. list_any (has_include_line q) includes.now)) }
-{
-    let mut entries = Vec::with_capacity(alloc, includes.len())?;
-    for include in includes {
-        entries.push(read_include(alloc, include, lines)?)?;
-    }
-    Ok(entries)
 }

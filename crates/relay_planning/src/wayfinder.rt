@@ -39,7 +39,7 @@ impl<'r> Model for Wayfinder<'r> {
     ghost invariant = { λ a. AreWays a.destinations a.recipients.now a.ways.items };
 }
 
-ghost use Rattle.std.specs.Prelude.{◌≡◌, ◌≢◌, ◌⊎◌, ◌↔◌, AllPairs, IsTrue, IfSome, IfOk, OnOk};
+ghost use Rattle.std.specs.Prelude.{◌≡◌, ◌≢◌, ◌⊎◌, ◌↔◌, length, AllPairs, IsTrue, IfSome, IfOk, OnOk};
 ghost use Rattle.relay_routes.specs.Routes.{route_of};
 ghost use Rattle.relay_destinations.specs.Ways.{Means, Keeps};
 ghost use Rattle.relay_planning.specs.Delivery.{routing_of};
@@ -66,6 +66,7 @@ fn ways_of(
     addresses: &[Address],
 ) -> Result<Vec<Way>, AllocError>
     ensures ways { IfOk result (λ ways. AreWays destinations.new addresses.now ways.items) }
+    ensures each { IfOk result (λ ways. length ways.items ≡ length addresses.now) }
     ensures kept { Keeps destinations.old destinations.new }
 {
     let mut ways = Vec::with_capacity(alloc, addresses.len())?;

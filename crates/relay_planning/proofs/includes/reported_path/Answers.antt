@@ -5,7 +5,7 @@ use Rattle.relay_text.specs.Bytes.{has_text}
 use Rattle.relay_aliasfile.specs.declared.fault.LineFault.{LineFault}
 use Rattle.relay_planning.specs.Texts.{include_line}
 use Rattle.relay_planning.proofs.ReportFacts.{on_ok_given}
-use Rattle.relay_planning.proofs.texts.reported_path.Goals as goal
+use Rattle.relay_planning.proofs.includes.reported_path.Goals as goal
 
 pub returns-clause-lines : goal.returns-clause-lines
 returns-clause-lines g c =

@@ -3,7 +3,7 @@ use Rattle.std.specs.List.{list_any}
 use Rattle.relay_planning.specs.Delivery.{entry_of_include}
 use Rattle.relay_planning.specs.Findings.{ReportsWhere}
 use Rattle.relay_planning.specs.Texts.{has_include_line}
-use Rattle.relay_planning.proofs.texts.read_includes.Given as goal
+use Rattle.relay_planning.proofs.includes.read_includes.Given as goal
 
 abbrev pub invariant-loop-include : goal.invariant-loop-include
 invariant-loop-include g l = record {
