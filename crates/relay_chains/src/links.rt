@@ -155,6 +155,15 @@ impl Links {
         walk(&self.heads, &self.nodes, head, hash)
     }
 
+    /// The word of the last number before the one of a word, under that one's hash.
+    pub fn before(&self, word: u32) -> u32
+        requires some { 0 < word }
+        requires within { word ≤ length self.now }
+        ensures { result ≡ last_under self.now (slice_index self.now (word - 1)) (word - 1) }
+    {
+        self.older(word, self.nodes[(word - 1) as usize].hash)
+    }
+
     // The word of the last number under a hash before the one of a word.
     fn older(&self, word: u32, hash: u32) -> u32
         requires some { 0 < word }

@@ -23,3 +23,4 @@ pub mod Counts
 pub mod Found
 pub mod Looks
 pub mod EntrySteps
+pub mod Awaiting

@@ -1,19 +1,18 @@
 -- Lemmas on nodes by their numbers.
-use Rattle.std.proofs.Common.{◌≡◌, ℕ, zero, suc, eqb, ◌+◌, ◌-◌, ◌<◌, ◌≤◌, ◌^◌, false, inl, inr, Some, None, List, [], ◌∷◌, ◌++◌, length, map, take, get_or, slice_get, position, refl, sym, ap, ◌∙◌, subst, arith}
+use Rattle.std.proofs.Common.{◌≡◌, ℕ, zero, suc, eqb, ◌+◌, ◌-◌, ◌<◌, ◌≤◌, ◌^◌, false, inl, inr, Some, List, [], ◌∷◌, ◌++◌, length, map, take, get_or, slice_get, refl, sym, ap, ◌∙◌, subst, arith}
 use Rattle.std.specs.List.{list_any, range_with_len}
 use Rattle.std.proofs.lemmas.Bool.{cases_lt, or_from, ne_eqb}
 use Rattle.std.proofs.lemmas.List.{append_assoc, append-nil, length-append, length_push, drop-append-le, drop_all, take_more, map_push, get_or_append_left, get_or-append-add, get_or_push}
 use Rattle.std.proofs.lemmas.List.Folds.{list_any-append}
 use Rattle.std.proofs.lemmas.List.FromFn.{length-map-range_with_len, get_or-map-range_with_len}
-use Rattle.std.proofs.lemmas.List.Quantifiers.{position-Some}
-use Rattle.std.proofs.lemmas.Option.{slice_get-get_or}
+use Rattle.std.proofs.lemmas.Option.{slice_get_within, slice_get-get_or, get_or_from_slice_get}
 use Rattle.relay_tables.specs.declared.node.Node.{Node}
 use Rattle.relay_tables.specs.declared.node.Node.TheVariants.{Alias, Include, Mailbox, Remote, Missing, NoInclude, Command, File}
 use Rattle.relay_tables.specs.declared.lead.Lead.{Lead}
 use Rattle.relay_tables.specs.declared.lead.Lead.TheVariants as lead
 use Rattle.relay_tables.specs.Graphs.{same_node}
 use Rattle.relay_tables.specs.Numbering.{node_hash, node_of, entries_of, behind_of, with_nodes, AreNumbered}
-use Rattle.relay_tables.proofs.NodeKeys.{node_true, any_at, none_by_place}
+use Rattle.relay_tables.proofs.NodeKeys.{any_at}
 use Rattle.relay_tables.proofs.Firsts.{with_node-there, with_node-new, with_nodes-one}
 
 pub last_is : {X : Type 0} (xs : List X) (x : X) (k : ℕ) → length xs ≡ k → slice_get (xs ++ x ∷ []) k ≡ Some x
@@ -140,24 +139,20 @@ module _ (nodes : List Node) (aliases includes limit key : ℕ) (hashes : List �
   include_at k below = in_front (aliases + k) (Include k) (omega arith) (entry_include aliases includes k below)
 
   -- a node that is found behind the entries
-  pub found : (n : Node) (number : ℕ) → position (same_node n) later ≡ Some number → (number < length later) × (slice_get nodes (aliases + includes + number) ≡ Some n)
+  pub found : (n : Node) (number : ℕ) → slice_get later number ≡ Some n → slice_get nodes (aliases + includes + number) ≡ Some n
   found n number at =
-      let place = position-Some (same_node n) later number n at in
-      let same : get_or later number n ≡ n = sym (node_true n (get_or later number n) place.1) in
-      let size : length (entries_of aliases includes) + number ≡ aliases + includes + number = omega (arith, length-entries aliases includes) in (
-        place.0,
-        slice_get-get_or nodes (aliases + includes + number) n (omega (arith, long, place.0))
-            ∙ ap (λ (x : Node). Some x)
-            (ap (λ (ns : List Node). get_or ns (aliases + includes + number) n) p.front
-            ∙ ap (λ (i : ℕ). get_or (entries_of aliases includes ++ later) i n) (sym size)
-            ∙ get_or-append-add (entries_of aliases includes) later number n
-            ∙ same),
-      )
+      let below = slice_get_within later number n at in
+      let size : length (entries_of aliases includes) + number ≡ aliases + includes + number = omega (arith, length-entries aliases includes) in
+      slice_get-get_or nodes (aliases + includes + number) n (omega (arith, long, below))
+      ∙ ap (λ (x : Node). Some x)
+      (ap (λ (ns : List Node). get_or ns (aliases + includes + number) n) p.front
+      ∙ ap (λ (i : ℕ). get_or (entries_of aliases includes ++ later) i n) (sym size)
+      ∙ get_or-append-add (entries_of aliases includes) later number n
+      ∙ get_or_from_slice_get later number n n at)
 
   -- a node that isn't found behind them
-  pub new_grows : (n : Node) → list_any (same_node n) (entries_of aliases includes) ≡ false → position (same_node n) later ≡ None → with_nodes nodes (n ∷ []) ≡ nodes ++ n ∷ []
-  new_grows n no_front none =
-      let no_later : list_any (same_node n) later ≡ false = none_by_place (same_node n) later none in
+  pub new_grows : (n : Node) → list_any (same_node n) (entries_of aliases includes) ≡ false → list_any (same_node n) later ≡ false → with_nodes nodes (n ∷ []) ≡ nodes ++ n ∷ []
+  new_grows n no_front no_later =
       let no_node : list_any (same_node n) nodes ≡ false =
       ap (λ (ns : List Node). list_any (same_node n) ns) p.front
       ∙ list_any-append (same_node n) (entries_of aliases includes) later

@@ -13,6 +13,9 @@ pub mod Looking
 pub mod LookedUp
 pub mod Adjacency
 pub mod Transpose
+pub mod Earlier
+pub mod Awaited
+pub mod NodeHashes
 pub mod Numbering
 pub mod Rowing
 pub mod Sending

@@ -91,6 +91,14 @@ HasHash key (known.Missing hash) n = hash ≡ node_hash key n
 HasHash key (known.Remote hash) n = hash ≡ node_hash key n
 HasHash key known.Unsought n = ⊤
 
+-- the hash under which the node of what is found is told, where it's known
+abbrev pub hash_known : KnownName → Option ℕ
+hash_known (known.Alias number) = None
+hash_known (known.Mailbox hash) = Some hash
+hash_known (known.Missing hash) = Some hash
+hash_known (known.Remote hash) = Some hash
+hash_known known.Unsought = None
+
 -- the first of all that can be found, and maybe no more
-abbrev pub AreFirst : List KnownName → List KnownName → Type 0
+abbrev pub AreFirst : {X : Type 0} → List X → List X → Type 0
 AreFirst found all = found ≡ take (length found) all

@@ -165,6 +165,14 @@ fn read_nodes(names: Option<&Numbering>, hashes: &[u32]) -> usize {
     seen
 }
 
+// Is anything read for a look-up? Nodes that come as they are awaited aren't looked up.
+fn is_looked_up(names: Option<&Numbering>) -> bool {
+    match names {
+        Some(names) => !names.awaits(),
+        None => true,
+    }
+}
+
 // Reads for the items from one on, of which it may be known what they stand for.
 #[inline(never)]
 fn read_items(
@@ -260,7 +268,8 @@ impl Ahead {
         found: &[KnownName],
         start: usize,
     ) {
-        if self.is_worth && items.len() > 1 && start % BLOCK == 0 && start < items.len() {
+        let is_block = start % BLOCK == 0 && start < items.len();
+        if self.is_worth && items.len() > 1 && is_block && is_looked_up(names) {
             self.seen = read_items(tables, names, items, found, start);
         }
     }
@@ -276,7 +285,8 @@ impl Ahead {
         start: usize,
     ) {
         let entries = tables.aliases();
-        if self.is_worth && start % BLOCK == 0 && start < entries.len() {
+        let is_block = start % BLOCK == 0 && start < entries.len();
+        if self.is_worth && is_block && is_looked_up(names) {
             self.seen = if found.is_empty() {
                 read_entries(tables, names, &entries[start..])
             } else {
@@ -295,7 +305,8 @@ impl Ahead {
         found: &[KnownName],
         start: usize,
     ) {
-        if self.is_worth && start % BLOCK == 0 && start < recipients.len() {
+        let is_block = start % BLOCK == 0 && start < recipients.len();
+        if self.is_worth && is_block && is_looked_up(names) {
             self.seen = read_recipients(tables, names, recipients, found, start);
         }
     }

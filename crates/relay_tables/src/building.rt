@@ -5,6 +5,7 @@ ghost use Rattle.relay_tables.specs.Looking.{recipient_found, found_from, AreFir
 ghost use Rattle.relay_tables.specs.Building.{AreRows};
 
 use crate::adjacency::Adjacency;
+use crate::earlier::Earlier;
 use crate::fault::TableFault;
 use crate::first_found::FirstFound;
 use crate::known_name::KnownName;
@@ -80,12 +81,36 @@ struct Begun {
     scratch: Scratch,
 }
 
-// The nodes of all entries, found under a key, and no rows yet. Take twice as many heads as other nodes are expected.
+// The nodes of all entries, found under a key. Where no others are awaited, take twice as many heads as are expected.
+fn number_front(
+    alloc: Global,
+    tables: &Tables,
+    key: u64,
+    heads: usize,
+    earlier: Earlier,
+    names: usize,
+) -> Result<Numbering, TableFault>
+    requires heads { 1 ≤ heads }
+    requires names { names ≤ 2 ^ 24 }
+    ensures made { IfOk result (λ s. s ≡ record { nodes = entry_nodes tables.now; aliases = length tables.now.aliases; includes = length tables.now.includes; limit = names; key = key }) }
+    ensures full { result ≡ Err TableFault.TooManyNames → names < length tables.now.aliases + length tables.now.includes }
+    ensures owners { result ≡ Err TableFault.TooManyOwners → ⊥ }
+{
+    let aliases = tables.aliases().len();
+    let includes = tables.includes().len();
+    if earlier.len() == 0 {
+        return Numbering::new(alloc, key, aliases, includes, heads, names);
+    }
+    Numbering::awaiting(alloc, key, aliases, includes, earlier, names)
+}
+
+// The nodes of all entries, found under a key, and no rows yet. Where no other nodes are awaited, take twice as many heads as are expected.
 fn begin(
     alloc: Global,
     tables: &Tables,
     key: u64,
     heads: usize,
+    earlier: Earlier,
     names: usize,
 ) -> Result<Begun, TableFault>
     requires heads { 1 ≤ heads }
@@ -98,10 +123,8 @@ fn begin(
     ensures full { result ≡ Err TableFault.TooManyNames → names < length tables.now.aliases + length tables.now.includes }
     ensures owners { result ≡ Err TableFault.TooManyOwners → ⊥ }
 {
-    let aliases = tables.aliases().len();
-    let includes = tables.includes().len();
-    let numbering = Numbering::new(alloc, key, aliases, includes, heads, names)?;
-    let children = Adjacency::with_capacity(alloc, aliases.saturating_add(includes))?;
+    let numbering = number_front(alloc, tables, key, heads, earlier, names)?;
+    let children = Adjacency::with_capacity(alloc, entry_count(tables))?;
     Ok(Begun {
         names: numbering,
         children,
@@ -110,12 +133,13 @@ fn begin(
 }
 
 /// The rows of the tables and recipients, where there are at most `names` nodes. What is found for the first items and for the first
-/// recipients may be given; the others are looked up.
+/// recipients may be given; the others are looked up. The hashes of what they lead to may be given too, in their order.
 pub(crate) fn number_all(
     alloc: Global,
     tables: &Tables,
     recipients: &[Address],
     found: FirstFound<'_>,
+    earlier: Earlier,
     names: usize,
 ) -> Result<Rows, TableFault>
     requires names { names ≤ 2 ^ 24 }
@@ -130,7 +154,7 @@ pub(crate) fn number_all(
     let item_heads = item_heads(tables, found.items);
     let recipient_heads = recipient_heads(recipients.len(), found.recipients);
     let heads = heads_within(item_heads, recipient_heads, names);
-    let mut begun = begin(alloc, tables, found.key, heads, names)?;
+    let mut begun = begin(alloc, tables, found.key, heads, earlier, names)?;
     number_entries(
         alloc,
         tables,

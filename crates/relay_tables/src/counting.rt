@@ -5,6 +5,7 @@ ghost use Rattle.relay_tables.specs.Directory.{Directory};
 ghost use Rattle.relay_tables.specs.Graphs.{nodes_of, owner_count, refusal_of, Refuses};
 
 use crate::building::number_all;
+use crate::earlier::Earlier;
 use crate::fault::TableFault;
 use crate::first_found::FirstFound;
 use crate::sending::count_owners;
@@ -64,7 +65,14 @@ fn name_count(alloc: Global, tables: &Tables, names: usize) -> Result<usize, Tab
         items: &[],
         recipients: &[],
     };
-    let rows = number_all(alloc, tables, no_recipients, found, names)?;
+    let rows = number_all(
+        alloc,
+        tables,
+        no_recipients,
+        found,
+        Earlier::none(alloc),
+        names,
+    )?;
     Ok(rows.nodes.len())
 }
 

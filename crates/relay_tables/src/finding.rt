@@ -1,13 +1,16 @@
 //! Nodes that are found by what leads to them.
-ghost use Rattle.std.specs.Prelude.{◌≡◌, ◌<◌, length, map, position, slice_get, option_map, Some, ◌&&◌};
+ghost use Rattle.std.specs.Prelude.{◌≡◌, ◌<◌, false, length, map, slice_get, option_map, Some, None, Ok, IfOk, IfSome, ◌&&◌};
+ghost use Rattle.std.specs.List.{list_any};
 ghost use Rattle.std.specs.Str.{bytes_eq};
 ghost use Rattle.relay_tables.specs.Graphs.{same_address, same_node};
 ghost use Rattle.relay_tables.specs.Numbering.{node_of, node_hash};
 
 use crate::lead::Lead;
 use crate::node::Node;
-use relay_chains::{Links, hash_text};
+use crate::node_hashes::NodeHashes;
+use relay_chains::hash_text;
 use relay_text::{Address, one_joined_text, same_bytes};
+use std::alloc::{AllocError, Global};
 
 /// The hash of what a lead leads to.
 #[tactic(auto, unfolding(crate::specs::Numbering::node_hash))]
@@ -61,19 +64,23 @@ fn leads_to(lead: Lead<'_>, node: &Node) -> bool
     }
 }
 
-/// The place of what a lead with this hash leads to, where it's there.
-pub(crate) fn place_of(
+/// The place of what a lead with this hash leads to, where it's there. `Err` where memory runs out.
+pub(crate) fn find_node(
+    alloc: Global,
     nodes: &[Node],
-    links: &Links,
+    hashes: &mut NodeHashes,
     key: u64,
     hash: u32,
     lead: Lead<'_>,
-) -> Option<u32>
-    requires hashed { links.now ≡ map (node_hash key) nodes.now }
+) -> Result<Option<u32>, AllocError>
+    requires hashed { hashes.old ≡ map (node_hash key) nodes.now }
     requires hash { hash ≡ node_hash key (node_of lead) }
-    ensures { result ≡ position (same_node (node_of lead.entry)) nodes.now }
+    ensures same { hashes.new ≡ hashes.old }
+    ensures found { IfOk result (λ found. IfSome found (λ place. slice_get nodes.now place ≡ Some (node_of lead.entry))) }
+    ensures none { result ≡ Ok None → list_any (same_node (node_of lead.entry)) nodes.now ≡ false }
 {
-    links.find(
+    hashes.find(
+        alloc,
         hash,
         |number: u32| -> bool
             requires { number < length nodes.now }

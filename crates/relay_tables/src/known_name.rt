@@ -14,3 +14,21 @@ pub(crate) enum KnownName {
     /// An include file, a command or a file: these are few, and not looked up.
     Unsought,
 }
+
+ghost use Rattle.std.specs.Prelude.{◌≡◌};
+ghost use Rattle.relay_tables.specs.Looking.{hash_known};
+
+impl KnownName {
+    /// The hash under which its node is found, where it's known.
+    #[inline]
+    pub(crate) fn hash(self) -> Option<u32>
+        ensures { result ≡ hash_known self }
+    {
+        match self {
+            KnownName::Mailbox(hash) | KnownName::Missing(hash) | KnownName::Remote(hash) => {
+                Some(hash)
+            }
+            KnownName::Alias(_) | KnownName::Unsought => None,
+        }
+    }
+}

@@ -3,9 +3,11 @@
 
 mod adjacency;
 mod ahead;
+mod awaited;
 mod building;
 pub mod counting;
 mod domain_kind;
+mod earlier;
 pub mod fault;
 mod finding;
 mod first_found;
@@ -23,6 +25,7 @@ mod looking;
 mod marking;
 mod named;
 pub mod node;
+mod node_hashes;
 mod numbering;
 mod owning;
 pub mod parsed;
@@ -33,6 +36,7 @@ mod sharing;
 mod sought;
 mod sought_items;
 mod sought_recipients;
+mod sought_words;
 pub mod tables;
 pub mod target;
 mod transpose;

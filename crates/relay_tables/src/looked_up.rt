@@ -1,4 +1,5 @@
 //! Tables and the recipients of an envelope whose names are looked up before their nodes are numbered.
+use crate::earlier::Earlier;
 use crate::known_name::KnownName;
 use crate::tables::Tables;
 use relay_text::Address;
@@ -18,6 +19,7 @@ pub struct LookedUp<'a> {
     key: u64,
     items: Vec<KnownName>,
     roots: Vec<KnownName>,
+    earlier: Earlier,
 }
 
 impl<'a> Model for LookedUp<'a> {
@@ -37,11 +39,15 @@ ghost use Rattle.relay_tables.specs.Building.{AreRows};
 use crate::building::{Rows, item_count, number_all};
 use crate::fault::TableFault;
 use crate::first_found::FirstFound;
+use crate::looking::hashes_found;
 use crate::sharing::first_found;
 use crate::sought_items::SoughtItems;
 use crate::sought_recipients::SoughtRecipients;
 use std::alloc::{AllocError, Global};
 use std::thread::Threads;
+
+// Places of more hashes than these have no words of 32 bits: then none is awaited.
+const MOST_HASHES: usize = 1 << 31;
 
 impl<'a> LookedUp<'a> {
     /// Nothing is looked up yet.
@@ -54,6 +60,7 @@ impl<'a> LookedUp<'a> {
             key: tables.key(),
             items: Vec::new(alloc),
             roots: Vec::new(alloc),
+            earlier: Earlier::none(alloc),
         }
     }
 
@@ -75,12 +82,21 @@ impl<'a> LookedUp<'a> {
             key,
             recipients,
         };
+        let items = first_found(rt, alloc, workers, &items, item_count(tables))?;
+        let roots = first_found(rt, alloc, workers, &roots, recipients.len())?;
+        let hashes = hashes_found(alloc, &items, &roots)?;
+        let earlier = if hashes.is_empty() || hashes.len() > MOST_HASHES {
+            Earlier::none(alloc)
+        } else {
+            Earlier::of(rt, alloc, workers, hashes)?
+        };
         Ok(LookedUp {
             tables,
             recipients,
             key,
-            items: first_found(rt, alloc, workers, &items, item_count(tables))?,
-            roots: first_found(rt, alloc, workers, &roots, recipients.len())?,
+            items,
+            roots,
+            earlier,
         })
     }
 
@@ -100,11 +116,19 @@ impl<'a> LookedUp<'a> {
         ensures full { result ≡ Err TableFault.TooManyNames → names < length (nodes_of self.entry.tables self.entry.recipients) }
         ensures owners { result ≡ Err TableFault.TooManyOwners → ⊥ }
     {
+        let LookedUp {
+            tables,
+            recipients,
+            key,
+            items,
+            roots,
+            earlier,
+        } = self;
         let found = FirstFound {
-            key: self.key,
-            items: self.items.as_slice(),
-            recipients: self.roots.as_slice(),
+            key,
+            items: items.as_slice(),
+            recipients: roots.as_slice(),
         };
-        number_all(alloc, self.tables, self.recipients, found, names)
+        number_all(alloc, tables, recipients, found, earlier, names)
     }
 }

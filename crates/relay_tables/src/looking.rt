@@ -1,7 +1,7 @@
 //! What names stand for, and the hashes under which nodes are found, before there are nodes.
-ghost use Rattle.std.specs.Prelude.{◌≡◌, ◌<◌, false, length, IfOk, OnOk, IfSome};
+ghost use Rattle.std.specs.Prelude.{◌≡◌, ◌<◌, ◌++◌, false, length, filter_map, IfOk, OnOk, IfSome};
 ghost use Rattle.relay_text.specs.Bytes.{folded};
-ghost use Rattle.relay_tables.specs.Looking.{known_as, name_found, address_found, item_found};
+ghost use Rattle.relay_tables.specs.Looking.{known_as, name_found, address_found, item_found, hash_known};
 
 use crate::known_name::KnownName;
 use crate::tables::Tables;
@@ -9,7 +9,7 @@ use crate::target::Target;
 use relay_aliasfile::Item;
 use relay_chains::hash_text;
 use relay_text::{Address, fold};
-use std::alloc::AllocError;
+use std::alloc::{AllocError, Global};
 
 /// Whether some byte is an ASCII capital, so that folding changes the name.
 pub(crate) fn has_capitals(name: &[u8]) -> bool
@@ -91,4 +91,30 @@ pub(crate) fn known_of_item(
         Item::Full(address) => known_of_address(tables, key, address, parent, name),
         Item::Include(_) | Item::Command(_) | Item::File(_) => Ok(KnownName::Unsought),
     }
+}
+
+// Puts the hashes of what is found behind others.
+fn put_hashes(found: &[KnownName], hashes: &mut Vec<u32>) -> Result<(), AllocError>
+    ensures { OnOk result (hashes.new.items ≡ hashes.old.items ++ filter_map hash_known found.now) }
+{
+    for known in found {
+        if let Some(hash) = known.hash() {
+            hashes.push(hash)?;
+        }
+    }
+    Ok(())
+}
+
+/// The hashes of what is found for items and then for recipients, in their order. `Err` where memory runs out.
+pub(crate) fn hashes_found(
+    alloc: Global,
+    items: &[KnownName],
+    recipients: &[KnownName],
+) -> Result<Vec<u32>, AllocError>
+    ensures { IfOk result (λ hashes. hashes.items ≡ filter_map hash_known items.now ++ filter_map hash_known recipients.now) }
+{
+    let mut hashes = Vec::with_capacity(alloc, items.len().saturating_add(recipients.len()))?;
+    put_hashes(items, &mut hashes)?;
+    put_hashes(recipients, &mut hashes)?;
+    Ok(hashes)
 }

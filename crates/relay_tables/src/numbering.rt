@@ -3,12 +3,13 @@ ghost use Rattle.std.specs.Prelude.{◌≡◌, ◌<◌, ◌≤◌, ◌+◌, ◌-
 ghost use Rattle.relay_tables.specs.declared.node.Node.TheVariants.{Alias, Include};
 ghost use Rattle.relay_tables.specs.Numbering.{node_of, node_hash, entries_of, with_all, with_nodes, Numbers, HasGoodAddress, IsBehind};
 
+use crate::earlier::Earlier;
 use crate::fault::TableFault;
-use crate::finding::{lead_hash, place_of};
+use crate::finding::{find_node, lead_hash};
 use crate::keys::make_node;
 use crate::lead::Lead;
 use crate::node::Node;
-use relay_chains::Links;
+use crate::node_hashes::NodeHashes;
 use std::alloc::{AllocError, Global};
 use std::marker::Model;
 
@@ -19,7 +20,7 @@ use std::marker::Model;
 #[derive(Drop)]
 pub(crate) struct Numbering {
     nodes: Vec<Node>,
-    links: Links,
+    hashes: NodeHashes,
     key: u64,
     aliases: usize,
     includes: usize,
@@ -33,7 +34,7 @@ impl Model for Numbering {
 
     ghost view = { λ a. record { nodes = a.nodes.items; aliases = a.aliases; includes = a.includes; limit = a.limit; key = a.key } };
 
-    ghost invariant = { λ a. AreNumbered a.nodes.items a.aliases a.includes a.limit a.key a.links };
+    ghost invariant = { λ a. AreNumbered a.nodes.items a.aliases a.includes a.limit a.key a.hashes };
 }
 
 impl Numbering {
@@ -56,12 +57,43 @@ impl Numbering {
         if limit < aliases || limit - aliases < includes {
             return Err(TableFault::TooManyNames);
         }
-        let links = Links::new(alloc, heads)?;
+        let hashes = NodeHashes::linked(alloc, heads)?;
         let expected = (heads / 2).min(limit - aliases - includes);
         let nodes = nodes_in_front(alloc, aliases, includes, expected)?;
         Ok(Numbering {
             nodes,
-            links,
+            hashes,
+            key,
+            aliases,
+            includes,
+            limit,
+        })
+    }
+
+    /// The same where other nodes are awaited with these hashes, in their order: there is room for as many.
+    pub(crate) fn awaiting(
+        alloc: Global,
+        key: u64,
+        aliases: usize,
+        includes: usize,
+        earlier: Earlier,
+        limit: usize,
+    ) -> Result<Numbering, TableFault>
+        requires { limit ≤ 2 ^ 24 }
+        ensures made { IfOk result (λ s. s ≡ record { nodes = entries_of aliases includes; aliases = aliases; includes = includes; limit = limit; key = key }) }
+        ensures full { result ≡ Err TableFault.TooManyNames → limit < aliases + includes }
+        ensures owners { result ≡ Err TableFault.TooManyOwners → ⊥ }
+    {
+        let entries = aliases.saturating_add(includes);
+        if limit < entries {
+            return Err(TableFault::TooManyNames);
+        }
+        let expected = earlier.len().min(limit - entries);
+        let hashes = NodeHashes::awaiting(alloc, earlier)?;
+        let nodes = nodes_in_front(alloc, aliases, includes, expected)?;
+        Ok(Numbering {
+            nodes,
+            hashes,
             key,
             aliases,
             includes,
@@ -147,20 +179,26 @@ impl Numbering {
     {
         let entries = self.aliases + self.includes;
         let behind = &self.nodes[entries..];
-        if let Some(place) = place_of(behind, &self.links, self.key, hash, lead) {
+        let found = find_node(alloc, behind, &mut self.hashes, self.key, hash, lead)?;
+        if let Some(place) = found {
             return Ok(entries as u32 + place);
         }
         let number = self.nodes.len();
         if number == self.limit {
             return Err(TableFault::TooManyNames);
         }
-        push_node(alloc, lead, hash, &mut self.nodes, &mut self.links)?;
+        push_node(alloc, lead, hash, &mut self.nodes, &mut self.hashes)?;
         Ok(number as u32)
+    }
+
+    /// Are nodes found without a look at the heads of hashes, as they come as they are awaited?
+    pub(crate) fn awaits(&self) -> bool {
+        self.hashes.awaits()
     }
 
     /// The word of the newest node behind the entries that has a hash.
     pub(crate) fn newest(&self, hash: u32) -> u32 {
-        self.links.newest(hash)
+        self.hashes.newest(hash)
     }
 
     /// How many nodes there are.
@@ -186,7 +224,7 @@ impl Numbering {
     {
         let Numbering {
             nodes,
-            links: _,
+            hashes: _,
             key: _,
             aliases: _,
             includes: _,
@@ -232,14 +270,14 @@ fn push_node(
     lead: Lead<'_>,
     hash: u32,
     nodes: &mut Vec<Node>,
-    links: &mut Links,
+    hashes: &mut NodeHashes,
 ) -> Result<(), AllocError>
     requires good { HasGoodAddress (node_of lead) }
-    requires few { length links.old < 2 ^ 32 - 2 }
+    requires few { length hashes.old < 2 ^ 32 - 2 }
     ensures nodes { OnOk result (nodes.new.items ≡ nodes.old.items ++ node_of lead.entry ∷ []) }
-    ensures links { OnOk result (links.new ≡ links.old ++ hash ∷ []) }
+    ensures hashes { OnOk result (hashes.new ≡ hashes.old ++ hash ∷ []) }
     ensures no_node { OnErr result (nodes.new.items ≡ nodes.old.items) }
-    ensures no_hash { OnErr result (links.new ≡ links.old) }
+    ensures no_hash { OnErr result (hashes.new ≡ hashes.old) }
 {
     // What can fail comes first, and changes nothing that is seen.
     let node = make_node(alloc, lead)?;
@@ -247,7 +285,7 @@ fn push_node(
         drop(node);
         return Err(AllocError);
     };
-    let Ok(()) = links.push(hash) else {
+    let Ok(()) = hashes.push(alloc, hash) else {
         drop(node);
         return Err(AllocError);
     };

@@ -3,7 +3,6 @@ ghost use Rattle.std.specs.Prelude.{◌≡◌, ◌+◌, ◌<◌, ◌^◌, take, 
 ghost use Rattle.std.specs.Thread.{IsSync};
 ghost use Rattle.relay_tables.specs.Looking.{AreFirst};
 
-use crate::known_name::KnownName;
 use crate::sought::Sought;
 use std::alloc::{AllocError, Global};
 use std::thread::{Threads, join};
@@ -13,13 +12,13 @@ const LEAST: usize = 16_384;
 
 /// What is found for the first of a list that is about so long, by so many threads at most, this one among them. Nothing is found where it
 /// is too short for a second thread. `Err` where memory runs out.
-pub(crate) fn first_found<R: Threads + Sync, S: Sought>(
+pub(crate) fn first_found<R: Threads + Sync, T: Send + Drop, S: Sought<T>>(
     rt: &R,
     alloc: Global,
     workers: usize,
     sought: &S,
     count: usize,
-) -> Result<Vec<KnownName>, AllocError>
+) -> Result<Vec<T>, AllocError>
     ensures { IfOk result (λ found. AreFirst found.items (S.all_found sought.now)) }
 {
     let threads = workers.min(count / LEAST);
@@ -29,17 +28,17 @@ pub(crate) fn first_found<R: Threads + Sync, S: Sought>(
     found_by(rt, alloc, threads, sought, 0, count)
 }
 
-// What is found for a part of a list, by so many threads, this one among them. Each new thread has the last share of what is left, and is
-// started from this one: a thread that is started by one that has just begun waits behind it for some milliseconds.
+/// What is found for a part of a list, by so many threads, this one among them. Each new thread has the last share of what is left, and is
+/// started from this one: a thread that is started by one that has just begun waits behind it for some milliseconds.
 #[cycle(shares)]
-fn found_by<R: Threads + Sync, S: Sought>(
+pub(crate) fn found_by<R: Threads + Sync, T: Send + Drop, S: Sought<T>>(
     rt: &R,
     alloc: Global,
     threads: usize,
     sought: &S,
     start: usize,
     count: usize,
-) -> Result<Vec<KnownName>, AllocError>
+) -> Result<Vec<T>, AllocError>
     requires room { start + count < 2 ^ 64 }
     ensures { IfOk result (λ found. found.items ≡ take count (drop start (S.all_found sought.now))) }
 {
@@ -52,11 +51,11 @@ fn found_by<R: Threads + Sync, S: Sought>(
     let others = threads - 1;
     let (there, here) = join(
         rt,
-        || -> Result<Vec<KnownName>, AllocError>
+        || -> Result<Vec<T>, AllocError>
             requires { IsSync S.row }
             ensures { IfOk result (λ found. found.items ≡ take share (drop last (S.all_found sought.entry.now))) }
         { sought.part_found(alloc, last, share) },
-        || -> Result<Vec<KnownName>, AllocError>
+        || -> Result<Vec<T>, AllocError>
             requires { IsSync R.row × IsSync S.row × (start + rest < 2 ^ 64) }
             ensures { IfOk result (λ found. found.items ≡ take rest (drop start (S.all_found sought.entry.now))) }
         { found_by(rt, alloc, others, sought, start, rest) },

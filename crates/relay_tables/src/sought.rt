@@ -1,21 +1,14 @@
 //! What is looked up in parts.
 ghost use Rattle.std.specs.Prelude.{◌≡◌, List, take, drop, IfOk};
-ghost use Rattle.relay_tables.specs.declared.known_name.KnownName.{KnownName};
 
-use crate::known_name::KnownName;
 use std::alloc::{AllocError, Global};
 
-/// Items or addresses in a list, which are looked up in parts, from whatever thread.
-pub(crate) trait Sought: Sync {
-    ghost all_found: { Self → List KnownName };
+/// Items, addresses or hashes in a list, which are looked up in parts, from whatever thread.
+pub(crate) trait Sought<T>: Sync {
+    ghost all_found: { Self → List T };
 
     /// What is found for a part of it: from a place on, so much of it at most. `Err` where memory runs out.
-    fn part_found(
-        &self,
-        alloc: Global,
-        start: usize,
-        most: usize,
-    ) -> Result<Vec<KnownName>, AllocError>
+    fn part_found(&self, alloc: Global, start: usize, most: usize) -> Result<Vec<T>, AllocError>
         ensures { IfOk result (λ found. found.items ≡ take most (drop start (all_found self.now))) };
 }
 

@@ -100,7 +100,7 @@ fn items_found(
     Ok(found)
 }
 
-impl Sought for SoughtItems<'_> {
+impl Sought<KnownName> for SoughtItems<'_> {
     ghost use Rattle.relay_tables.specs.Looking.{found_from};
 
     ghost all_found = { λ s. found_from s.tables.now s.key 0 };

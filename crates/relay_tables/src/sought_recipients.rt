@@ -42,7 +42,7 @@ fn recipients_found(
     Ok(found)
 }
 
-impl Sought for SoughtRecipients<'_> {
+impl Sought<KnownName> for SoughtRecipients<'_> {
     ghost use Rattle.std.specs.Prelude.{map};
     ghost use Rattle.relay_tables.specs.Looking.{recipient_found};
 

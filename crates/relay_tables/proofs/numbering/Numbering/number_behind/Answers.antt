@@ -1,4 +1,5 @@
-use Rattle.std.proofs.Common.{rules, arith, ◌≡◌, ℕ, ◌+◌, ◌-◌, Some, None, List, [], ◌∷◌, ◌++◌, length, take, drop, position, ap, sym, ◌∙◌}
+use Rattle.std.proofs.Common.{rules, arith, ◌≡◌, ℕ, ◌+◌, ◌-◌, false, Some, List, [], ◌∷◌, ◌++◌, length, take, drop, slice_get, ap, sym, ◌∙◌}
+use Rattle.std.specs.List.{list_any}
 use Rattle.std.proofs.lemmas.List.{length_push, length-drop, take_all}
 use Rattle.relay_tables.specs.declared.node.Node.{Node}
 use Rattle.relay_tables.specs.Graphs.{same_node}
@@ -13,31 +14,25 @@ all_behind place nodes = take_all (length nodes - place) (drop place nodes) (ome
 pub slice_bounds-behind-count : goal.slice_bounds-behind-count
 slice_bounds-behind-count c =
     let i = c.self.inside in
-    rw c.deref.ensures.value (entries_within i.nodes.items i.aliases i.includes i.limit i.key i.links c.self.invariant)
+    rw c.deref.ensures.value (entries_within i.nodes.items i.aliases i.includes i.limit i.key i.hashes c.self.invariant)
 
 pub slice_bounds-behind-start : goal.slice_bounds-behind-start
 slice_bounds-behind-start c =
     let i = c.self.inside in
-    omega (arith, c.deref.ensures.value, ap length c.deref.ensures.value, entries_within i.nodes.items i.aliases i.includes i.limit i.key i.links c.self.invariant)
-
-pub returns-in-Some-clause-number : goal.returns-in-Some-clause-number
-returns-in-Some-clause-number c =
-    let i = c.self.inside in
-    let n = node_of c.args.lead in
-    let there : position (same_node n) (behind_of i.aliases i.includes i.nodes.items) ≡ Some c.in-Some.place =
-    ap (λ (ns : List Node). position (same_node n) (behind_of i.aliases i.includes ns)) (sym c.deref.ensures.value)
-    ∙ ap (position (same_node n)) (sym (all_behind (i.aliases + i.includes) c.deref.result.now)) ∙ sym c.in-Some.ensures in
-    rw (← c.self.view_is) (found i.nodes.items i.aliases i.includes i.limit i.key i.links c.self.invariant n c.in-Some.place there).1
+    omega (arith, c.deref.ensures.value, ap length c.deref.ensures.value, entries_within i.nodes.items i.aliases i.includes i.limit i.key i.hashes c.self.invariant)
 
 pub returns-in-Some-clause-numbers : goal.returns-in-Some-clause-numbers
 returns-in-Some-clause-numbers c =
     let i = c.self.inside in
     let n = node_of c.args.lead in
-    let there : position (same_node n) (behind_of i.aliases i.includes i.nodes.items) ≡ Some c.in-Some.place =
-    ap (λ (ns : List Node). position (same_node n) (behind_of i.aliases i.includes ns)) (sym c.deref.ensures.value)
-    ∙ ap (position (same_node n)) (sym (all_behind (i.aliases + i.includes) c.deref.result.now)) ∙ sym c.in-Some.ensures in
-    let at = found i.nodes.items i.aliases i.includes i.limit i.key i.links c.self.invariant n c.in-Some.place there in
-    let stays = there_stays i.nodes.items (i.aliases + i.includes + c.in-Some.place) n at.1 in
+    let nodes = c.deref.result.now in
+    let entries = i.aliases + i.includes in
+    let cut : slice_get (take (length nodes - entries) (drop entries nodes)) c.in-Some.place ≡ Some n = search rules in
+    let there : slice_get (behind_of i.aliases i.includes i.nodes.items) c.in-Some.place ≡ Some n =
+    ap (λ (ns : List Node). slice_get (behind_of i.aliases i.includes ns) c.in-Some.place) (sym c.deref.ensures.value)
+    ∙ ap (λ (ns : List Node). slice_get ns c.in-Some.place) (sym (all_behind entries nodes)) ∙ cut in
+    let at = found i.nodes.items i.aliases i.includes i.limit i.key i.hashes c.self.invariant n c.in-Some.place there in
+    let stays = there_stays i.nodes.items (i.aliases + i.includes + c.in-Some.place) n at in
     let viewed : List Node → Numbered = λ ns. record { nodes = ns; aliases = i.aliases; includes = i.includes; limit = i.limit; key = i.key } in
     rw (← c.self.view_is) (ap viewed (sym stays))
 
@@ -47,11 +42,11 @@ returns-then-number-self-clause-numbers c =
     let n = node_of c.args.lead in
     let nodes = c.deref.result.now in
     let entries = i.aliases + i.includes in
-    let gone : position (same_node n) (take (length nodes - entries) (drop entries nodes)) ≡ None = search rules in
-    let none : position (same_node n) (behind_of i.aliases i.includes i.nodes.items) ≡ None =
-    ap (λ (ns : List Node). position (same_node n) (behind_of i.aliases i.includes ns)) (sym c.deref.ensures.value)
-    ∙ ap (position (same_node n)) (sym (all_behind entries nodes)) ∙ gone in
-    let grown = new_grows i.nodes.items i.aliases i.includes i.limit i.key i.links c.self.invariant n (rw (← c.self.view_is) at c.requires.behind) none in
+    let gone : list_any (same_node n) (take (length nodes - entries) (drop entries nodes)) ≡ false = search rules in
+    let none : list_any (same_node n) (behind_of i.aliases i.includes i.nodes.items) ≡ false =
+    ap (λ (ns : List Node). list_any (same_node n) (behind_of i.aliases i.includes ns)) (sym c.deref.ensures.value)
+    ∙ ap (list_any (same_node n)) (sym (all_behind entries nodes)) ∙ gone in
+    let grown = new_grows i.nodes.items i.aliases i.includes i.limit i.key i.hashes c.self.invariant n (rw (← c.self.view_is) at c.requires.behind) none in
     let long : length (with_nodes i.nodes.items (n ∷ [])) ≡ length (i.nodes.items ++ n ∷ []) = ap length grown in
     rw (← c.self.view_is) (omega (arith, length_push i.nodes.items n, i.nodes.ok.0))
 
@@ -60,8 +55,8 @@ invariant_of-self-2 c =
     let i = c.self.inside in
     let more : length i.nodes.items ≡ i.limit → ⊥ = λ full. c.if-number-self.false (omega (arith, i.nodes.ok.0)) in
     let hash : c.args.hash ≡ node_hash i.key (node_of c.args.lead) = rw (← c.self.view_is) at c.requires.hash in
-    rw (c.in_ok-push_node.ensures.nodes, c.in_ok-push_node.ensures.links, hash)
-    (new_numbered i.nodes.items i.aliases i.includes i.limit i.key i.links c.self.invariant (node_of c.args.lead) more)
+    rw (c.in_ok-push_node.ensures.nodes, c.in_ok-push_node.ensures.hashes, c.in_ok-found.ensures.same, hash)
+    (new_numbered i.nodes.items i.aliases i.includes i.limit i.key i.hashes c.self.invariant (node_of c.args.lead) more)
 
 pub returns-clause-number : goal.returns-clause-number
 returns-clause-number c =
@@ -75,10 +70,10 @@ returns-clause-numbers c =
     let n = node_of c.args.lead in
     let nodes = c.deref.result.now in
     let entries = i.aliases + i.includes in
-    let gone : position (same_node n) (take (length nodes - entries) (drop entries nodes)) ≡ None = search rules in
-    let none : position (same_node n) (behind_of i.aliases i.includes i.nodes.items) ≡ None =
-    ap (λ (ns : List Node). position (same_node n) (behind_of i.aliases i.includes ns)) (sym c.deref.ensures.value)
-    ∙ ap (position (same_node n)) (sym (all_behind entries nodes)) ∙ gone in
-    let grown = new_grows i.nodes.items i.aliases i.includes i.limit i.key i.links c.self.invariant n (rw (← c.self.view_is) at c.requires.behind) none in
+    let gone : list_any (same_node n) (take (length nodes - entries) (drop entries nodes)) ≡ false = search rules in
+    let none : list_any (same_node n) (behind_of i.aliases i.includes i.nodes.items) ≡ false =
+    ap (λ (ns : List Node). list_any (same_node n) (behind_of i.aliases i.includes ns)) (sym c.deref.ensures.value)
+    ∙ ap (list_any (same_node n)) (sym (all_behind entries nodes)) ∙ gone in
+    let grown = new_grows i.nodes.items i.aliases i.includes i.limit i.key i.hashes c.self.invariant n (rw (← c.self.view_is) at c.requires.behind) none in
     let viewed : List Node → Numbered = λ ns. record { nodes = ns; aliases = i.aliases; includes = i.includes; limit = i.limit; key = i.key } in
     rw (← c.self.view_is, c.in_ok-push_node.ensures.nodes) (ap viewed (sym grown))

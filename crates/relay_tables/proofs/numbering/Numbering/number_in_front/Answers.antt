@@ -8,13 +8,13 @@ pub returns-then-number-self-clause-found : goal.returns-then-number-self-clause
 returns-then-number-self-clause-found c =
     let i = c.self.inside in
     let leads : node_of c.args.lead ≡ Alias c.in-Alias.number = ap node_of c.in-Alias.is in
-    rw (leads, ← c.self.view_is) (alias_at i.nodes.items i.aliases i.includes i.limit i.key i.links c.self.invariant c.in-Alias.number c.if-number-self.true)
+    rw (leads, ← c.self.view_is) (alias_at i.nodes.items i.aliases i.includes i.limit i.key i.hashes c.self.invariant c.in-Alias.number c.if-number-self.true)
 
 pub returns-then-number-self-2-clause-found : goal.returns-then-number-self-2-clause-found
 returns-then-number-self-2-clause-found c =
     let i = c.self.inside in
     let leads : node_of c.args.lead ≡ Include c.in-Include.number = ap node_of c.in-Include.is in
-    rw (leads, ← c.self.view_is) (include_at i.nodes.items i.aliases i.includes i.limit i.key i.links c.self.invariant c.in-Include.number c.if-number-self-2.true)
+    rw (leads, ← c.self.view_is) (include_at i.nodes.items i.aliases i.includes i.limit i.key i.hashes c.self.invariant c.in-Include.number c.if-number-self-2.true)
 
 pub returns-else-number-self-clause-behind : goal.returns-else-number-self-clause-behind
 returns-else-number-self-clause-behind c =
