@@ -22,7 +22,7 @@ sender_here given end i r before within is =
     )
 
 -- so many shares hold all
-enough : (long size : ℕ) → 0 < size → long ≤ (long / size + min 1 (long % size)) * size
+pub enough : (long size : ℕ) → 0 < size → long ≤ (long / size + min 1 (long % size)) * size
 enough long size some =
     elim (cases_lt 0 (long % size)) [
       | inl left ↦ (let one : min 1 (long % size) ≡ 1 = omega (arith, left) in subst (λ n. long ≤ (long / size + n) * size) (sym one) (omega (arith, some)))

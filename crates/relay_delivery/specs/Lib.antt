@@ -3,6 +3,7 @@ pub mod Placings
 pub mod WrittenPaths
 pub mod Ranks
 pub mod Orders
+pub mod Merged
 pub mod KeyGroups
 pub mod Keyed
 pub mod Marks

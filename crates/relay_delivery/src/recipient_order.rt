@@ -1,14 +1,15 @@
 //! Recipients in the order of their routes and their written paths.
 ghost use Rattle.std.specs.Prelude.{◌≡◌, ◌<◌, ◌≤◌, ◌^◌, length, map, take, drop, min, vec_capacity, All, IfOk, IsTrue};
 ghost use Rattle.relay_text.specs.Addresses.{is_address};
-ghost use Rattle.relay_delivery.specs.Ranks.{AreKeysOf, AreKeysSoFar};
+ghost use Rattle.relay_delivery.specs.Ranks.{AreKeysOf, AreKeysSoFar, AreRanks};
 ghost use Rattle.relay_delivery.specs.Orders.{moved_key, sender_of, moved_to, AreRecipientsInOrder};
 ghost use Rattle.relay_delivery.specs.WrittenPaths.{paths_of, AreSharedPaths};
 
 use crate::picks::picked_by_crew;
 use crate::ranks::Ranks;
 use crate::routed::Routed;
-use crate::shared::threads_for;
+use crate::share_keys::keys_by_shares;
+use crate::shared::{all_given, threads_for};
 use crate::sort_key::SortKey;
 use crate::written_path::split_path;
 use relay_sharing::Crew;
@@ -55,20 +56,6 @@ fn share_size<R>(crew: &Crew<'_, R>, recipients: usize) -> usize
     recipients.div_ceil(threads_for(crew, recipients)).max(1)
 }
 
-/// The texts of all shares. `Err` where memory ran out for one.
-fn all_texts(
-    alloc: Global,
-    shares: Vec<Result<Vec<u8>, AllocError>>,
-) -> Result<Vec<Vec<u8>>, AllocError>
-    ensures { IfOk result (λ texts. map (λ text. Ok text) texts.items ≡ shares.items) }
-{
-    let mut texts = Vec::with_capacity(alloc, shares.len())?;
-    for share in shares {
-        texts.push(share?)?;
-    }
-    Ok(texts)
-}
-
 /// The written paths of so many recipients at a time, by a crew.
 fn shared_paths<R: Threads + Sync>(
     crew: &Crew<'_, R>,
@@ -88,7 +75,7 @@ fn shared_paths<R: Threads + Sync>(
             ensures { IfOk result (λ paths. paths.items ≡ paths_of (map sender_of share.now)) }
         { recipient_paths(alloc, share) },
     )?;
-    all_texts(alloc, shares)
+    all_given(alloc, shares)
 }
 
 /// Adds what recipients are sorted by: those from `start` up to `end`, from their written paths and the new numbers of their routes.
@@ -121,7 +108,7 @@ fn add_keys<'t>(
 }
 
 /// What recipients are sorted by, from the written paths of so many of them at a time.
-fn recipient_keys<'t>(
+pub(crate) fn recipient_keys<'t>(
     alloc: Global,
     recipients: &[Routed],
     route_places: &[u32],
@@ -145,6 +132,28 @@ fn recipient_keys<'t>(
         start = end;
     }
     Ok(keys)
+}
+
+/// The recipients of these written paths in order.
+fn recipient_ranks<R: Threads + Sync>(
+    crew: &Crew<'_, R>,
+    recipients: &[Routed],
+    route_places: &[u32],
+    size: usize,
+    texts: &[Vec<u8>],
+) -> Result<Ranks, AllocError>
+    requires size { 0 < size }
+    requires routes { All (λ r. r.route < length route_places.now) recipients.now }
+    requires paths { AreSharedPaths (map sender_of recipients.now) size texts.now }
+    ensures ranks { IfOk result (λ ranks. AreRanks (map (moved_key route_places.now) recipients.now) ranks.order.items ranks.place_of.items) }
+    ensures valid { IfOk result (λ ranks. All (λ r. IsTrue (is_address r.address.now)) recipients.now) }
+{
+    if texts.len() < 2 || recipients.len() > NUMBERS {
+        let keys = recipient_keys(crew.alloc, recipients, route_places, size, texts)?;
+        return Ranks::of(crew, keys);
+    }
+    let shares = keys_by_shares(crew, recipients, route_places, size, texts)?;
+    Ranks::of_shares(crew, &shares, recipients.len())
 }
 
 /// Gives recipients the new numbers of their routes, by a crew.
@@ -179,11 +188,15 @@ impl<'a> RecipientOrder<'a> {
         ensures { IfOk result (λ order. AreRecipientsInOrder (map (moved_to route_places.now) recipients.now) order.recipients.items order.place_of.items) }
     {
         one_spelling();
-        let alloc = crew.alloc;
         let size = share_size(crew, recipients.len());
         let texts = shared_paths(crew, recipients, size)?;
-        let keys = recipient_keys(alloc, recipients, route_places, size, &texts)?;
-        let Ranks { order, place_of } = Ranks::of(crew, keys)?;
+        let Ranks { order, place_of } = recipient_ranks(
+            crew,
+            recipients,
+            route_places,
+            size,
+            &texts,
+        )?;
         let mut recipients = picked_by_crew(crew, recipients, order.as_slice())?;
         put_routes(crew, recipients.as_mut_slice(), route_places);
         Ok(RecipientOrder {

@@ -16,7 +16,7 @@ put_routes-requires-clause-routes g c κs within =
     let place_of = c.in_ok-order.field-0.place_of.items in
     let picks = c.in_ok-recipients.recipients.items in
     let numbers = c.as_slice.result.now in
-    let ranks : AreRanks (map (moved_key places) recipients) order place_of = subst (λ ps. AreRanks ps order place_of) c.in_ok-keys.ensures.keys.parts_are c.in_ok-order.ensures in
+    let ranks : AreRanks (map (moved_key places) recipients) order place_of = c.in_ok-order.ensures.ranks in
     let is_order : numbers ≡ order = c.as_slice.ensures.value ∙ (cc) in
     let picked : ArePicked recipients order picks = subst (λ ns. ArePicked recipients ns picks) is_order (picked_of recipients numbers picks c.in_ok-recipients.ensures) in
     subst (All (λ (r : Routed). r.route < length places)) (sym c.as_mut_slice.ensures.value) (picked_routes places recipients order place_of picks ranks picked (length places) c.requires)
@@ -30,11 +30,11 @@ returns g c =
     let vec = c.in_ok-recipients.recipients in
     let picks = vec.items in
     let numbers = c.as_slice.result.now in
-    let ranks : AreRanks (map (moved_key places) recipients) order place_of = subst (λ ps. AreRanks ps order place_of) c.in_ok-keys.ensures.keys.parts_are c.in_ok-order.ensures in
+    let ranks : AreRanks (map (moved_key places) recipients) order place_of = c.in_ok-order.ensures.ranks in
     let is_order : numbers ≡ order = c.as_slice.ensures.value ∙ (cc) in
     let picked : ArePicked recipients order picks = subst (λ ns. ArePicked recipients ns picks) is_order (picked_of recipients numbers picks c.in_ok-recipients.ensures) in
     let put = c.put_routes.new.recipients in
     let made : put ≡ map (moved_to places) picks = c.put_routes.ensures ∙ ap (map (moved_to places)) c.as_mut_slice.ensures.value in
     let read = with_items_is vec put (omega (arith, ap length made, length-map picks (moved_to places), vec.ok.0)) in
     subst (λ (new : List Routed). AreRecipientsInOrder (map (moved_to places) recipients) new place_of) (sym (read ∙ made))
-    (recipients_in_order places recipients order place_of picks ranks picked c.one_spelling.ensures.one_address c.in_ok-keys.ensures.valid)
+    (recipients_in_order places recipients order place_of picks ranks picked c.one_spelling.ensures.one_address c.in_ok-order.ensures.valid)
