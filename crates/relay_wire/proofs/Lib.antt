@@ -11,3 +11,4 @@ pub mod SortedLines
 pub mod LineOrders
 pub mod FoundOrders
 pub mod LineCuts
+pub mod LineParts

@@ -8,4 +8,5 @@ pub mod FrontedLines
 pub mod SharedFronts
 pub mod FindingLines
 pub mod FoundLines
+pub mod LineParts
 pub mod CheckText

@@ -1,6 +1,7 @@
 //! Lines beside numbers that decide most comparisons of their order.
-ghost use Rattle.std.specs.Prelude.{◌≡◌, length, take};
+ghost use Rattle.std.specs.Prelude.{◌≡◌, drop, length, take};
 ghost use Rattle.relay_wire.specs.FrontedLines.{IsFronted};
+ghost use Rattle.relay_wire.specs.Fronts.{front_number};
 
 use crate::front::split_front;
 
@@ -16,6 +17,7 @@ pub(crate) struct FrontedLine<'t> {
 
 impl<'t> FrontedLine<'t> {
     /// The line of these bytes, beside the numbers of those that stand behind this front.
+    #[inline]
     pub(crate) fn of(line: &'t [u8], front: &[u8]) -> FrontedLine<'t>
         requires { take (length front.now) line.now ≡ front.now }
         ensures line { result.line.now ≡ line.now }
@@ -30,4 +32,14 @@ impl<'t> FrontedLine<'t> {
             line,
         }
     }
+}
+
+/// The first of the numbers of a line that begins with this front.
+#[inline]
+pub(crate) fn number_behind(line: &[u8], front: &[u8]) -> u64
+    requires { take (length front.now) line.now ≡ front.now }
+    ensures { result ≡ front_number 8 (drop (length front.now) line.now) }
+{
+    let (_, rest) = line.split_at(front.len());
+    split_front(rest).0
 }

@@ -13,6 +13,7 @@ mod fronted_lines;
 pub mod hostname;
 mod kept_findings;
 mod lengths;
+mod line_parts;
 pub mod plan;
 mod plan_texts;
 mod reading;
