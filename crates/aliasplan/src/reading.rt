@@ -9,8 +9,9 @@ use relay_job::RunFault;
 use relay_text::Text;
 use std::alloc::{AllocError, Global};
 
-/// How many bytes one read asks for at most: few enough that they are still in the nearest cache when they are put behind the rest.
-const CHUNK: usize = 16384;
+/// How many bytes one read asks for at most: few enough that they are still in the nearest cache when they are put behind the rest, and that the
+/// C library doesn't copy them byte by byte, as those who count instructions see it.
+const CHUNK: usize = 8_000;
 
 /// For how many bytes there is room before the first read: most jobs are shorter. A longer one gets room for the longest at once, since
 /// of room that isn't filled no memory is touched, and what is filled needn't be moved then. Where that much is refused, less will do, and what
