@@ -103,6 +103,7 @@ pub(crate) fn recipient_at<'a, K: KeptFindings>(
 
 /// The recipient that a node is: `None` where it is no address, or one without a route, of which the line is added. `Err` where memory
 /// runs out; what was found before is kept then too.
+#[inline(always)]
 pub fn recipient_of<'a, K: KeptFindings>(
     alloc: Global,
     job: &JobView<'_>,

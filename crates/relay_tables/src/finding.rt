@@ -65,6 +65,7 @@ fn leads_to(lead: Lead<'_>, node: &Node) -> bool
 }
 
 /// The place of what a lead with this hash leads to, where it's there. `Err` where memory runs out.
+#[inline(always)]
 pub(crate) fn find_node(
     alloc: Global,
     nodes: &[Node],

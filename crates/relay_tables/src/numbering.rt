@@ -265,6 +265,7 @@ fn node_in_front(aliases: usize, number: usize) -> Node
 }
 
 // Puts the node of a lead at the end, and its hash. `Err` where memory runs out: then nothing is put.
+#[inline(always)]
 fn push_node(
     alloc: Global,
     lead: Lead<'_>,
