@@ -27,7 +27,7 @@ fn kept_of(text: Text) -> Option<Text>
 }
 
 /// What is written for a job's bytes.
-pub fn answer_input<G: Gate, R: Threads + Sync>(
+pub(crate) fn answer_input<G: Gate, R: Threads + Sync>(
     rt: &R,
     alloc: Global,
     input: Text,

@@ -68,7 +68,7 @@ fn part_of<G: Gate, R: Threads + Sync>(
 }
 
 /// The plan of a job whose files and tables are read, with the findings of what is reached alone.
-pub fn plan_envelope<G: Gate, R: Threads + Sync>(
+pub(crate) fn plan_envelope<G: Gate, R: Threads + Sync>(
     crew: &Crew<G, R>,
     job: &JobView<'_>,
     lookup: &Lookup,

@@ -41,7 +41,7 @@ fn add_block(
 }
 
 /// The blocks of the senders that have lines, in the order of the senders' numbers.
-pub fn blocks_of(
+pub(crate) fn blocks_of(
     alloc: Global,
     graph: &Graph,
     lists: Vec<TextSet>,

@@ -150,7 +150,7 @@ fn no_lines(alloc: Global, graph: &Graph) -> Result<Vec<TextSet>, AllocError>
 
 /// The lines of what can't be delivered for the recipients, by the numbers of senders. `TooManyPairs` where more pairs than `limit` are
 /// reached, each counted for each recipient.
-pub fn lines_by_sender<G: Gate, R: Threads + Sync>(
+pub(crate) fn lines_by_sender<G: Gate, R: Threads + Sync>(
     search: &Search<G, R>,
     undelivered: &[Seq<Text>],
     recipients: &[Address],

@@ -76,7 +76,7 @@ fn lists_of<'a>(
 }
 
 /// The lines of these nodes, by their numbers.
-pub fn undelivered_at<'a>(
+pub(crate) fn undelivered_at<'a>(
     alloc: Global,
     job: &JobView<'a>,
     lookup: &'a Lookup,

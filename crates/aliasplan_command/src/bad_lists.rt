@@ -13,7 +13,11 @@ pub struct BadLists<'a> {
 
 impl<'a> BadLists<'a> {
     /// Those of a job, where these are the logical lines of its alias file.
-    pub fn of(alloc: Global, job: &'a Job, lines: &'a [Line]) -> Result<BadLists<'a>, AllocError> {
+    pub(crate) fn of(
+        alloc: Global,
+        job: &'a Job,
+        lines: &'a [Line],
+    ) -> Result<BadLists<'a>, AllocError> {
         let mut lists = BadLists {
             by_place: BTreeMap::new(alloc),
         };
@@ -74,7 +78,7 @@ impl<'a> BadLists<'a> {
     }
 
     /// The lists, each behind the words that name its line.
-    pub fn into_places(self) -> BTreeMap<Vec<u8>, &'a [u8]> {
+    pub(crate) fn into_places(self) -> BTreeMap<Vec<u8>, &'a [u8]> {
         let BadLists { by_place } = self;
         by_place
     }

@@ -6,7 +6,7 @@ use std::rt::Files;
 use std::str;
 
 /// Bytes as a message has them.
-pub fn shown(text: &[u8]) -> &str {
+pub(crate) fn shown(text: &[u8]) -> &str {
     match str::from_utf8(text) {
         Ok(text) => text,
         Err(_) => "(not UTF-8)",
@@ -22,7 +22,7 @@ fn key_of(line: &[u8]) -> &[u8] {
 }
 
 /// The line of a job that has this fault, and the rule that it breaks.
-pub fn explain_job<R: Eprint + AllocGlobal>(rt: &R, job: &[u8], fault: RunFault) {
+pub(crate) fn explain_job<R: Eprint + AllocGlobal>(rt: &R, job: &[u8], fault: RunFault) {
     match fault {
         RunFault::BadJob(number) => explain_job_line(rt, job, number),
         RunFault::BadSetting(number) => explain_setting(rt, job, number),
@@ -67,7 +67,7 @@ fn explain_envelope<R: Eprint + AllocGlobal>(rt: &R, job: &[u8], number: usize) 
 }
 
 /// Why the file of a path can't be read, as the system says it when it is asked again.
-pub fn explain_file<R: Files + Eprint + AllocGlobal>(rt: &R, path: &[u8]) {
+pub(crate) fn explain_file<R: Files + Eprint + AllocGlobal>(rt: &R, path: &[u8]) {
     let name = shown(path);
     let mut bytes = Vec::new(rt.alloc());
     let answer = match open_file(rt, path) {

@@ -7,7 +7,7 @@ use std::alloc::{AllocError, Global};
 
 /// Each bad item of a job's alias file and include files and the rule that it breaks, in the order of their findings. Where memory
 /// runs out no more is said.
-pub fn explain_items<R: Eprint + AllocGlobal>(rt: &R, bytes: &[u8]) {
+pub(crate) fn explain_items<R: Eprint + AllocGlobal>(rt: &R, bytes: &[u8]) {
     let Ok(job) = parse_tables(rt.alloc(), bytes) else {
         return;
     };

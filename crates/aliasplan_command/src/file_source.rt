@@ -20,12 +20,12 @@ pub struct FileSource<'a, R> {
 }
 
 impl<'a, R> FileSource<'a, R> {
-    pub fn new(rt: &'a R) -> FileSource<'a, R> {
+    pub(crate) fn new(rt: &'a R) -> FileSource<'a, R> {
         FileSource { rt, failed: None }
     }
 
     /// The path that was asked for last of those that gave no file, where there is one.
-    pub fn failed(&self) -> Option<&[u8]> {
+    pub(crate) fn failed(&self) -> Option<&[u8]> {
         self.failed.as_deref()
     }
 }
@@ -43,7 +43,7 @@ fn opening_fault(error: &Error) -> SourceFault
 }
 
 /// The file of a path, opened. A path that isn't UTF-8, or has a byte of 0, fails.
-pub fn open_file<R: Files>(rt: &R, path: &[u8]) -> io::Result<R::File> {
+pub(crate) fn open_file<R: Files>(rt: &R, path: &[u8]) -> io::Result<R::File> {
     match str::from_utf8(path) {
         Ok(path) => fs::open(rt, path),
         Err(_) => Err(Error::from(ErrorKind::InvalidInput)),
@@ -51,7 +51,7 @@ pub fn open_file<R: Files>(rt: &R, path: &[u8]) -> io::Result<R::File> {
 }
 
 /// The same, with the fault of a source.
-pub fn open<R: Files>(rt: &R, path: &[u8]) -> Result<R::File, SourceFault> {
+pub(crate) fn open<R: Files>(rt: &R, path: &[u8]) -> Result<R::File, SourceFault> {
     open_file(rt, path).map_err(|error| opening_fault(&error))
 }
 

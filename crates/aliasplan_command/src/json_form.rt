@@ -169,7 +169,7 @@ fn put_plan(
 /// A plan as one JSON object on a line, with the words of the plan's text: `plan` has the numbers of its first line, `transactions` each
 /// transaction, `findings` the words of each finding. A byte of 128 or more is the character of its number, as an escape, so that the
 /// text is ASCII. `Err` where memory runs out.
-pub fn json_text(alloc: Global, plan: &Plan, summary: Summary) -> Result<Vec<u8>, AllocError>
+pub(crate) fn json_text(alloc: Global, plan: &Plan, summary: Summary) -> Result<Vec<u8>, AllocError>
     ensures { IfOk result (λ text. All (λ byte. byte < 128) text.items) }
 {
     let mut out = Writer::new(Vec::new(alloc));

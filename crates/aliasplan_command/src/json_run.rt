@@ -35,7 +35,7 @@ fn answer_as_json<R: AllocGlobal + Threads + Sync>(
 
 /// Reads a job, plans it, and writes the plan as JSON and nothing else. All of the text is there before the first write. The faults are
 /// those of `run`; the form of the options is not regarded.
-pub fn run_as_json<F: Feed, S: Sink, R: AllocGlobal + Threads + Sync>(
+pub(crate) fn run_as_json<F: Feed, S: Sink, R: AllocGlobal + Threads + Sync>(
     rt: &R,
     reader: &mut F,
     writer: &mut S,

@@ -12,7 +12,7 @@ pub struct StandardInput<R> {
 }
 
 impl<R> StandardInput<R> {
-    pub fn new(inner: R) -> StandardInput<R> {
+    pub(crate) fn new(inner: R) -> StandardInput<R> {
         StandardInput { inner }
     }
 }

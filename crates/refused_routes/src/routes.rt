@@ -8,6 +8,7 @@ use relay_routes::{
 };
 use relay_text::{Address, Seq, Text};
 use std::alloc::{AllocError, Global};
+use std::thread::Threads;
 
 const HUB_NAME: &[u8] = b"hub.a-department-with-a-long-name.example.com";
 
@@ -91,6 +92,16 @@ fn reads_transports(alloc: Global) -> Result<Answer, Unready> {
     }
 }
 
+fn reads_transports_by<R: Threads + Sync>(rt: &R, alloc: Global) -> Result<Answer, Unready> {
+    let address = address(alloc, b"u@example.net")?;
+    match TransportTable::parse_by(rt, alloc, 2, FAULTY_TRANSPORTS) {
+        Ok(table) => lent(table, |table| {
+            Ok(finds_gateway_despite_faults(table, alloc, &address))
+        }),
+        Err(_) => Ok(Answer::Refused),
+    }
+}
+
 fn finds_a_transport(alloc: Global) -> Result<Seen, Unready> {
     let address = address(alloc, b"u+x@example.net")?;
     let table = TransportTable::parse(alloc, TRANSPORTS)?;
@@ -135,6 +146,16 @@ fn finds_hosts_despite_fault(table: &MxTable, alloc: Global, own_names: &[Text])
 fn reads_exchangers(alloc: Global) -> Result<Answer, Unready> {
     let names = own_names(alloc)?;
     match MxTable::parse(alloc, PREFERENCES) {
+        Ok(table) => lent(table, |table| {
+            Ok(finds_hosts_despite_fault(table, alloc, &names))
+        }),
+        Err(_) => Ok(Answer::Refused),
+    }
+}
+
+fn reads_exchangers_by<R: Threads + Sync>(rt: &R, alloc: Global) -> Result<Answer, Unready> {
+    let names = own_names(alloc)?;
+    match MxTable::parse_by(rt, alloc, 2, PREFERENCES) {
         Ok(table) => lent(table, |table| {
             Ok(finds_hosts_despite_fault(table, alloc, &names))
         }),
@@ -332,16 +353,24 @@ fn finds_a_looked_up_name(alloc: Global) -> Result<Seen, Unready> {
     lent(to, |to| Ok(twice!(is_looked_up(alloc, to))))
 }
 
-fn tell_of_transports<R: Print + AllocGlobal>(teller: &mut Teller<'_, R>) {
-    let alloc = teller.rt.alloc();
+fn tell_of_transports<R: Print + AllocGlobal + Threads + Sync>(teller: &mut Teller<'_, R>) {
+    let rt = teller.rt;
+    let alloc = rt.alloc();
     call!(teller, "Via::parse", reads_a_setting(alloc));
     call!(teller, "TransportTable::parse", reads_transports(alloc));
+    call!(
+        teller,
+        "TransportTable::parse_by",
+        reads_transports_by(rt, alloc)
+    );
     case!(teller, "TransportTable::find", finds_a_transport(alloc));
 }
 
-fn tell_of_exchangers<R: Print + AllocGlobal>(teller: &mut Teller<'_, R>) {
-    let alloc = teller.rt.alloc();
+fn tell_of_exchangers<R: Print + AllocGlobal + Threads + Sync>(teller: &mut Teller<'_, R>) {
+    let rt = teller.rt;
+    let alloc = rt.alloc();
     call!(teller, "MxTable::parse", reads_exchangers(alloc));
+    call!(teller, "MxTable::parse_by", reads_exchangers_by(rt, alloc));
     case!(
         teller,
         "MxTable::hosts",
@@ -384,7 +413,7 @@ fn tell_of_routes<R: Print + AllocGlobal>(teller: &mut Teller<'_, R>) {
     );
 }
 
-pub(crate) fn tell<R: Print + AllocGlobal>(teller: &mut Teller<'_, R>) {
+pub(crate) fn tell<R: Print + AllocGlobal + Threads + Sync>(teller: &mut Teller<'_, R>) {
     tell_of_transports(teller);
     tell_of_exchangers(teller);
     tell_of_routers(teller);

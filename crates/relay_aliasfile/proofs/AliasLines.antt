@@ -13,7 +13,7 @@ use Rattle.relay_aliasfile.specs.AliasFiles.{Heading, heading_of, heading_name, 
 use Rattle.relay_aliasfile.specs.AliasTables.{new_entries, new_faults, next_repeat, repeats_behind, added_by, file_in, file_behind}
 use Rattle.relay_aliasfile.specs.Repeats.{entry_name, is_among, repeats_in}
 use Rattle.relay_aliasfile.specs.declared.aliases.AliasFile.{AliasFile}
-use Rattle.relay_aliasfile.proofs.HalvedLines.{moved_nowhere}
+use Rattle.relay_halves.proofs.HalvedLines.{moved_nowhere}
 
 abbrev names_of : List Line → List (List ℕ)
 names_of lines = filter_map name_in lines

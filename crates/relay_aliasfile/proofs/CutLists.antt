@@ -23,7 +23,7 @@ use Rattle.relay_aliasfile.specs.declared.fault.FaultKind.TheVariants.{BadItem, 
 use Rattle.relay_aliasfile.specs.declared.item.Item.{Item}
 use Rattle.relay_aliasfile.specs.declared.list_parts.ListPart.{ListPart}
 use Rattle.relay_aliasfile.specs.declared.quotes.QuoteState.{QuoteState}
-use Rattle.relay_aliasfile.proofs.HalvedLines.{onto_first-append}
+use Rattle.relay_halves.proofs.HalvedLines.{onto_first-append}
 use Rattle.relay_aliasfile.proofs.Outside.{pieces_from, pieces_outside-from}
 
 -- past another byte a reader that stands at the start stays there

@@ -1,5 +1,4 @@
 pub mod FirstTexts
-pub mod HalvedLines
 pub mod MailboxNames
 pub mod Rows
 pub mod Outside

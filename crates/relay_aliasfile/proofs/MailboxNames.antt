@@ -7,11 +7,11 @@ use Rattle.std.proofs.lemmas.List.Elements.{filter_map-append}
 use Rattle.std.proofs.lemmas.Grind.{flat_map-append}
 use Rattle.relay_text.specs.Bytes.{firsts}
 use Rattle.relay_text.specs.Lines.{raw_lines, kept_lines}
-use Rattle.relay_aliasfile.specs.Halves.{EndsWithLine, kept_behind}
+use Rattle.relay_halves.specs.Halves.{EndsWithLine, kept_behind}
 use Rattle.relay_aliasfile.specs.MailboxFiles.{name_in, faults_in, mailbox_file_of}
 use Rattle.relay_aliasfile.specs.MailboxLines.{AreBoth, AreRead}
 use Rattle.relay_aliasfile.specs.declared.mailbox_lines.MailboxLines.{MailboxLines}
-use Rattle.relay_aliasfile.proofs.HalvedLines.{moved_nowhere, kept_behind-append}
+use Rattle.relay_halves.proofs.HalvedLines.{moved_nowhere, kept_behind-append}
 
 -- the lines of the whole text, and the file of them
 pub mailbox_file_read : (text : List ℕ) (lines : MailboxLines) → AreRead 0 text lines → record { names = firsts bytes_eq lines.names.items; faults = lines.faults.items } ≡ mailbox_file_of text

@@ -2,7 +2,7 @@
 use Rattle.std.specs.Prelude.{◌≡◌, ℕ, Bool, false, List, [], ◌∷◌, ◌++◌, map, drop, Option, Some, None, if◌then◌else◌, slice_index_or}
 use Rattle.relay_text.specs.declared.lines.Line.{Line}
 use Rattle.relay_text.specs.declared.lines.Lines.{Lines}
-use Rattle.relay_aliasfile.specs.Halves.{lines_behind}
+use Rattle.relay_halves.specs.Halves.{lines_behind}
 use Rattle.relay_aliasfile.specs.AliasFiles.{Heading, heading_of, list_faults, orphan_fault}
 use Rattle.relay_aliasfile.specs.Items.{good_items}
 use Rattle.relay_aliasfile.specs.MailboxFiles.{fault}

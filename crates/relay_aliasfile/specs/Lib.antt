@@ -14,7 +14,6 @@ pub mod AliasTables
 pub mod Repeats
 pub mod ItemPlaces
 pub mod Twins
-pub mod Halves
 pub mod ListCuts
 pub mod ListParts
 pub mod MailboxLines

@@ -1,6 +1,6 @@
 -- What the lines of a mailbox file say.
 use Rattle.std.specs.Prelude.{◌≡◌, ℕ, List, ◌++◌, Option, Some, None, filter_map, flat_map}
-use Rattle.relay_aliasfile.specs.Halves.{kept_behind}
+use Rattle.relay_halves.specs.Halves.{kept_behind}
 use Rattle.relay_aliasfile.specs.MailboxFiles.{name_in, faults_in}
 use Rattle.relay_aliasfile.specs.declared.mailbox_lines.MailboxLines.{MailboxLines}
 

@@ -61,7 +61,7 @@ pub(crate) fn are_own(places: &[usize]) -> bool
 }
 
 /// The texts, each by its first place alone. Where none comes again, they stay where they are.
-pub fn distinct_texts(alloc: Global, texts: Vec<Text>) -> Result<Seq<Text>, AllocError>
+pub(crate) fn distinct_texts(alloc: Global, texts: Vec<Text>) -> Result<Seq<Text>, AllocError>
     ensures { IfOk result (λ distinct. distinct ≡ firsts bytes_eq texts.items) }
 {
     let places = places_of(alloc, texts.as_slice())?;

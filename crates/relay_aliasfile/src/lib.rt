@@ -8,7 +8,6 @@ mod distinct;
 pub mod entry;
 pub mod fault;
 mod first_places;
-mod halves;
 mod heading;
 pub mod includes;
 pub mod item;

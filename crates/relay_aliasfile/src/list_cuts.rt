@@ -3,8 +3,8 @@ ghost use Rattle.std.specs.Prelude.{◌≡◌, ◌++◌, ◌≤◌, IfSome};
 ghost use Rattle.relay_aliasfile.specs.Items.{item_texts};
 ghost use Rattle.relay_aliasfile.specs.ListCuts.{HasNoQuotes};
 
-use crate::halves::{LEAST_HALF, is_long};
 use memchr::{memchr, memchr2, memrchr};
+use relay_halves::{LEAST_HALF, is_long};
 
 /// The front of a list up to the last comma before its first quote or backslash, and what follows that comma. A comma before the first
 /// quote stands outside quotes. Where there is no quote, the front is all of the list.

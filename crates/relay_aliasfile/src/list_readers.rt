@@ -2,10 +2,10 @@
 ghost use Rattle.std.specs.Thread.{IsSync};
 
 use crate::fault::LineFault;
-use crate::halves::is_long;
 use crate::items::Items;
 use crate::list_parts::ListPart;
 use crate::lists::read_list;
+use relay_halves::is_long;
 use std::alloc::{AllocError, Global};
 use std::thread::Threads;
 

@@ -1,7 +1,7 @@
 //! What the lines of a mailbox file say, before repeats are dropped.
 use crate::fault::{FaultKind, LineFault, add_fault};
-use crate::halves::{about_lines, halves, line_count};
 use crate::names::folded_name;
+use relay_halves::{about_lines, halves, line_count};
 use relay_text::{KeptLines, Text, trimmed};
 use std::alloc::{AllocError, Global};
 use std::thread::{Threads, join};

@@ -6,9 +6,9 @@ ghost use Rattle.relay_aliasfile.specs.MailboxFiles.{mailbox_file_of};
 
 use crate::distinct::distinct_texts;
 use crate::fault::LineFault;
-use crate::halves::about_lines;
 use crate::mailbox_lines::MailboxLines;
 use crate::spread::are_distinct_by;
+use relay_halves::about_lines;
 use relay_text::{Seq, Text};
 use std::alloc::{AllocError, Global};
 use std::thread::Threads;

@@ -9,7 +9,7 @@ use relay_text::{PlainText, Text, TextFault, parse_name};
 use std::alloc::{AllocError, Global};
 
 /// The name that a text spells, folded; `None` where it spells none.
-pub fn folded_name(alloc: Global, text: &[u8]) -> Result<Option<Text>, AllocError>
+pub(crate) fn folded_name(alloc: Global, text: &[u8]) -> Result<Option<Text>, AllocError>
     ensures { IfOk result (λ name. name ≡ folded_name_of text.now) }
 {
     folded_answer(parse_name(alloc, text))

@@ -33,7 +33,7 @@ use std::alloc::{AllocError, Global};
 
 impl KnownWays {
     /// No texts yet. The key is that of their hashes.
-    pub fn new(alloc: Global, key: u64) -> Result<KnownWays, AllocError>
+    pub(crate) fn new(alloc: Global, key: u64) -> Result<KnownWays, AllocError>
         ensures { IfOk result (λ known. known ≡ []) }
     {
         Ok(KnownWays {
@@ -45,7 +45,7 @@ impl KnownWays {
     }
 
     /// The way of a text, if it's known.
-    pub fn find(&self, text: &[u8]) -> Option<Way>
+    pub(crate) fn find(&self, text: &[u8]) -> Option<Way>
         ensures { result ≡ way_in self.now text.now }
     {
         let number = self.texts.find(text)?;
@@ -68,7 +68,7 @@ impl KnownWays {
     }
 
     /// The way of a text, as `find` gives it, without its hash where it was recalled twice just before.
-    pub fn recall(&mut self, text: &[u8]) -> Option<Way>
+    pub(crate) fn recall(&mut self, text: &[u8]) -> Option<Way>
         ensures found { result ≡ way_in self.old text.now }
         ensures kept { self.new ≡ self.old }
     {
@@ -101,7 +101,7 @@ impl KnownWays {
     }
 
     /// Keeps the way of a new text. `Err` where memory runs out, or the numbers of texts do.
-    pub fn keep(&mut self, text: &[u8], way: Way) -> Result<(), AllocError>
+    pub(crate) fn keep(&mut self, text: &[u8], way: Way) -> Result<(), AllocError>
         requires { way_in self.old text.now ≡ None }
         ensures ok { OnOk result (self.new ≡ self.old ++ (text.now, way) ∷ []) }
         ensures err { OnErr result (self.new ≡ self.old) }

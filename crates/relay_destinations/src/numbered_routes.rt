@@ -56,7 +56,7 @@ fn next_number(count: usize) -> Result<u32, AllocError>
 
 impl<'r> NumberedRoutes<'r> {
     /// No destination yet. The key is that of their hashes.
-    pub fn new(
+    pub(crate) fn new(
         alloc: Global,
         router: &'r Router,
         via: &'r Via,
@@ -74,7 +74,7 @@ impl<'r> NumberedRoutes<'r> {
     }
 
     /// The routes, under their numbers.
-    pub fn routes(&self) -> &[Route]
+    pub(crate) fn routes(&self) -> &[Route]
         ensures routes { result.now ≡ self.now.found.routes }
         ensures apart { AllPairs (λ r q. (r.transport ≢ q.transport) ⊎ (r.nexthop ≢ q.nexthop)) self.now.found.routes }
     {
@@ -82,7 +82,7 @@ impl<'r> NumberedRoutes<'r> {
     }
 
     /// The reasons, under their numbers.
-    pub fn reasons(&self) -> &[Unrouted]
+    pub(crate) fn reasons(&self) -> &[Unrouted]
         ensures reasons { result.now ≡ self.now.found.reasons }
         ensures lasting { (number : ℕ) (reason : reasons.Unrouted) → slice_get self.now.found.reasons number ≡ Some reason → reason ≢ Memory }
     {
@@ -90,7 +90,7 @@ impl<'r> NumberedRoutes<'r> {
     }
 
     /// Where a remote address goes.
-    pub fn find(&mut self, alloc: Global, address: &Address) -> Result<Way, AllocError>
+    pub(crate) fn find(&mut self, alloc: Global, address: &Address) -> Result<Way, AllocError>
         ensures way { IfOk result (λ way. Means self.new.found way (route_of self.old.found.routing address.now)) }
         ensures kept { Keeps self.old.found self.new.found }
     {
@@ -102,7 +102,11 @@ impl<'r> NumberedRoutes<'r> {
     }
 
     /// Where a mailbox goes.
-    pub fn find_mailbox(&mut self, alloc: Global, address: &Address) -> Result<Way, AllocError>
+    pub(crate) fn find_mailbox(
+        &mut self,
+        alloc: Global,
+        address: &Address,
+    ) -> Result<Way, AllocError>
         ensures way { IfOk result (λ way. Means self.new.found way (route_via_of self.old.found.routing self.old.found.via address.now)) }
         ensures kept { Keeps self.old.found self.new.found }
     {

@@ -10,7 +10,7 @@ use relay_job::RunFault;
 use std::alloc::Global;
 
 /// The file of a path; `None` where it is absent.
-pub fn fetched<D: Source>(
+pub(crate) fn fetched<D: Source>(
     alloc: Global,
     source: &mut D,
     path: &[u8],
@@ -28,7 +28,7 @@ pub fn fetched<D: Source>(
 }
 
 /// The file of a path, which is to be there.
-pub fn fetched_file<D: Source>(
+pub(crate) fn fetched_file<D: Source>(
     alloc: Global,
     source: &mut D,
     path: &[u8],

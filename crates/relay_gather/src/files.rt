@@ -69,7 +69,7 @@ fn put_lines(text: &mut Vec<u8>, file: &[u8]) -> Result<(), AllocError>
 
 /// The contents of the files of these paths, each of which is to be there: the later ones behind the first. Each has the LF that its last
 /// line may lack, but for the last of them; a line that begins a later file and would continue a line of a file before is a comment.
-pub fn joined_file<D: Source>(
+pub(crate) fn joined_file<D: Source>(
     alloc: Global,
     source: &mut D,
     first: &Text,

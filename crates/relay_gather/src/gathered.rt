@@ -16,7 +16,7 @@ ghost use Rattle.relay_gather.specs.Gathered.{written_line, Puts, Overflows};
 
 impl Gathered {
     /// Nothing, with room for so many bytes.
-    pub fn new(alloc: Global, room: usize) -> Gathered
+    pub(crate) fn new(alloc: Global, room: usize) -> Gathered
         ensures bytes { result.bytes.items ≡ [] }
         ensures room { result.room ≡ room }
     {
@@ -27,7 +27,7 @@ impl Gathered {
     }
 
     /// The text, without taking memory.
-    pub fn into_text(self) -> Text
+    pub(crate) fn into_text(self) -> Text
         ensures { result ≡ self.bytes.items }
     {
         Text::of(self.bytes)
@@ -75,7 +75,7 @@ impl Gathered {
     }
 
     /// Puts a section: its heading and the lines of its file.
-    pub fn put_section(&mut self, heading: &[u8], file: &[u8]) -> Result<(), RunFault>
+    pub(crate) fn put_section(&mut self, heading: &[u8], file: &[u8]) -> Result<(), RunFault>
         ensures ok { OnOk result (Puts (section_text heading.now file.now) self.old self.new) }
         ensures err { IfErr result (Overflows (section_text heading.now file.now) self.old.room) }
     {
@@ -85,7 +85,7 @@ impl Gathered {
     }
 
     /// Puts the section of an include file.
-    pub fn put_include(&mut self, path: &[u8], file: &[u8]) -> Result<(), RunFault>
+    pub(crate) fn put_include(&mut self, path: &[u8], file: &[u8]) -> Result<(), RunFault>
         ensures ok { OnOk result (Puts (section_text (codes "%include " ++ path.now) file.now) self.old self.new) }
         ensures err { IfErr result (Overflows (section_text (codes "%include " ++ path.now) file.now) self.old.room) }
     {

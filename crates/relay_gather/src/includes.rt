@@ -51,7 +51,7 @@ fn put_include<D: Source>(
 }
 
 /// Puts the sections of the include files, breadth first from those that the alias file names.
-pub fn put_includes<D: Source>(
+pub(crate) fn put_includes<D: Source>(
     alloc: Global,
     source: &mut D,
     first: &[Text],

@@ -19,7 +19,7 @@ use relay_text::{Seq, Text};
 use std::alloc::Global;
 
 /// Puts a section, where its file is named.
-pub fn put_named<D: Source>(
+pub(crate) fn put_named<D: Source>(
     alloc: Global,
     source: &mut D,
     heading: &[u8],
@@ -57,7 +57,7 @@ fn put_files<D: Source>(
 }
 
 /// Puts a section of files one behind the other, where some are named.
-pub fn put_joined<D: Source>(
+pub(crate) fn put_joined<D: Source>(
     alloc: Global,
     source: &mut D,
     heading: &[u8],
@@ -84,7 +84,7 @@ fn names_in_aliases(alloc: Global, bytes: &[u8]) -> Result<Seq<Text>, RunFault>
 }
 
 /// Puts the section of the alias files, where some are named, and answers the names of their include files.
-pub fn put_aliases<D: Source>(
+pub(crate) fn put_aliases<D: Source>(
     alloc: Global,
     source: &mut D,
     paths: &Seq<Text>,

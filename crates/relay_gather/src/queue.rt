@@ -15,7 +15,7 @@ ghost use Rattle.relay_gather.specs.Queue.{HasSeen};
 
 impl Queue {
     /// No paths, without taking memory.
-    pub fn new(alloc: Global) -> Queue
+    pub(crate) fn new(alloc: Global) -> Queue
         ensures none { result.paths.items ≡ [] }
         ensures seen { HasSeen result }
     {
@@ -26,14 +26,14 @@ impl Queue {
     }
 
     /// How many paths there are.
-    pub fn len(&self) -> usize
+    pub(crate) fn len(&self) -> usize
         ensures { result ≡ length self.now.paths.items }
     {
         self.paths.len()
     }
 
     /// The path at a place.
-    pub fn path(&self, place: usize) -> &[u8]
+    pub(crate) fn path(&self, place: usize) -> &[u8]
         requires { place < length self.now.paths.items }
         ensures { result.now ≡ slice_index_or self.now.paths.items place result.now }
     {
@@ -53,7 +53,7 @@ impl Queue {
     }
 
     /// Puts paths at the end, those that aren't there already.
-    pub fn add_all(&mut self, alloc: Global, paths: &[Text]) -> Result<(), AllocError>
+    pub(crate) fn add_all(&mut self, alloc: Global, paths: &[Text]) -> Result<(), AllocError>
         requires { HasSeen self.old }
         ensures paths { OnOk result (self.new.paths.items ≡ with_texts self.old.paths.items paths.now) }
         ensures seen { OnOk result (HasSeen self.new) }

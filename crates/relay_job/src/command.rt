@@ -54,7 +54,7 @@ fn path_behind(
 
 impl<'a> Command<'a> {
     /// The next command of a section, and the place behind it.
-    pub fn split_from(section: &Place<'a>) -> Option<(Command<'a>, Place<'a>)>
+    pub(crate) fn split_from(section: &Place<'a>) -> Option<(Command<'a>, Place<'a>)>
         ensures none { IfNone result (commands_at section.now ≡ []) }
         ensures lines { IfSome result (λ split. commands_at section.now ≡ line_in split.0 ∷ commands_at split.1) }
         ensures shorter { IfSome result (λ split. length split.1.rest.now < length section.now.rest.now) }
@@ -72,7 +72,7 @@ impl<'a> Command<'a> {
     }
 
     /// The path of the sender that the command names; `None` where it names none.
-    pub fn sender(
+    pub(crate) fn sender(
         &self,
         alloc: Global,
         origin: &[u8],
@@ -88,7 +88,11 @@ impl<'a> Command<'a> {
     }
 
     /// The recipient that the command names; `None` where it names none.
-    pub fn recipient(&self, alloc: Global, origin: &[u8]) -> Result<Option<Address>, AllocError>
+    pub(crate) fn recipient(
+        &self,
+        alloc: Global,
+        origin: &[u8],
+    ) -> Result<Option<Address>, AllocError>
         requires { IsTrue (is_origin origin.now) }
         ensures { IfOk result (λ recipient. recipient ≡ recipient_in origin.now self.now.text.now) }
     {

@@ -9,7 +9,7 @@ use std::alloc::{AllocError, Global};
 
 /// The bytes of the section behind a place, each line as it stands for itself. Most sections have no line that begins with `%%`, and
 /// are copied in one piece.
-pub fn section_bytes(alloc: Global, section: Place<'_>) -> Result<Text, AllocError>
+pub(crate) fn section_bytes(alloc: Global, section: Place<'_>) -> Result<Text, AllocError>
     ensures { IfOk result (λ bytes. bytes ≡ flat_map (λ l. content_of l.raw) (content_at section.entry)) }
 {
     match section.plain() {

@@ -8,7 +8,7 @@ use std::alloc::{AllocError, Global};
 
 /// The host's name, the origin and the domains, where they are set: else `localhost`, the host's name, and the host's name and
 /// `localhost`.
-pub fn names_or_own(
+pub(crate) fn names_or_own(
     alloc: Global,
     hostname: Option<Text>,
     origin: Option<Text>,
@@ -50,7 +50,7 @@ fn domains_or_own(
 }
 
 /// A transport, or else LMTP to `unix:mailbox`.
-pub fn via_or_mailbox(alloc: Global, via: Option<Via>) -> Result<Via, AllocError>
+pub(crate) fn via_or_mailbox(alloc: Global, via: Option<Via>) -> Result<Via, AllocError>
     ensures { IfOk result (λ v. v ≡ unwrap_or via default_via) }
 {
     match via {

@@ -14,7 +14,7 @@ fn is_separator(byte: u8) -> bool
 }
 
 /// The domains of a list, folded; `None` where it has other pieces.
-pub fn read_domains(alloc: Global, list: &[u8]) -> Result<Option<Seq<Text>>, AllocError>
+pub(crate) fn read_domains(alloc: Global, list: &[u8]) -> Result<Option<Seq<Text>>, AllocError>
     ensures { IfOk result (λ domains. domains ≡ domains_value list.now) }
 {
     let mut domains = Vec::new(alloc);

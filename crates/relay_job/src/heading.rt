@@ -34,7 +34,7 @@ fn include_path(heading: &[u8]) -> Option<&[u8]>
 
 impl<'a> Heading<'a> {
     /// What a heading names, without the white space at its end and round a path; `None` where it names nothing.
-    pub fn of(text: &'a [u8]) -> Option<Heading<'a>>
+    pub(crate) fn of(text: &'a [u8]) -> Option<Heading<'a>>
         ensures { option_map heading_section result ≡ section_of text.now }
     {
         match Section::named(text) {

@@ -27,7 +27,7 @@ impl<'a> IncludePlace<'a> {
 }
 
 /// The include files behind places, in their order.
-pub fn read_includes(
+pub(crate) fn read_includes(
     alloc: Global,
     places: &[IncludePlace<'_>],
 ) -> Result<Seq<JobInclude>, AllocError>

@@ -24,7 +24,7 @@ pub struct JobFiles {
 
 impl JobFiles {
     /// Those of a job's parts, in memory of their own.
-    pub fn read(alloc: Global, parts: &Parts<'_>) -> Result<JobFiles, AllocError>
+    pub(crate) fn read(alloc: Global, parts: &Parts<'_>) -> Result<JobFiles, AllocError>
         ensures { IfOk result (AreFilesOf parts.now) }
     {
         let sections = &parts.sections;

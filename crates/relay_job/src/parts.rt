@@ -106,7 +106,7 @@ impl<'a> Parts<'a> {
 
     /// The parts of a job, read once. BadJob has the first line that is a heading of no part or of an earlier one, or that stands
     /// before the first heading and isn't of white space alone.
-    pub fn find(alloc: Global, bytes: &'a [u8]) -> Result<Parts<'a>, RunFault>
+    pub(crate) fn find(alloc: Global, bytes: &'a [u8]) -> Result<Parts<'a>, RunFault>
         ensures ok { IfOk result (ArePartsOf bytes.now) }
         ensures err { IfErr result (λ fault. Stops (option_map RunFault.BadJob (bad_job bytes.now)) fault) }
     {

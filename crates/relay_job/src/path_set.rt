@@ -26,7 +26,7 @@ impl<'a> PathSet<'a> {
     ghost use Rattle.relay_text.specs.Bytes.{has_text};
 
     /// No paths, which take no memory.
-    pub fn new(alloc: Global) -> PathSet<'a>
+    pub(crate) fn new(alloc: Global) -> PathSet<'a>
         ensures { result ≡ [] }
     {
         PathSet {
@@ -36,7 +36,7 @@ impl<'a> PathSet<'a> {
 
     /// Adds a path, where it isn't there already, and answers whether it is new. `Err` where memory runs out; the set is then as it
     /// was, and the path was new.
-    pub fn insert(&mut self, path: &'a [u8]) -> Result<bool, AllocError>
+    pub(crate) fn insert(&mut self, path: &'a [u8]) -> Result<bool, AllocError>
         ensures ok { OnOk result ((q : List ℕ) → has_text self.new q ≡ (bytes_eq q path.now || has_text self.old q)) }
         ensures fresh { IfOk result (λ is_new. is_new ≡ not (has_text self.old path.now)) }
         ensures err { OnErr result (self.new ≡ self.old) }

@@ -19,7 +19,7 @@ impl Section {
     ghost use Rattle.relay_job.specs.SectionPlaces.{word_of, section_word};
 
     /// The section whose word a heading is; white space at the heading's end is dropped.
-    pub fn named(heading: &[u8]) -> Option<Section>
+    pub(crate) fn named(heading: &[u8]) -> Option<Section>
         ensures { option_map word_of result ≡ section_word heading.now }
     {
         Section::of_word(trimmed_end(heading))

@@ -19,7 +19,7 @@ impl<'a> Sections<'a> {
     ghost use Rattle.relay_job.specs.Places.{content_at};
 
     /// No section at all.
-    pub fn none() -> Sections<'a>
+    pub(crate) fn none() -> Sections<'a>
         ensures { (section : Section) → place_of result section ≡ None }
     {
         Sections {
@@ -53,7 +53,7 @@ impl<'a> Sections<'a> {
     }
 
     /// The place behind a section's heading; where there is none, a place of number 0 with nothing behind it.
-    pub fn section(&self, section: Section) -> Place<'a>
+    pub(crate) fn section(&self, section: Section) -> Place<'a>
         ensures lines { content_at result ≡ content_behind (place_of self.now section) }
         ensures heading { result.line ≡ line_behind (place_of self.now section) }
     {
@@ -64,7 +64,7 @@ impl<'a> Sections<'a> {
     }
 
     /// Takes a section behind its heading, where the job hasn't it yet, and answers whether it is new.
-    pub fn take(&mut self, section: Section, place: Place<'a>) -> bool
+    pub(crate) fn take(&mut self, section: Section, place: Place<'a>) -> bool
         ensures fresh { result ≡ not (is_some (place_of self.old section)) }
         ensures taken { result ≡ true → self.new ≡ with_place self.old section place.entry }
     {

@@ -20,7 +20,7 @@ impl<'a> Setting<'a> {
     }
 
     /// What a line sets; `None` where it has no `=`.
-    pub fn of(line: &'a [u8]) -> Option<Setting<'a>>
+    pub(crate) fn of(line: &'a [u8]) -> Option<Setting<'a>>
         ensures { option_map setting_in result ≡ setting_of line.now }
     {
         let equals = Setting::equals_place(line)?;

@@ -107,7 +107,7 @@ impl SettingValues {
     }
 
     /// Whether a setting has a known key and a good value.
-    pub fn takes(alloc: Global, setting: Setting<'_>) -> Result<bool, AllocError>
+    pub(crate) fn takes(alloc: Global, setting: Setting<'_>) -> Result<bool, AllocError>
         ensures { IfOk result (λ good. good ≡ is_good_setting (setting_in setting.entry)) }
     {
         let mut values = SettingValues::default();
@@ -117,7 +117,7 @@ impl SettingValues {
 
     /// The values of the settings section behind a place. BadSetting has the first line that isn't ignored and has no `=`, an
     /// unknown or repeated key, or a bad value.
-    pub fn read(alloc: Global, section: Place<'_>) -> Result<SettingValues, RunFault>
+    pub(crate) fn read(alloc: Global, section: Place<'_>) -> Result<SettingValues, RunFault>
         ensures ok { IfOk result (AreValuesOf (lines_of (content_at section.entry))) }
         ensures err { IfErr result (λ fault. Stops (option_map RunFault.BadSetting (first_bad_setting (lines_of (content_at section.entry)))) fault) }
     {

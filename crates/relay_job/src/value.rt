@@ -7,7 +7,7 @@ use relay_text::{Text, is_domain_name, number_within};
 use std::alloc::{AllocError, Global};
 
 /// The host name that a value is, folded; `None` where it isn't a domain without literal, of at most 189 octets.
-pub fn read_host(alloc: Global, text: &[u8]) -> Result<Option<Text>, AllocError>
+pub(crate) fn read_host(alloc: Global, text: &[u8]) -> Result<Option<Text>, AllocError>
     ensures { IfOk result (λ host. host ≡ host_value text.now) }
 {
     if !is_domain_name(text) || text.len() > 189 {
@@ -24,7 +24,7 @@ fn is_atext(byte: u8) -> bool
 }
 
 /// The delimiter that a value names, if any; `None` where it's neither empty nor one byte of atext.
-pub fn read_delimiter(text: &[u8]) -> Option<Option<u8>>
+pub(crate) fn read_delimiter(text: &[u8]) -> Option<Option<u8>>
     ensures { result ≡ delimiter_value text.now }
 {
     match text {
@@ -35,7 +35,7 @@ pub fn read_delimiter(text: &[u8]) -> Option<Option<u8>>
 }
 
 /// How many recipients a value allows.
-pub fn read_limit(text: &[u8]) -> Option<u32>
+pub(crate) fn read_limit(text: &[u8]) -> Option<u32>
     ensures { result ≡ limit_value text.now }
 {
     let limit = number_within(1, 65_535, text)?;
@@ -43,14 +43,14 @@ pub fn read_limit(text: &[u8]) -> Option<u32>
 }
 
 /// The seed that a value gives.
-pub fn read_seed(text: &[u8]) -> Option<u64>
+pub(crate) fn read_seed(text: &[u8]) -> Option<u64>
     ensures { result ≡ seed_value text.now }
 {
     number_within(0, u64::MAX, text)
 }
 
 /// What `yes` or `no` says.
-pub fn read_choice(text: &[u8]) -> Option<bool>
+pub(crate) fn read_choice(text: &[u8]) -> Option<bool>
     ensures { result ≡ choice_value text.now }
 {
     match text {

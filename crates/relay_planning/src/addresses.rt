@@ -118,7 +118,7 @@ fn outgoing_transactions<'a, R: Threads + Sync, K: KeptFindings>(
 
 /// The transactions of all addresses that are reached, each once under each of its senders, and a line for each address that has no
 /// route.
-pub fn plan_addresses<'a, R: Threads + Sync, K: KeptFindings>(
+pub(crate) fn plan_addresses<'a, R: Threads + Sync, K: KeptFindings>(
     crew: &Crew<'_, R>,
     job: &JobView<'_>,
     mut finder: Wayfinder<'a>,

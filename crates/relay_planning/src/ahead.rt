@@ -22,7 +22,7 @@ pub struct Ahead {
 
 impl Ahead {
     /// For about so many look-ups.
-    pub fn of(lookups: usize) -> Ahead {
+    pub(crate) fn of(lookups: usize) -> Ahead {
         Ahead {
             is_worth: lookups >= MANY,
             seen: 0,
@@ -31,7 +31,13 @@ impl Ahead {
 
     /// Reads for the nodes of the pairs from one on, where a block begins there.
     #[inline]
-    pub fn read(&mut self, graph: &Graph, finder: &Wayfinder<'_>, pairs: &[Reached], start: usize) {
+    pub(crate) fn read(
+        &mut self,
+        graph: &Graph,
+        finder: &Wayfinder<'_>,
+        pairs: &[Reached],
+        start: usize,
+    ) {
         if self.is_worth && start % BLOCK == 0 && start < pairs.len() {
             self.seen = read_block(graph, finder, &pairs[start..]);
         }

@@ -30,7 +30,7 @@ impl JobFile<'_> {
     }
 
     /// What is reported of a line of this file that is at fault.
-    pub fn finding(self, alloc: Global, fault: LineFault) -> Result<Finding, AllocError>
+    pub(crate) fn finding(self, alloc: Global, fault: LineFault) -> Result<Finding, AllocError>
         ensures { IfOk result (λ finding. finding ≡ file_finding self.entry fault) }
     {
         let word = JobFile::word(fault.kind);

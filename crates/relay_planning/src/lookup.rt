@@ -58,6 +58,12 @@ fn key_of(job: &Job) -> u64 {
 // From so many bytes on a job's key is made beside its parsing: starting a thread takes as long as the key of some 100 kilobytes.
 const LONG_JOB: usize = 1 << 20;
 
+// The length of the longest of a job's files and tables.
+fn longest_text(job: &Job) -> usize {
+    let files = job.aliases.len().max(job.mailboxes.len());
+    files.max(job.transport.len()).max(job.mx.len())
+}
+
 /// The key of a job's files and tables, and what is parsed of them by so many workers. The key is made in a new thread, where there are
 /// several and it's worth that.
 fn keyed<R: Threads + Sync>(
@@ -68,7 +74,7 @@ fn keyed<R: Threads + Sync>(
 ) -> (u64, Result<Parsed, AllocError>)
     ensures { IfOk result.1 (AreParsed job.now) }
 {
-    if workers < 2 || job.aliases.len() < LONG_JOB && job.mailboxes.len() < LONG_JOB {
+    if workers < 2 || longest_text(job) < LONG_JOB {
         return (key_of(job), Parsed::by_workers(rt, alloc, workers, job));
     }
     join(

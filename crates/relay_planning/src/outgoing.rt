@@ -137,7 +137,7 @@ pub fn recipient_of<'a, K: KeptFindings>(
 }
 
 impl<'a> Outgoing<'a> {
-    /// Nothing yet, with room for a delivery of each of so many pairs.
+    /// Nothing yet, with room for a delivery of each of so many pairs, and for as many recipients as they may have.
     fn new(alloc: Global, graph: &'a Graph, pairs: usize) -> Result<Outgoing<'a>, AllocError>
         ensures graph { IfOk result (λ outgoing. outgoing.graph.now ≡ graph.now) }
         ensures empty { IfOk result (λ outgoing. (outgoing.recipients.items ≡ []) × (outgoing.deliveries.items ≡ [])) }
@@ -147,7 +147,7 @@ impl<'a> Outgoing<'a> {
         let known = vec![in alloc; Known::Unseen; graph.nodes()]?;
         Ok(Outgoing {
             graph,
-            recipients: Vec::new(alloc),
+            recipients: Vec::with_capacity(alloc, pairs.min(graph.nodes()))?,
             deliveries,
             known,
             ahead: Ahead::of(pairs),
@@ -280,7 +280,7 @@ impl<'a> Outgoing<'a> {
 }
 
 /// What the pairs lead to. The lines of the addresses that have no route are added to those that are reported already.
-pub fn outgoing_of<'a, K: KeptFindings>(
+pub(crate) fn outgoing_of<'a, K: KeptFindings>(
     alloc: Global,
     job: &JobView<'_>,
     graph: &'a Graph,

@@ -22,24 +22,11 @@ ghost use Rattle.relay_planning.specs.Parsed.{AreParsed};
 use crate::both::{beside, both_of};
 use relay_aliasfile::{parse_aliases, parse_aliases_by, parse_mailboxes, parse_mailboxes_by};
 use relay_job::Job;
-use relay_text::Text;
 use std::alloc::{AllocError, Global};
 use std::thread::{Threads, join};
 
 // From so many bytes on a text is long: starting a thread takes as long as parsing some kilobytes, a small part of this.
 const LONG_TEXT: usize = 65_536;
-
-fn is_long(text: &Text) -> bool {
-    text.as_bytes().len() >= LONG_TEXT
-}
-
-// Whether the tables are parsed beside the files: there are two workers for them and two for the files, and of the long texts one is a
-// table and another stands beside it. A table is parsed by one thread.
-fn is_worth_threads(job: &Job, workers: usize) -> bool {
-    let texts = [&job.aliases, &job.mailboxes, &job.transport, &job.mx];
-    let long = texts.iter().filter(|text| is_long(text)).count();
-    workers >= texts.len() && long >= 2 && (is_long(&job.transport) || is_long(&job.mx))
-}
 
 /// Both files of names, each by so many workers.
 fn name_files<R: Threads + Sync>(
@@ -79,25 +66,61 @@ fn route_tables_in_turn(
     beside(transports, MxTable::parse(alloc, mx))
 }
 
-/// Both tables of routes; the table of exchangers in a new thread.
-fn route_tables<R: Threads + Sync>(
+/// Both tables of routes, one after the other, each by so many workers.
+fn route_tables_by_all<R: Threads + Sync>(
     rt: &R,
     alloc: Global,
+    workers: usize,
     transport: &[u8],
     mx: &[u8],
 ) -> Result<(TransportTable, MxTable), AllocError>
     ensures { IfOk result (λ tables. (tables.0 ≡ transport_table_of transport.now) × (tables.1 ≡ mx_table_of mx.now)) }
 {
+    let transports = TransportTable::parse_by(rt, alloc, workers, transport)?;
+    beside(transports, MxTable::parse_by(rt, alloc, workers, mx))
+}
+
+/// Both tables of routes, each by half of so many workers; the table of exchangers in a new thread.
+fn route_tables_by_halves<R: Threads + Sync>(
+    rt: &R,
+    alloc: Global,
+    workers: usize,
+    transport: &[u8],
+    mx: &[u8],
+) -> Result<(TransportTable, MxTable), AllocError>
+    ensures { IfOk result (λ tables. (tables.0 ≡ transport_table_of transport.now) × (tables.1 ≡ mx_table_of mx.now)) }
+{
+    let half = workers / 2;
+    let others = workers - half;
     let (there, here) = join(
         rt,
         || -> Result<MxTable, AllocError>
+            requires { IsSync R.row }
             ensures { IfOk result (λ table. table ≡ mx_table_of mx.entry.now) }
-        { MxTable::parse(alloc, mx) },
+        { MxTable::parse_by(rt, alloc, half, mx) },
         || -> Result<TransportTable, AllocError>
+            requires { IsSync R.row }
             ensures { IfOk result (λ table. table ≡ transport_table_of transport.entry.now) }
-        { TransportTable::parse(alloc, transport) },
+        { TransportTable::parse_by(rt, alloc, others, transport) },
     );
     both_of(here, there)
+}
+
+/// Both tables of routes by so many workers: side by side where both are long, since one thread alone links the lines of a table.
+fn route_tables<R: Threads + Sync>(
+    rt: &R,
+    alloc: Global,
+    workers: usize,
+    transport: &[u8],
+    mx: &[u8],
+) -> Result<(TransportTable, MxTable), AllocError>
+    ensures { IfOk result (λ tables. (tables.0 ≡ transport_table_of transport.now) × (tables.1 ≡ mx_table_of mx.now)) }
+{
+    if workers >= 2 && transport.len().min(mx.len()) >= LONG_TEXT {
+        route_tables_by_halves(rt, alloc, workers, transport, mx)
+    } else {
+        route_tables_by_all(rt, alloc, workers, transport, mx)
+    }
 }
 
 impl Parsed {
@@ -128,8 +151,7 @@ impl Parsed {
         Parsed::of_both(beside(files, tables))
     }
 
-    /// Parses one text after another, the files of names by so many workers, and both tables beside them where they are worth it. `Err`
-    /// where memory runs out.
+    /// Parses the files of names and then the tables of routes, all by so many workers. `Err` where memory runs out.
     pub(crate) fn by_workers<R: Threads + Sync>(
         rt: &R,
         alloc: Global,
@@ -138,55 +160,11 @@ impl Parsed {
     ) -> Result<Parsed, AllocError>
         ensures { IfOk result (AreParsed job.now) }
     {
-        if is_worth_threads(job, workers) {
-            Parsed::side_by_side(rt, alloc, workers, job)
-        } else {
-            Parsed::files_by_workers(rt, alloc, workers, job)
-        }
-    }
-
-    /// Parses one text after another, the files of names by so many workers.
-    fn files_by_workers<R: Threads + Sync>(
-        rt: &R,
-        alloc: Global,
-        workers: usize,
-        job: &Job,
-    ) -> Result<Parsed, AllocError>
-        ensures { IfOk result (AreParsed job.now) }
-    {
         let aliases = job.aliases.as_bytes();
         let mailboxes = job.mailboxes.as_bytes();
-        let mx = job.mx.as_bytes();
-        let files = name_files(rt, alloc, workers, aliases, mailboxes)?;
-        let tables = route_tables_in_turn(alloc, job.transport.as_bytes(), mx);
-        Parsed::of_both(beside(files, tables))
-    }
-
-    /// Parses each table in a thread of its own, and meanwhile the files of names by the other workers.
-    fn side_by_side<R: Threads + Sync>(
-        rt: &R,
-        alloc: Global,
-        workers: usize,
-        job: &Job,
-    ) -> Result<Parsed, AllocError>
-        ensures { IfOk result (AreParsed job.now) }
-    {
-        let others = workers.saturating_sub(2);
         let transport = job.transport.as_bytes();
         let mx = job.mx.as_bytes();
-        let aliases = job.aliases.as_bytes();
-        let mailboxes = job.mailboxes.as_bytes();
-        let (there, here) = join(
-            rt,
-            || -> Result<(TransportTable, MxTable), AllocError>
-                requires { IsSync R.row }
-                ensures { IfOk result (λ tables. (tables.0 ≡ transport_table_of transport.entry.now) × (tables.1 ≡ mx_table_of mx.entry.now)) }
-            { route_tables(rt, alloc, transport, mx) },
-            || -> Result<(AliasFile, MailboxFile), AllocError>
-                requires { IsSync R.row }
-                ensures { IfOk result (λ files. (files.0 ≡ alias_file_of aliases.entry.now) × (files.1 ≡ mailbox_file_of mailboxes.entry.now)) }
-            { name_files(rt, alloc, others, aliases, mailboxes) },
-        );
-        Parsed::of_both(both_of(here, there))
+        let files = name_files(rt, alloc, workers, aliases, mailboxes)?;
+        Parsed::of_both(beside(files, route_tables(rt, alloc, workers, transport, mx)))
     }
 }

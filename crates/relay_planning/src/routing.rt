@@ -8,7 +8,11 @@ use relay_text::{Seq, Text};
 use std::alloc::{AllocError, Global};
 
 /// Puts copies at the end.
-pub fn push_copies(alloc: Global, texts: &[Text], names: &mut Vec<Text>) -> Result<(), AllocError>
+pub(crate) fn push_copies(
+    alloc: Global,
+    texts: &[Text],
+    names: &mut Vec<Text>,
+) -> Result<(), AllocError>
     ensures { OnOk result (names.new.items ≡ names.old.items ++ texts.now) }
 {
     for text in texts {
@@ -30,7 +34,7 @@ pub fn own_names(alloc: Global, settings: &Settings) -> Result<Seq<Text>, AllocE
 }
 
 /// What a job's settings say of routes. `Err` where memory runs out.
-pub fn route_settings_of(alloc: Global, job: &Job) -> Result<RouteSettings, AllocError>
+pub(crate) fn route_settings_of(alloc: Global, job: &Job) -> Result<RouteSettings, AllocError>
     ensures { IfOk result (λ settings. settings ≡ (routing_of job.now).settings) }
 {
     Ok(RouteSettings {

@@ -24,7 +24,7 @@ impl Table {
     }
 
     /// What is reported of a line of this table that is at fault.
-    pub fn finding(self, fault: LineFault) -> Finding
+    pub(crate) fn finding(self, fault: LineFault) -> Finding
         ensures { result ≡ table_finding self fault }
     {
         let word = Table::word(fault.kind);

@@ -32,7 +32,7 @@ fn report_file_fault<K: KeptFindings>(
 }
 
 /// Adds the lines of a file that are at fault.
-pub fn report_file<K: KeptFindings>(
+pub(crate) fn report_file<K: KeptFindings>(
     alloc: Global,
     job_file: JobFile<'_>,
     faults: &[LineFault],
@@ -95,7 +95,7 @@ fn lines_by<R: Threads + Sync, K: KeptFindings + Send + Drop>(
 }
 
 /// Adds the lines of a file that are at fault, as [`report_file`] does, by a crew where there are many.
-pub fn report_file_by<R: Threads + Sync, K: KeptFindings + Send + Drop>(
+pub(crate) fn report_file_by<R: Threads + Sync, K: KeptFindings + Send + Drop>(
     crew: &Crew<'_, R>,
     job_file: JobFile<'_>,
     faults: &[LineFault],
@@ -124,7 +124,7 @@ fn report_table_fault<K: KeptFindings>(
 }
 
 /// Adds the lines of a table that are at fault.
-pub fn report_table<K: KeptFindings>(
+pub(crate) fn report_table<K: KeptFindings>(
     alloc: Global,
     table: Table,
     faults: &[relay_routes::LineFault],

@@ -3,12 +3,17 @@ use Rattle.std.proofs.Common.{◌≡◌, ℕ, ◌<◌, List, [], length, map, ge
 use Rattle.std.specs.Prelude.{Result, Ok, Err, Some}
 use Rattle.std.specs.Str.{bytes_eq}
 use Rattle.std.proofs.lemmas.List.{get_or-map, length-map}
+use Rattle.std.proofs.lemmas.List.Quantifiers.{position-Some}
+use Rattle.std.proofs.lemmas.Slice.Eq.{bytes_eq-Decides}
 use Rattle.relay_chains.specs.Keys.{number_of}
 use Rattle.relay_routes.specs.declared.unrouted.Unrouted.{Unrouted}
 use Rattle.relay_routes.specs.declared.unrouted.Unrouted.TheVariants.{Domain, MxSelf, Transport, Refused, NullMx, Memory}
 use Rattle.relay_routes.specs.Routing.{Routing}
 use Rattle.relay_routes.specs.Routes.{Answers, exchangers_of}
-use Rattle.relay_routes.proofs.MxPlaces.{domain_there}
+
+-- a domain that has a number stands there
+domain_there : (ds : List (List ℕ)) (d : List ℕ) (n : ℕ) → number_of bytes_eq ds d ≡ Some n → (n < length ds) × (d ≡ get_or ds n [])
+domain_there ds d n h = let at = position-Some (bytes_eq d) ds n [] h in (at.0, (bytes_eq-Decides d (get_or ds n [])).0 at.1)
 
 -- an answer answers itself
 pub answers_itself : {A : Type 0} (given : Result A Unrouted) → Answers given given

@@ -1,37 +1,16 @@
 -- Which hosts a table answers for a domain.
-use Rattle.std.proofs.Common.{◌≡◌, ℕ, ◌<◌, Bool, true, false, not, ◌&&◌, cond, ltb, List, [], ◌∷◌, ◌++◌, length, Bor, refl, sym, ap, ◌∙◌, subst, filter, arith, Option, Some, None, Ok, Err}
-use Rattle.std.specs.Prelude.{filter_map, flat_map}
+use Rattle.std.proofs.Common.{◌≡◌, ℕ, ◌<◌, Bool, true, false, not, ◌&&◌, cond, ltb, List, [], ◌∷◌, length, Bor, refl, sym, ap, ◌∙◌, filter, arith, Option, Some, None, Ok, Err}
 use Rattle.std.specs.List.{list_all}
 use Rattle.std.specs.Str.{bytes_eq}
 use Rattle.std.proofs.lemmas.Bool.Decides.{nat_tests}
-use Rattle.std.proofs.lemmas.List.{append-nil}
 use Rattle.std.proofs.lemmas.List.Elements.{filter_agree}
 use Rattle.relay_text.specs.Bytes.{has_text}
-use Rattle.relay_text.specs.Lines.{kept_lines}
-use Rattle.relay_text.specs.declared.lines.Line.{Line}
 use Rattle.relay_routes.specs.declared.exchange.Exchange.{Exchange}
-use Rattle.relay_routes.specs.declared.fault.LineFault.{LineFault}
-use Rattle.relay_routes.specs.declared.mx_record.MxRecord.{MxRecord}
 use Rattle.relay_routes.specs.declared.unrouted.Unrouted.TheVariants.{MxSelf, NullMx}
 use Rattle.relay_routes.specs.MxLines.{MxLines}
-use Rattle.relay_routes.specs.Exchanges.{record_in, faults_in, exchange_in, address_in, mx_table_of, is_null, exchangers, is_before_relay, in_preference_order, some_hosts, hosts_before_relay, hosts_of}
+use Rattle.relay_routes.specs.Exchanges.{is_null, exchangers, is_before_relay, in_preference_order, some_hosts, hosts_before_relay, hosts_of}
 use Rattle.relay_routes.specs.Preferences.{exchanges_of, is_within, with_own, least_own, least_own_from}
 use Rattle.relay_routes.proofs.Runs.{exchanges-filter}
-
--- where no line is left, what was gathered is the table
-pub table_made : (text : List ℕ) (records : List MxRecord) (faults : List LineFault) (left : List Line) → left ≡ []
-    → records ++ filter_map record_in left ≡ filter_map record_in (kept_lines text)
-    → faults ++ flat_map faults_in left ≡ flat_map faults_in (kept_lines text)
-    → record { exchanges = filter_map exchange_in records; addresses = filter_map address_in records; faults = faults } ≡ mx_table_of text
-unfolding mx_table_of
-table_made text records faults left none all_records all_faults =
-    let got_records : records ++ [] ≡ filter_map record_in (kept_lines text) =
-    subst (λ (ls : List Line). records ++ filter_map record_in ls ≡ filter_map record_in (kept_lines text)) none all_records in
-    let got_faults : faults ++ [] ≡ flat_map faults_in (kept_lines text) =
-    subst (λ (ls : List Line). faults ++ flat_map faults_in ls ≡ flat_map faults_in (kept_lines text)) none all_faults in
-    let r = sym (append-nil records) ∙ got_records in
-    let f = sym (append-nil faults) ∙ got_faults in
-    cc
 
 -- a look-up, once the domain's exchangers and whether it has an address are known
 pub hosts_from : (table : MxLines) (domain : List ℕ) (own_names : List (List ℕ)) (seed : ℕ) (es : List Exchange) (has_address : Bool)

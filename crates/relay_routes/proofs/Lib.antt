@@ -9,9 +9,10 @@ pub mod RouteFacts
 pub mod DestinationFacts
 pub mod OwnNames
 pub mod StableSorts
-pub mod Numbering
-pub mod MxPlaces
 pub mod MxLookups
+pub mod HalvedRecords
+pub mod PatternRepeats
+pub mod HalvedPatterns
 pub mod FieldReadings
 pub mod MxFields
 pub mod FirstHosts

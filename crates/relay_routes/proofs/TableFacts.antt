@@ -1,7 +1,7 @@
 -- What a transport table holds as it is read, and what it gives at a key.
-use Rattle.std.proofs.Common.{◌≡◌, ℕ, ◌+◌, ◌-◌, ◌<◌, ◌≤◌, suc, Bool, true, false, cond, ◌||◌, List, [], ◌∷◌, ◌++◌, length, get_or, map, refl, sym, ap, ◌∙◌, arith, append_assoc, append-nil, Ok, Result, inl, inr}
-use Rattle.std.specs.Prelude.{Option, Some, None, option_map, is_some, filter_map}
-use Rattle.std.specs.List.{list_any, position_from}
+use Rattle.std.proofs.Common.{◌≡◌, ℕ, ◌+◌, ◌-◌, ◌<◌, ◌≤◌, suc, Bool, true, false, cond, ◌||◌, List, [], ◌∷◌, ◌++◌, length, get_or, map, refl, sym, ap, ◌∙◌, arith, append_assoc, append-nil, subst}
+use Rattle.std.specs.Prelude.{Option, Some, None, option_map, is_some, filter_map, flat_map, position}
+use Rattle.std.specs.List.{list_any, position_from, cons_option}
 use Rattle.std.specs.Str.{bytes_eq}
 use Rattle.std.proofs.lemmas.Bool.{true≢false}
 use Rattle.std.proofs.lemmas.List.{map-append}
@@ -9,8 +9,6 @@ use Rattle.std.proofs.lemmas.List.Folds.{list_any-append}
 use Rattle.std.proofs.lemmas.List.Elements.{filter_map-append}
 use Rattle.std.proofs.lemmas.Slice.Eq.{bytes_eq-Decides}
 use Rattle.std.proofs.lemmas.Iterator.Adapters.{position_from-zero}
-use Rattle.relay_chains.specs.declared.fault.ChainFault.{ChainFault}
-use Rattle.relay_chains.specs.Keys.{number_of, insertion, Inserts}
 use Rattle.relay_text.specs.Bytes.{has_text, each_after, first_of}
 use Rattle.relay_text.specs.Lines.{logical_lines_of}
 use Rattle.relay_text.specs.declared.lines.Line.{Line}
@@ -20,8 +18,10 @@ use Rattle.relay_routes.specs.declared.fault.FaultKind.TheVariants.{BadLine, Dup
 use Rattle.relay_routes.specs.declared.transport_line.TransportLine.{TransportLine}
 use Rattle.relay_routes.specs.TransportLines.{TransportLines}
 use Rattle.relay_routes.specs.Transports.{line_of, fault, has_pattern, entry_in, faults_in, transport_table_of, result_at}
-use Rattle.relay_routes.specs.TableSteps.{has_entry, with_line, with_lines}
-use Rattle.relay_routes.proofs.Numbering.{put_in}
+use Rattle.relay_routes.specs.TableSteps.{has_entry, with_line, with_lines, AreNew}
+use Rattle.relay_routes.specs.PatternLines.{AreRead, entry_of, bad_line, bad_in, orphan_faults}
+use Rattle.relay_routes.specs.declared.pattern_lines.PatternLines.{PatternLines}
+use Rattle.relay_halves.proofs.HalvedLines.{moved_nowhere}
 
 pub bytes_eq_swap : (xs ys : List ℕ) → bytes_eq xs ys ≡ bytes_eq ys xs
 bytes_eq_swap xs ys = at (bytes_eq xs ys) refl (bytes_eq ys xs) refl where
@@ -67,28 +67,29 @@ place_some first (e ∷ es) q = at (bytes_eq q e.pattern) (place_some (first + 1
   at true later = refl
   at false later = later
 
-place_is : (first : ℕ) (es : List TransportLine) (q : List ℕ) → place_from first es q ≡ position_from (bytes_eq q) first (map (λ (e : TransportLine). e.pattern) es)
+place_is : (first : ℕ) (es : List TransportLine) (q : List ℕ) → place_from first es q ≡ position_from (λ (e : TransportLine). bytes_eq q e.pattern) first es
 place_is first [] q = refl
 place_is first (e ∷ es) q = ap (λ t. cond (bytes_eq q e.pattern) (Some first) t) (place_is (first + 1) es q)
 
--- A pattern's number is its entry's place.
-numbered : (es : List TransportLine) (patterns : List (List ℕ)) (q : List ℕ) → patterns ≡ map (λ (e : TransportLine). e.pattern) es → place_from 0 es q ≡ number_of bytes_eq patterns q
-numbered es patterns q is =
-    place_is 0 es q ∙ sym (position_from-zero (bytes_eq q) (map (λ (e : TransportLine). e.pattern) es)) ∙ ap (λ ps. number_of bytes_eq ps q) (sym is)
+-- the place of the first entry of a pattern
+abbrev pub entry_place : List TransportLine → List ℕ → Option ℕ
+entry_place es q = position (λ e. bytes_eq q e.pattern) es
 
-pub entry_found : (es : List TransportLine) (patterns : List (List ℕ)) (q : List ℕ) (n : ℕ) (d : TransportLine) → patterns ≡ map (λ (e : TransportLine). e.pattern) es → number_of bytes_eq patterns q ≡ Some n
-    → (n < length es) × (result_at es q ≡ Some ((get_or es n d).result))
-entry_found es patterns q n d is has =
-    let found = place_found 0 es q n d (numbered es patterns q is ∙ has) in
+placed : (es : List TransportLine) (q : List ℕ) → place_from 0 es q ≡ entry_place es q
+placed es q = place_is 0 es q ∙ sym (position_from-zero (λ (e : TransportLine). bytes_eq q e.pattern) es)
+
+pub entry_found : (es : List TransportLine) (q : List ℕ) (n : ℕ) (d : TransportLine) → entry_place es q ≡ Some n → (n < length es) × (result_at es q ≡ Some ((get_or es n d).result))
+entry_found es q n d has =
+    let found = place_found 0 es q n d (placed es q ∙ has) in
     let here : n - 0 ≡ n = omega arith in
     let within : n < length es = omega (arith, found.1) in
     (within, found.2 ∙ ap (λ i. Some ((get_or es i d).result)) here)
 
-pub entry_missing : (es : List TransportLine) (patterns : List (List ℕ)) (q : List ℕ) → patterns ≡ map (λ (e : TransportLine). e.pattern) es → number_of bytes_eq patterns q ≡ None → result_at es q ≡ None
-entry_missing es patterns q is none = place_missing 0 es q (numbered es patterns q is ∙ none)
+pub entry_missing : (es : List TransportLine) (q : List ℕ) → entry_place es q ≡ None → result_at es q ≡ None
+entry_missing es q none = place_missing 0 es q (placed es q ∙ none)
 
-pub entry_there : (es : List TransportLine) (patterns : List (List ℕ)) (q : List ℕ) (o : Option ℕ) → patterns ≡ map (λ (e : TransportLine). e.pattern) es → number_of bytes_eq patterns q ≡ o → has_entry es q ≡ is_some o
-entry_there es patterns q o is e = sym (place_some 0 es q) ∙ ap is_some (numbered es patterns q is ∙ e)
+pub entry_there : (es : List TransportLine) (q : List ℕ) (o : Option ℕ) → entry_place es q ≡ o → has_entry es q ≡ is_some o
+entry_there es q o e = sym (place_some 0 es q) ∙ ap is_some (placed es q ∙ e)
 
 -- the pattern of a line
 abbrev pattern_in : Option TransportLine → List (List ℕ)
@@ -181,18 +182,52 @@ same_lines es es' fs fs' e f = rw (e, f) refl
 pub lines_start : (text : List ℕ) (cut : Lines) (start : TransportLines) (orphans : List ℕ) → cut ≡ logical_lines_of text → orphans ≡ cut.orphans → start ≡ table_of_orphans orphans → with_lines start cut.lines ≡ transport_table_of text
 lines_start text cut start orphans is o s = ap (λ (t : TransportLines). with_lines t cut.lines) (s ∙ ap table_of_orphans o) ∙ table_made text cut is
 
--- What the numbers of patterns say once an entry's pattern is put in: a pattern that was there has an entry, and a new one has none.
-pub entry_put : (es : List TransportLine) (patterns new : List (List ℕ)) (limit : ℕ) (e : TransportLine) (key : List ℕ) (number : ℕ) (is_new : Bool) (result : Result (ℕ × Bool) ChainFault)
-    → patterns ≡ map (λ (e : TransportLine). e.pattern) es → key ≡ e.pattern → result ≡ Ok (number, is_new) → Inserts (insertion bytes_eq patterns limit key) patterns result new
-    → ((is_new ≡ false → (has_entry es e.pattern ≡ true) × (new ≡ map (λ (e : TransportLine). e.pattern) es))
-    × (is_new ≡ true → (has_entry es e.pattern ≡ false) × (new ≡ map (λ (e : TransportLine). e.pattern) (es ++ e ∷ []))))
-entry_put es patterns new limit e key number is_new result is same was put = elim (put_in patterns limit key number is_new result new was put) [
-  | inl old ↦ ((λ f. (ap (has_entry es) (sym same) ∙ entry_there es patterns key (Some number) is old.2, old.1 ∙ is)), (λ t. absurd (true≢false (sym t ∙ old.0))))
-  | inr fresh ↦ (
-    (λ f. absurd (true≢false (sym fresh.0 ∙ f))),
-    (λ t. (
-      ap (has_entry es) (sym same) ∙ entry_there es patterns key None is fresh.2,
-      fresh.1 ∙ ap (λ ps. ps ++ key ∷ []) is ∙ ap (λ k. map (λ (e : TransportLine). e.pattern) es ++ k ∷ []) same ∙ sym (map-append (λ (e : TransportLine). e.pattern) es (e ∷ [])),
-    )),
-  )
-]
+-- ---- where no pattern comes again
+distinct_make : (table : TransportLines) (lines : List Line) → AreNew table.entries (filter_map entry_of lines)
+    → with_lines table lines ≡ record { entries = table.entries ++ filter_map entry_of lines; faults = table.faults ++ flat_map bad_in lines }
+distinct_make table [] new = same_lines _ _ _ _ (sym (append-nil table.entries)) (sym (append-nil table.faults))
+distinct_make table (l ∷ lines) new = at (line_of l.text) (λ t rest. distinct_make t lines rest) new where
+  entries : List TransportLine
+  entries = filter_map entry_of lines
+
+  faults : List LineFault
+  faults = flat_map bad_in lines
+
+  bad : LineFault
+  bad = fault l.number BadLine
+
+  at : (o : Option TransportLine)
+      → ((t : TransportLines) → AreNew t.entries entries → with_lines t lines ≡ record { entries = t.entries ++ entries; faults = t.faults ++ faults })
+      → AreNew table.entries (cons_option o entries)
+      → with_lines (with_line table l.number o) lines ≡ record { entries = table.entries ++ cons_option o entries; faults = table.faults ++ (bad_line l.number o ++ faults) }
+  at None make rest =
+      make (record { entries = table.entries; faults = table.faults ++ bad ∷ [] }) rest
+      ∙ same_lines _ _ _ _ refl (append_assoc table.faults (bad ∷ []) faults)
+  at (Some e) make rest =
+      rw rest.0
+      (make (record { entries = table.entries ++ e ∷ []; faults = table.faults }) rest.1
+      ∙ same_lines _ _ _ _ (append_assoc table.entries (e ∷ []) entries) refl)
+
+-- Then what was read one line after another is the table.
+pub distinct_table : (text : List ℕ) (lines : PatternLines) → AreRead 0 text lines → AreNew [] lines.entries.items → record { entries = lines.entries.items; faults = lines.faults.items } ≡ transport_table_of text
+distinct_table text lines read new =
+    let cut : Lines = logical_lines_of text in
+    let es : lines.entries.items ≡ filter_map entry_of cut.lines = read.entries ∙ ap (filter_map entry_of) (moved_nowhere cut.lines) in
+    let fs : lines.faults.items ≡ orphan_faults cut.orphans ++ flat_map bad_in cut.lines =
+    read.faults ∙ ap (λ (ls : List Line). orphan_faults (map (λ n. 0 + n) cut.orphans) ++ flat_map bad_in ls) (moved_nowhere cut.lines)
+    ∙ ap (λ (ns : List ℕ). orphan_faults ns ++ flat_map bad_in cut.lines) (none_passed cut.orphans) in
+    same_lines _ _ _ _ es fs
+    ∙ sym (distinct_make (table_of_orphans cut.orphans) cut.lines (subst (AreNew []) es new))
+    ∙ table_made text cut refl
+  where
+    none_passed : (ns : List ℕ) → map (λ n. 0 + n) ns ≡ ns
+    none_passed [] = refl
+    none_passed (n ∷ ns) =
+        let here : 0 + n ≡ n = omega arith in
+        ap (λ (m : ℕ). m ∷ map (λ n. 0 + n) ns) here ∙ ap (λ (ms : List ℕ). n ∷ ms) (none_passed ns)
+
+-- A further entry whose pattern is new.
+pub new_more : (before es : List TransportLine) (e : TransportLine) → AreNew before es → has_entry (before ++ es) e.pattern ≡ false → AreNew before (es ++ e ∷ [])
+new_more before [] e new fresh = (ap (λ (all : List TransportLine). has_entry all e.pattern) (sym (append-nil before)) ∙ fresh, tt)
+new_more before (x ∷ es) e new fresh =
+    (new.0, new_more (before ++ x ∷ []) es e new.1 (ap (λ (all : List TransportLine). has_entry all e.pattern) (append_assoc before (x ∷ []) es) ∙ fresh))

@@ -4,6 +4,8 @@ pub mod Routing
 pub mod Transports
 pub mod Exchanges
 pub mod MxRecords
+pub mod RecordLines
+pub mod PatternLines
 pub mod Preferences
 pub mod Nexthops
 pub mod Forms

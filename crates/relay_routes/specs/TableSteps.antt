@@ -1,6 +1,7 @@
 -- A transport table while it is read, line after line, and where its entries stand.
-use Rattle.std.specs.Prelude.{ℕ, Bool, true, false, ◌==◌, List, [], ◌∷◌, ◌++◌, map, codes, Option, Some, None, option_map, Result, Err, if◌then◌else◌}
+use Rattle.std.specs.Prelude.{◌≡◌, ⊤, ℕ, Bool, true, false, ◌==◌, List, [], ◌∷◌, ◌++◌, map, codes, Option, Some, None, option_map, Result, Err, if◌then◌else◌}
 use Rattle.std.specs.List.{list_any}
+use Rattle.relay_chains.specs.TextHash.{text_hash}
 use Rattle.relay_text.specs.Bytes.{has_text}
 use Rattle.relay_text.specs.AddressParts.{AddressParts}
 use Rattle.relay_text.specs.Addresses.{name_of, base_of, is_dot}
@@ -27,6 +28,15 @@ line_with field text = if is_result text then option_map (λ pattern. record { p
 -- whether an entry has this pattern
 abbrev pub has_entry : List TransportLine → List ℕ → Bool
 has_entry entries pattern = has_text (map (λ e. e.pattern) entries) pattern
+
+-- the hash of an entry's pattern
+abbrev pub pattern_hash : ℕ → TransportLine → ℕ
+pattern_hash key entry = text_hash key entry.pattern
+
+-- No entry has the pattern of one before it, nor of these, which stand before them all.
+abbrev pub AreNew : List TransportLine → List TransportLine → Type 0
+AreNew earlier [] = ⊤
+AreNew earlier (e ∷ entries) = (has_entry earlier e.pattern ≡ false) × AreNew (earlier ++ e ∷ []) entries
 
 -- whether a pattern has an `@`, as that of an address has
 abbrev pub has_at : List ℕ → Bool

@@ -1,16 +1,18 @@
 //! The MX table.
 use crate::exchange::Exchange;
-use crate::fault::{FaultKind, LineFault};
+use crate::fault::LineFault;
 use crate::hosts::Hosts;
-use crate::mx_line::record_in;
 use crate::mx_records::MxRecords;
 use crate::preferences::{before_relay, hosts_in_order, without_null};
+use crate::record_lines::RecordLines;
 use crate::room::BYTES_FOR_LINE;
 use crate::text_key::key_of;
 use crate::unrouted::Unrouted;
-use relay_text::{KeptLines, Seq, Text, TextSet};
+use relay_halves::about_lines;
+use relay_text::{Seq, Text, TextSet};
 use std::alloc::{AllocError, Global};
 use std::marker::Model;
+use std::thread::Threads;
 
 /// The MX records of domains, which mail is sent by (RFC 5321 section 5.1), and the lines at fault.
 pub struct MxTable {
@@ -41,6 +43,7 @@ impl Model for MxTable {
 ghost use Rattle.std.specs.Prelude.{◌≡◌, ◌<◌, ℕ, Bool, true, List, [], length, IfOk};
 ghost use Rattle.relay_routes.specs.Exchanges.{mx_table_of, hosts_of, hosts_before_relay, exchangers};
 ghost use Rattle.relay_routes.specs.Preferences.{exchanges_of};
+ghost use Rattle.relay_routes.specs.RecordLines.{AreRead};
 ghost use Rattle.relay_routes.specs.Routes.{Answers};
 
 impl MxTable {
@@ -51,18 +54,29 @@ impl MxTable {
     pub fn parse(alloc: Global, bytes: &[u8]) -> Result<MxTable, AllocError>
         ensures { IfOk result (λ table. table ≡ mx_table_of bytes.now) }
     {
-        let mut records = Vec::with_capacity(alloc, bytes.len() / BYTES_FOR_LINE)?;
-        let mut faults: Vec<LineFault> = Vec::new(alloc);
-        let mut lines = KeptLines::new(bytes);
-        while let Some(line) = lines.next_line() {
-            match record_in(alloc, line.text)? {
-                Some(record) => records.push(record)?,
-                None => faults.push(LineFault {
-                    line: line.number,
-                    kind: FaultKind::BadLine,
-                })?,
-            }
-        }
+        let lines = RecordLines::read(alloc, bytes.len() / BYTES_FOR_LINE, 0, bytes)?;
+        MxTable::of_lines(alloc, bytes, lines)
+    }
+
+    /// The same by so many threads, where the text is long. `Err` where memory runs out.
+    pub fn parse_by<R: Threads + Sync>(
+        rt: &R,
+        alloc: Global,
+        workers: usize,
+        bytes: &[u8],
+    ) -> Result<MxTable, AllocError>
+        ensures { IfOk result (λ table. table ≡ mx_table_of bytes.now) }
+    {
+        let lines = RecordLines::read_by(rt, alloc, workers, about_lines(bytes), 0, bytes)?;
+        MxTable::of_lines(alloc, bytes, lines)
+    }
+
+    /// The table of a text, of whose lines this was read.
+    fn of_lines(alloc: Global, bytes: &[u8], lines: RecordLines) -> Result<MxTable, AllocError>
+        requires { AreRead 0 bytes.now lines }
+        ensures { IfOk result (λ table. table ≡ mx_table_of bytes.now) }
+    {
+        let RecordLines { records, faults } = lines;
         Ok(MxTable {
             records: MxRecords::of(alloc, key_of(bytes), records)?,
             faults: Seq::of(faults),

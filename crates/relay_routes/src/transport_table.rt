@@ -1,13 +1,14 @@
 //! The transport table.
 use crate::fault::LineFault;
 use crate::transport_line::TransportLine;
-use relay_chains::Interner;
+use relay_chains::Links;
 use std::marker::Model;
 
 /// A transport table (transport(5)): patterns, each with what it says of the addresses that it fits, and the lines at fault.
 pub struct TransportTable {
     entries: Vec<TransportLine>,
-    patterns: Interner,
+    links: Links,
+    key: u64,
     faults: Vec<LineFault>,
     /// Whether a pattern has an `@`, as that of an address has. Most tables have none, and then no address is written as a key.
     has_addresses: bool,
@@ -18,7 +19,8 @@ impl Drop for TransportTable {
     fn drop(self) {
         let TransportTable {
             entries: _,
-            patterns: _,
+            links: _,
+            key: _,
             faults: _,
             has_addresses: _,
         } = self;
@@ -27,29 +29,35 @@ impl Drop for TransportTable {
 
 impl Model for TransportTable {
     ghost use Rattle.std.specs.Prelude.{◌≡◌, map};
-    ghost use Rattle.relay_routes.specs.TableSteps.{has_address};
+    ghost use Rattle.relay_routes.specs.TableSteps.{has_address, pattern_hash};
     ghost use Rattle.relay_routes.specs.TransportLines.{TransportLines};
 
     ghost Value = { TransportLines };
 
     ghost view = { λ a. record { entries = a.entries.items; faults = a.faults.items } };
 
-    ghost invariant = { λ a. (a.patterns.keys ≡ map (λ e. e.pattern) a.entries.items) × (a.has_addresses ≡ has_address a.entries.items) };
+    ghost invariant = { λ a. (a.links ≡ map (pattern_hash a.key) a.entries.items) × (a.has_addresses ≡ has_address a.entries.items) };
 }
 
-ghost use Rattle.std.specs.Prelude.{◌≡◌, ◌∷◌, [], ◌++◌, codes, map, Some, option_map, IfOk, OnOk};
+ghost use Rattle.std.specs.Prelude.{◌≡◌, ◌<◌, ◌^◌, ◌-◌, ◌∷◌, [], ◌++◌, false, codes, length, map, position, slice_get, take, Some, option_map, IfOk, IfSome, OnOk};
+ghost use Rattle.std.specs.Str.{bytes_eq};
 ghost use Rattle.relay_routes.specs.declared.fault.FaultKind.TheVariants.{BadLine};
 ghost use Rattle.relay_routes.specs.Transports.{transport_table_of, choice_for, found_result, keys_of, parent_keys, result_at, line_of, fault};
-ghost use Rattle.relay_routes.specs.TableSteps.{with_line, domain_keys, has_address, later_keys};
+ghost use Rattle.relay_routes.specs.TableSteps.{with_line, domain_keys, has_address, has_entry, later_keys, pattern_hash, AreNew};
+ghost use Rattle.relay_routes.specs.PatternLines.{AreRead};
 
 use crate::choice::Choice;
 use crate::fault::FaultKind;
 use crate::pattern::{address_key, is_literal};
+use crate::pattern_lines::PatternLines;
 use crate::room::{BYTES_FOR_HEAD, BYTES_FOR_LINE};
 use crate::text_key::{MOST_TEXTS, key_of};
 use crate::transport_line::line_of;
-use relay_text::{Address, LogicalLine, LogicalLines, split_place};
+use relay_chains::hash_text;
+use relay_halves::{about_lines, is_long};
+use relay_text::{Address, LogicalLine, LogicalLines, same_bytes, split_place};
 use std::alloc::{AllocError, Global};
+use std::thread::Threads;
 
 impl TransportTable {
     /// The table that a text is (transport(5), "TABLE FORMAT"). Every text is taken: of several lines with one pattern the first
@@ -64,6 +72,53 @@ impl TransportTable {
             table.add(alloc, line)?;
         }
         Ok(table)
+    }
+
+    /// The same by so many threads, where the text is long. `Err` where memory runs out.
+    pub fn parse_by<R: Threads + Sync>(
+        rt: &R,
+        alloc: Global,
+        workers: usize,
+        bytes: &[u8],
+    ) -> Result<TransportTable, AllocError>
+        ensures { IfOk result (λ table. table ≡ transport_table_of bytes.now) }
+    {
+        if !is_long(workers, bytes) {
+            return TransportTable::parse(alloc, bytes);
+        }
+        let lines = PatternLines::read_by(rt, alloc, workers, about_lines(bytes), 0, bytes)?;
+        match TransportTable::of_distinct(alloc, bytes, lines)? {
+            Some(table) => Ok(table),
+            None => TransportTable::parse(alloc, bytes),
+        }
+    }
+
+    /// The table of a text whose lines these are; `None` where a pattern comes again, or where more lines are good than are numbered.
+    fn of_distinct(
+        alloc: Global,
+        bytes: &[u8],
+        lines: PatternLines,
+    ) -> Result<Option<TransportTable>, AllocError>
+        requires { AreRead 0 bytes.now lines }
+        ensures { IfOk result (λ made. IfSome made (λ table. table ≡ transport_table_of bytes.now)) }
+    {
+        let PatternLines { entries, faults } = lines;
+        if entries.len() >= MOST_TEXTS {
+            return Ok(None);
+        }
+        let key = key_of(bytes);
+        let links = pattern_links(alloc, key, &entries)?;
+        if has_repeat(&entries, &links, key) {
+            return Ok(None);
+        }
+        let has_addresses = have_address(&entries);
+        Ok(Some(TransportTable {
+            entries,
+            links,
+            key,
+            faults,
+            has_addresses,
+        }))
     }
 
     /// The lines at fault, each under its number: first those that continue no line, then the others in order.
@@ -166,8 +221,8 @@ impl TransportTable {
     fn result_at(&self, pattern: &[u8]) -> Option<&[u8]>
         ensures { option_map (λ text. text.now) result ≡ result_at self.now.entries pattern.now }
     {
-        let number = self.patterns.find(pattern)?;
-        Some(self.entries[number as usize].result.as_bytes())
+        let place = place_of(&self.entries, &self.links, self.key, pattern)?;
+        Some(self.entries[place as usize].result.as_bytes())
     }
 
     /// A table without entries, at fault where lines continue none. Its text gives the key of the hashes of its patterns, and says by its
@@ -189,7 +244,8 @@ impl TransportTable {
         }
         Ok(TransportTable {
             entries: Vec::with_capacity(alloc, bytes.len() / BYTES_FOR_LINE)?,
-            patterns: Interner::with_key(alloc, key_of(bytes), heads, MOST_TEXTS)?,
+            links: Links::new(alloc, heads)?,
+            key: key_of(bytes),
             faults,
             has_addresses: false,
         })
@@ -209,18 +265,26 @@ impl TransportTable {
     fn add_entry(&mut self, number: usize, entry: TransportLine) -> Result<(), AllocError>
         ensures { OnOk result (self.new ≡ with_line self.old number (Some entry)) }
     {
+        let pattern = entry.pattern.as_bytes();
+        if place_of(&self.entries, &self.links, self.key, pattern).is_some() {
+            drop(entry);
+            return self.add_fault(number, FaultKind::Duplicate);
+        }
         let Ok(()) = self.entries.reserve(1) else {
             drop(entry);
             return Err(AllocError);
         };
-        let Ok((_, is_new)) = self.patterns.intern(entry.pattern.as_bytes()) else {
+        if self.links.len() >= MOST_TEXTS {
+            drop(entry);
+            return Err(AllocError);
+        }
+        let Ok(()) = self
+            .links
+            .push(hash_text(self.key, entry.pattern.as_bytes()))
+        else {
             drop(entry);
             return Err(AllocError);
         };
-        if !is_new {
-            drop(entry);
-            return self.add_fault(number, FaultKind::Duplicate);
-        }
         self.has_addresses = self.has_addresses || entry.pattern.as_bytes().contains(&b'@');
         self.entries.push_reserved(entry);
         Ok(())
@@ -233,4 +297,76 @@ impl TransportTable {
         self.faults.push(LineFault { line: number, kind })?;
         Ok(())
     }
+}
+
+/// The place of the first entry of a pattern.
+fn place_of(entries: &[TransportLine], links: &Links, key: u64, pattern: &[u8]) -> Option<u32>
+    requires { links.now ≡ map (pattern_hash key) entries.now }
+    ensures { result ≡ position (λ e. bytes_eq pattern.now e.pattern) entries.now }
+{
+    links.find(
+        hash_text(key, pattern),
+        |number: u32| -> bool
+            requires { number < length entries.now }
+            ensures { option_map (λ e. bytes_eq pattern.entry.now e.pattern) (slice_get entries.entry.now number) ≡ Some result }
+        { same_bytes(pattern, entries[number as usize].pattern.as_bytes()) },
+    )
+}
+
+/// The hashes of the patterns of entries, each under the number of its place.
+fn pattern_links(alloc: Global, key: u64, entries: &[TransportLine]) -> Result<Links, AllocError>
+    requires { length entries.now < 2 ^ 32 - 2 }
+    ensures { IfOk result (λ links. links ≡ map (pattern_hash key) entries.now) }
+{
+    let mut hashes = Vec::with_capacity(alloc, entries.len())?;
+    for entry in entries {
+        hashes.push_reserved(hash_text(key, entry.pattern.as_bytes()));
+    }
+    Links::of(alloc, &hashes)
+}
+
+/// Whether a pattern of these entries comes again. Of nearly all of them no other one has the hash, and then none is read.
+fn has_repeat(entries: &[TransportLine], links: &Links, key: u64) -> bool
+    requires linked { links.now ≡ map (pattern_hash key) entries.now }
+    requires few { length entries.now < 2 ^ 32 - 2 }
+    ensures { result ≡ false → AreNew [] entries.now }
+{
+    for number in 0..entries.len() as u32 {
+        if is_repeat(entries, links, key, number) {
+            return true;
+        }
+    }
+    false
+}
+
+/// Whether the pattern of the entry at a place stands before it.
+fn is_repeat(entries: &[TransportLine], links: &Links, key: u64, number: u32) -> bool
+    requires linked { links.now ≡ map (pattern_hash key) entries.now }
+    requires few { length entries.now < 2 ^ 32 - 2 }
+    requires within { number < length entries.now }
+    ensures { option_map (λ e. has_entry (take number entries.now) e.pattern) (slice_get entries.now number) ≡ Some result }
+{
+    let word = links.before(number + 1);
+    if word == 0 {
+        return false;
+    }
+    let pattern = entries[number as usize].pattern.as_bytes();
+    let found = links.find_from(
+        word,
+        hash_text(key, pattern),
+        |other: u32| -> bool
+            requires { other < length entries.now }
+            ensures { option_map (λ e. bytes_eq pattern.entry.now e.pattern) (slice_get entries.entry.now other) ≡ Some result }
+        { same_bytes(pattern, entries[other as usize].pattern.as_bytes()) },
+    );
+    found.is_some()
+}
+
+/// Whether a pattern of these entries has an `@`.
+fn have_address(entries: &[TransportLine]) -> bool
+    ensures { result ≡ has_address entries.now }
+{
+    entries
+        .iter()
+        .any(|entry| entry.pattern.as_bytes().contains(&b'@'))
 }

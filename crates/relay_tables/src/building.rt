@@ -64,10 +64,10 @@ fn item_heads(tables: &Tables, found: &[KnownName]) -> usize {
     }
 }
 
-// The same for so many recipients.
+// The same for so many recipients. Where nothing is found, each is expected to be new: an envelope seldom names one twice.
 fn recipient_heads(recipients: usize, found: &[KnownName]) -> usize {
     if found.is_empty() {
-        recipients
+        recipients.saturating_mul(2)
     } else {
         heads_of(found)
     }

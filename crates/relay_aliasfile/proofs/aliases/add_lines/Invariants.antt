@@ -1,6 +1,6 @@
 use Rattle.std.proofs.Common.{◌≡◌, ◌++◌, ◌-◌, ◌^◌, length, map}
 use Rattle.relay_aliasfile.specs.AliasTables.{added_by, new_entries, new_faults}
-use Rattle.relay_aliasfile.specs.Halves.{moved, AreUpTo}
+use Rattle.relay_halves.specs.Halves.{moved, AreUpTo}
 use Rattle.relay_aliasfile.proofs.aliases.add_lines.Given as goal
 
 -- what was added, with what the lines left add, is what all lines add

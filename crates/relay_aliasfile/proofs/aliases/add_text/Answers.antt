@@ -1,9 +1,9 @@
 use Rattle.std.proofs.Common.{arith, ◌≡◌, ◌≤◌, ◌-◌, ◌^◌, ℕ, List, All, length, sym, ap, ◌∙◌, subst}
 use Rattle.relay_text.specs.Lines.{logical_lines_of}
 use Rattle.relay_text.specs.declared.lines.Lines.{Lines}
-use Rattle.relay_aliasfile.specs.Halves.{AreUpTo}
-use Rattle.relay_aliasfile.proofs.HalvedLines.{up_to-more}
-use Rattle.relay_aliasfile.proofs.HalvedEntries.{up_to-orphans, up_to-logical_lines}
+use Rattle.relay_halves.specs.Halves.{AreUpTo}
+use Rattle.relay_halves.proofs.HalvedLines.{up_to-more}
+use Rattle.relay_halves.proofs.HalvedLogicalLines.{up_to-orphans, up_to-logical_lines}
 use Rattle.relay_aliasfile.proofs.aliases.add_text.Goals as goal
 
 pub add_orphans-requires : goal.add_orphans-requires

@@ -1,7 +1,7 @@
 use Rattle.std.proofs.Common.{◌≡◌, ◌++◌, length, map}
 use Rattle.std.specs.Prelude.{filter_map, flat_map}
 use Rattle.relay_text.specs.KeptLines.{kept_rest}
-use Rattle.relay_aliasfile.specs.Halves.{moved, kept_behind, AreUpTo}
+use Rattle.relay_halves.specs.Halves.{moved, kept_behind, AreUpTo}
 use Rattle.relay_aliasfile.specs.MailboxFiles.{name_in, faults_in}
 use Rattle.relay_aliasfile.proofs.mailbox_lines.MailboxLines.read.Given as goal
 

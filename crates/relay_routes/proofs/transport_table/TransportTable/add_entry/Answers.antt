@@ -1,26 +1,28 @@
-use Rattle.std.proofs.Common.{◌≡◌, ◌∙◌, ◌++◌, ◌∷◌, [], ap, List}
+use Rattle.std.proofs.Common.{◌≡◌, ◌∙◌, ◌++◌, ◌∷◌, [], ap, sym, List}
 use Rattle.relay_routes.specs.TransportLines.{TransportLines}
 use Rattle.relay_routes.specs.TableSteps.{has_entry}
 use Rattle.relay_routes.specs.declared.transport_line.TransportLine.{TransportLine}
-use Rattle.relay_routes.proofs.TableFacts.{entry_put, same_lines}
+use Rattle.relay_routes.proofs.TableFacts.{entry_there, same_lines}
 use Rattle.relay_routes.proofs.transport_table.TransportTable.add_entry.Goals as goal
 
-pub returns-then-not-is_new : goal.returns-then-not-is_new
-returns-then-not-is_new c =
+pub returns-then-is_some : goal.returns-then-is_some
+returns-then-is_some c =
     let i = c.self.inside in
-    let entries : c.reserve.new.self.items ≡ c.args.self.now.entries = c.in-Ok.ensures.items ∙ ap (λ (v : TransportLines). v.entries) c.self.view_is in
-    let faults : i.faults.items ≡ c.args.self.now.faults = ap (λ (v : TransportLines). v.faults) c.self.view_is in
-    let put = entry_put i.entries.items i.patterns.keys c.intern.new.self.keys i.patterns.limit c.args.entry c.as_bytes.result.now c.in-Ok-intern.field-0-0 c.in-Ok-intern.is_new c.intern.result
-    c.self.invariant.0 c.as_bytes.ensures c.in-Ok-intern.is c.intern.ensures.inserts in
-    let has = ap (λ (v : TransportLines). has_entry v.entries c.args.entry.pattern) c.self.view_is in
-    rw (← has, (put.0 c.if-not-is_new.true).0, ← entries, ← faults) c.add_fault.ensures
+    let pattern = c.args.entry.pattern in
+    let before : i.entries.items ≡ c.args.self.now.entries = ap (λ (v : TransportLines). v.entries) c.self.view_is in
+    let has : has_entry c.args.self.now.entries pattern ≡ c.is_some.result =
+    ap (λ es. has_entry es pattern) (sym before ∙ sym c.deref.ensures.value) ∙ ap (has_entry c.deref.result.now) (sym c.as_bytes-pattern.ensures)
+    ∙ entry_there c.deref.result.now c.as_bytes-pattern.result.now c.place_of.result (sym c.place_of.ensures) ∙ sym c.is_some.ensures in
+    rw (has, c.if-is_some.true) c.add_fault.ensures
 
 pub returns : goal.returns
 returns c =
     let i = c.self.inside in
-    let entries : c.reserve.new.self.items ≡ c.args.self.now.entries = c.in-Ok.ensures.items ∙ ap (λ (v : TransportLines). v.entries) c.self.view_is in
-    let put = entry_put i.entries.items i.patterns.keys c.intern.new.self.keys i.patterns.limit c.args.entry c.as_bytes.result.now c.in-Ok-intern.field-0-0 c.in-Ok-intern.is_new c.intern.result
-    c.self.invariant.0 c.as_bytes.ensures c.in-Ok-intern.is c.intern.ensures.inserts in
-    let has = ap (λ (v : TransportLines). has_entry v.entries c.args.entry.pattern) c.self.view_is in
-    rw (← has, (put.1 c.if-not-is_new.false).0)
+    let pattern = c.args.entry.pattern in
+    let before : i.entries.items ≡ c.args.self.now.entries = ap (λ (v : TransportLines). v.entries) c.self.view_is in
+    let entries : c.reserve.new.self.items ≡ c.args.self.now.entries = c.in-Ok.ensures.items ∙ before in
+    let has : has_entry c.args.self.now.entries pattern ≡ c.is_some.result =
+    ap (λ es. has_entry es pattern) (sym before ∙ sym c.deref.ensures.value) ∙ ap (has_entry c.deref.result.now) (sym c.as_bytes-pattern.ensures)
+    ∙ entry_there c.deref.result.now c.as_bytes-pattern.result.now c.place_of.result (sym c.place_of.ensures) ∙ sym c.is_some.ensures in
+    rw (has, c.if-is_some.false)
     (same_lines _ _ _ _ (c.push_reserved.ensures.items ∙ ap (λ (t : List TransportLine). t ++ c.args.entry ∷ []) entries) (ap (λ (v : TransportLines). v.faults) c.self.view_is))

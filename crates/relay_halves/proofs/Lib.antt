@@ -1,0 +1,2 @@
+pub mod HalvedLines
+pub mod HalvedLogicalLines
