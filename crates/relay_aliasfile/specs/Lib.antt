@@ -17,5 +17,6 @@ pub mod Twins
 pub mod ListCuts
 pub mod ListParts
 pub mod MailboxLines
+pub mod MailboxParts
 pub mod Spread
 pub mod ItemCounts

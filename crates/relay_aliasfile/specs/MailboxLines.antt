@@ -1,5 +1,5 @@
 -- What the lines of a mailbox file say.
-use Rattle.std.specs.Prelude.{◌≡◌, ℕ, List, ◌++◌, Option, Some, None, filter_map, flat_map}
+use Rattle.std.specs.Prelude.{◌≡◌, ℕ, List, ◌++◌, filter_map, flat_map}
 use Rattle.relay_halves.specs.Halves.{kept_behind}
 use Rattle.relay_aliasfile.specs.MailboxFiles.{name_in, faults_in}
 use Rattle.relay_aliasfile.specs.declared.mailbox_lines.MailboxLines.{MailboxLines}
@@ -9,8 +9,6 @@ pub record AreRead (passed : ℕ) (text : List ℕ) (lines : MailboxLines) : Typ
   pub names : lines.names.items ≡ filter_map name_in (kept_behind passed text)
   pub faults : lines.faults.items ≡ flat_map faults_in (kept_behind passed text)
 
--- These are the names and the faults of the lines of two parts, which are both there.
-abbrev pub AreBoth : Option MailboxLines → Option MailboxLines → MailboxLines → Type 0
-AreBoth None there lines = ⊥
-AreBoth (Some first) None lines = ⊥
-AreBoth (Some first) (Some second) lines = (lines.names.items ≡ first.names.items ++ second.names.items) × (lines.faults.items ≡ first.faults.items ++ second.faults.items)
+-- These are the names and the faults of two parts.
+abbrev pub AreBoth : MailboxLines → MailboxLines → MailboxLines → Type 0
+AreBoth first second lines = (lines.names.items ≡ first.names.items ++ second.names.items) × (lines.faults.items ≡ first.faults.items ++ second.faults.items)

@@ -8,7 +8,7 @@ use crate::distinct::distinct_texts;
 use crate::fault::LineFault;
 use crate::mailbox_lines::MailboxLines;
 use crate::spread::are_distinct_by;
-use relay_halves::about_lines;
+use relay_halves::{PartRead, about_lines, read_by};
 use relay_text::{Seq, Text};
 use std::alloc::{AllocError, Global};
 use std::thread::Threads;
@@ -40,7 +40,7 @@ pub fn parse_mailboxes_by<R: Threads + Sync>(
 ) -> Result<MailboxFile, AllocError>
     ensures { IfOk result (λ file. file ≡ mailbox_file_of bytes.now) }
 {
-    let lines = MailboxLines::read_by(rt, alloc, workers, about_lines(bytes), 0, bytes)?;
+    let lines = read_by(rt, alloc, workers, about_lines(bytes), 0, bytes)?;
     distinct_names_by(rt, alloc, workers, lines)
 }
 

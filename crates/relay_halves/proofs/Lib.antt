@@ -1,2 +1,3 @@
 pub mod HalvedLines
 pub mod HalvedLogicalLines
+pub mod PartsTogether

@@ -5,7 +5,7 @@ ghost use Rattle.relay_halves.specs.Halves.{feeds_of, EndsWithLine, BeginsLogica
 
 use memchr::memchr;
 
-// A half has about so many bytes at least: starting a thread takes as long as reading some kilobytes, a small part of this.
+/// A half has about so many bytes at least: starting a thread takes as long as reading some kilobytes, a small part of this.
 pub const LEAST_HALF: usize = 65_536;
 
 // So many lines at most are looked at for a place. Where more stand between two places, they are mostly the list of one entry. It is long,

@@ -10,9 +10,9 @@ pub mod DestinationFacts
 pub mod OwnNames
 pub mod StableSorts
 pub mod MxLookups
-pub mod HalvedRecords
+pub mod TableRead
 pub mod PatternRepeats
-pub mod HalvedPatterns
+pub mod LinesMore
 pub mod FieldReadings
 pub mod MxFields
 pub mod FirstHosts

@@ -5,7 +5,9 @@ pub mod Transports
 pub mod Exchanges
 pub mod MxRecords
 pub mod RecordLines
+pub mod RecordParts
 pub mod PatternLines
+pub mod PatternParts
 pub mod Preferences
 pub mod Nexthops
 pub mod Forms

@@ -29,8 +29,6 @@ pub record AreRead (passed : ℕ) (text : List ℕ) (lines : PatternLines) : Typ
   pub entries : lines.entries.items ≡ filter_map entry_of (lines_behind passed text).lines
   pub faults : lines.faults.items ≡ orphan_faults (lines_behind passed text).orphans ++ flat_map bad_in (lines_behind passed text).lines
 
--- These are the entries and the faults of the lines of two parts, which are both there.
-abbrev pub AreBoth : Option PatternLines → Option PatternLines → PatternLines → Type 0
-AreBoth None there lines = ⊥
-AreBoth (Some first) None lines = ⊥
-AreBoth (Some first) (Some second) lines = (lines.entries.items ≡ first.entries.items ++ second.entries.items) × (lines.faults.items ≡ first.faults.items ++ second.faults.items)
+-- These are the entries and the faults of two parts.
+abbrev pub AreBoth : PatternLines → PatternLines → PatternLines → Type 0
+AreBoth first second lines = (lines.entries.items ≡ first.entries.items ++ second.entries.items) × (lines.faults.items ≡ first.faults.items ++ second.faults.items)

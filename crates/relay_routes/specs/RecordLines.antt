@@ -1,5 +1,5 @@
 -- What the lines of an MX table say.
-use Rattle.std.specs.Prelude.{◌≡◌, ℕ, List, ◌++◌, Option, Some, None, filter_map, flat_map}
+use Rattle.std.specs.Prelude.{◌≡◌, ℕ, List, ◌++◌, filter_map, flat_map}
 use Rattle.relay_halves.specs.Halves.{kept_behind}
 use Rattle.relay_routes.specs.Exchanges.{record_in, faults_in}
 use Rattle.relay_routes.specs.declared.record_lines.RecordLines.{RecordLines}
@@ -9,8 +9,6 @@ pub record AreRead (passed : ℕ) (text : List ℕ) (lines : RecordLines) : Type
   pub records : lines.records.items ≡ filter_map record_in (kept_behind passed text)
   pub faults : lines.faults.items ≡ flat_map faults_in (kept_behind passed text)
 
--- These are the records and the faults of the lines of two parts, which are both there.
-abbrev pub AreBoth : Option RecordLines → Option RecordLines → RecordLines → Type 0
-AreBoth None there lines = ⊥
-AreBoth (Some first) None lines = ⊥
-AreBoth (Some first) (Some second) lines = (lines.records.items ≡ first.records.items ++ second.records.items) × (lines.faults.items ≡ first.faults.items ++ second.faults.items)
+-- These are the records and the faults of two parts.
+abbrev pub AreBoth : RecordLines → RecordLines → RecordLines → Type 0
+AreBoth first second lines = (lines.records.items ≡ first.records.items ++ second.records.items) × (lines.faults.items ≡ first.faults.items ++ second.faults.items)

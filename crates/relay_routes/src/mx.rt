@@ -8,7 +8,7 @@ use crate::record_lines::RecordLines;
 use crate::room::BYTES_FOR_LINE;
 use crate::text_key::key_of;
 use crate::unrouted::Unrouted;
-use relay_halves::about_lines;
+use relay_halves::{PartRead, about_lines, read_by};
 use relay_text::{Seq, Text, TextSet};
 use std::alloc::{AllocError, Global};
 use std::marker::Model;
@@ -67,7 +67,7 @@ impl MxTable {
     ) -> Result<MxTable, AllocError>
         ensures { IfOk result (λ table. table ≡ mx_table_of bytes.now) }
     {
-        let lines = RecordLines::read_by(rt, alloc, workers, about_lines(bytes), 0, bytes)?;
+        let lines = read_by(rt, alloc, workers, about_lines(bytes), 0, bytes)?;
         MxTable::of_lines(alloc, bytes, lines)
     }
 

@@ -1,10 +1,9 @@
 //! What the lines of a transport table say, before later lines of one pattern are dropped.
 use crate::fault::{FaultKind, LineFault};
 use crate::transport_line::{TransportLine, line_of};
-use relay_halves::{halves, line_count};
+use relay_halves::PartRead;
 use relay_text::LogicalLines;
 use std::alloc::{AllocError, Global};
-use std::thread::{Threads, join};
 
 /// The patterns and results on the lines of a text, repeats too, and its lines at fault.
 #[derive(Drop)]
@@ -13,26 +12,27 @@ pub(crate) struct PatternLines {
     pub(crate) faults: Vec<LineFault>,
 }
 
-ghost use Rattle.std.specs.Prelude.{◌≡◌, ◌+◌, ◌^◌, ◌<◌, ◌++◌, ◌∷◌, [], All, length, map, option_to_list, IfOk, OnOk};
-ghost use Rattle.std.specs.Result.{result_ok};
-ghost use Rattle.std.specs.Thread.{IsSync};
+ghost use Rattle.std.specs.Prelude.{◌≡◌, ◌+◌, ◌^◌, ◌<◌, ◌++◌, ◌∷◌, [], All, map, option_to_list, OnOk};
 ghost use Rattle.relay_routes.specs.declared.fault.FaultKind.TheVariants.{BadLine};
-ghost use Rattle.relay_routes.specs.PatternLines.{AreBoth, AreRead, bad_line, orphan_faults};
+ghost use Rattle.relay_routes.specs.PatternLines.{bad_line, orphan_faults};
 ghost use Rattle.relay_routes.specs.Transports.{fault, line_of};
 
-impl PatternLines {
-    /// Reads one line after another. So many lines of the table stand before the text, and room is made for so many entries.
-    pub(crate) fn read(
+impl PartRead for PatternLines {
+    ghost use Rattle.relay_routes.specs.PatternLines.{AreBoth, AreRead};
+    ghost use Rattle.relay_routes.specs.PatternParts.{patterns_read_on};
+
+    ghost is_read = { AreRead };
+
+    ghost makes = { AreBoth };
+
+    fn read(
         alloc: Global,
-        room: usize,
+        expected: usize,
         passed: usize,
         bytes: &[u8],
-    ) -> Result<PatternLines, AllocError>
-        requires { passed + length bytes.now < 2 ^ 64 }
-        ensures { IfOk result (AreRead passed bytes.now) }
-    {
+    ) -> Result<PatternLines, AllocError> {
         let mut lines = LogicalLines::new(alloc, bytes)?;
-        let entries = Vec::with_capacity(alloc, room)?;
+        let entries = Vec::with_capacity(alloc, expected)?;
         let faults: Vec<LineFault> = Vec::new(alloc);
         let mut said = PatternLines { entries, faults };
         said.add_orphans(passed, lines.orphans())?;
@@ -43,6 +43,16 @@ impl PatternLines {
         Ok(said)
     }
 
+    fn append(&mut self, mut more: PatternLines) -> Result<(), AllocError> {
+        self.entries.append(&mut more.entries)?;
+        self.faults.append(&mut more.faults)?;
+        Ok(())
+    }
+
+    ghost reads_on = { patterns_read_on };
+}
+
+impl PatternLines {
     /// Adds the lines that continue no logical line, where so many lines of the table stand before their text.
     fn add_orphans(&mut self, passed: usize, orphans: &[usize]) -> Result<(), AllocError>
         requires { All (λ n. passed + n < 2 ^ 64) orphans.now }
@@ -76,67 +86,6 @@ impl PatternLines {
             line,
             kind: FaultKind::BadLine,
         })?;
-        Ok(())
-    }
-
-    /// The same by so many threads, this one among them, where the text is long enough for two. The room is for the entries of this text
-    /// and of those that are put behind them.
-    pub(crate) fn read_by<R: Threads + Sync>(
-        rt: &R,
-        alloc: Global,
-        workers: usize,
-        room: usize,
-        passed: usize,
-        bytes: &[u8],
-    ) -> Result<PatternLines, AllocError>
-        requires { passed + length bytes.now < 2 ^ 64 }
-        ensures { IfOk result (AreRead passed bytes.now) }
-    {
-        let Some((front, back)) = halves(workers, bytes) else {
-            return PatternLines::read(alloc, room, passed, bytes);
-        };
-        let behind = passed + line_count(front);
-        let share = workers / 2;
-        let rest = workers - share;
-        let fewer = room / 2;
-        let (here, there) = join(
-            rt,
-            || -> Result<PatternLines, AllocError>
-                requires { IsSync R.row × (passed + length front.now < 2 ^ 64) }
-                ensures { IfOk result (AreRead passed front.entry.now) }
-            { PatternLines::read_by(rt, alloc, share, room, passed, front) },
-            || -> Result<PatternLines, AllocError>
-                requires { IsSync R.row × (behind + length back.now < 2 ^ 64) }
-                ensures { IfOk result (AreRead behind back.entry.now) }
-            { PatternLines::read_by(rt, alloc, rest, fewer, behind, back) },
-        );
-        PatternLines::both(here, there)
-    }
-
-    /// What the lines of two parts say, where both were read.
-    fn both(
-        here: Result<PatternLines, AllocError>,
-        there: Result<PatternLines, AllocError>,
-    ) -> Result<PatternLines, AllocError>
-        ensures { IfOk result (AreBoth (result_ok here) (result_ok there)) }
-    {
-        let Ok(mut lines) = here else {
-            return Err(AllocError);
-        };
-        let Ok(more) = there else {
-            return Err(AllocError);
-        };
-        lines.append(more)?;
-        Ok(lines)
-    }
-
-    /// Adds what the lines behind these say.
-    fn append(&mut self, mut more: PatternLines) -> Result<(), AllocError>
-        ensures entries { OnOk result (self.new.entries.items ≡ self.old.entries.items ++ more.entries.items) }
-        ensures faults { OnOk result (self.new.faults.items ≡ self.old.faults.items ++ more.faults.items) }
-    {
-        self.entries.append(&mut more.entries)?;
-        self.faults.append(&mut more.faults)?;
         Ok(())
     }
 }

@@ -1,5 +1,6 @@
-//! How much room is taken ahead for the lines of a table, by the length of its text: less than twice what the text itself takes,
-//! whatever it holds. Of room that no line fills no memory is touched.
+//! How much room one thread takes ahead for the lines of a table, by the length of its text: less than twice what the text itself takes,
+//! whatever it holds. Several threads take room for as many lines as they expect, up to six and a half times what the text takes. Of room
+//! that no line fills no memory is touched.
 
 /// For so many bytes there is room for one line that was read, which takes up to 104. Many lines are a little shorter, so a vector
 /// still doubles once.

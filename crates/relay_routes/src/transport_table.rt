@@ -54,7 +54,7 @@ use crate::room::{BYTES_FOR_HEAD, BYTES_FOR_LINE};
 use crate::text_key::{MOST_TEXTS, key_of};
 use crate::transport_line::line_of;
 use relay_chains::hash_text;
-use relay_halves::{about_lines, is_long};
+use relay_halves::{about_lines, is_long, read_by};
 use relay_text::{Address, LogicalLine, LogicalLines, same_bytes, split_place};
 use std::alloc::{AllocError, Global};
 use std::thread::Threads;
@@ -86,7 +86,7 @@ impl TransportTable {
         if !is_long(workers, bytes) {
             return TransportTable::parse(alloc, bytes);
         }
-        let lines = PatternLines::read_by(rt, alloc, workers, about_lines(bytes), 0, bytes)?;
+        let lines = read_by(rt, alloc, workers, about_lines(bytes), 0, bytes)?;
         match TransportTable::of_distinct(alloc, bytes, lines)? {
             Some(table) => Ok(table),
             None => TransportTable::parse(alloc, bytes),

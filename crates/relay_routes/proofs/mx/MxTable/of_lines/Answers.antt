@@ -1,4 +1,4 @@
-use Rattle.relay_routes.proofs.HalvedRecords.{table_read}
+use Rattle.relay_routes.proofs.TableRead.{table_read}
 use Rattle.relay_routes.proofs.mx.MxTable.of_lines.Goals as goal
 
 pub returns : goal.returns

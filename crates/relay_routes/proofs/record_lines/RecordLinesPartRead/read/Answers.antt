@@ -3,7 +3,7 @@ use Rattle.std.specs.Prelude.{List}
 use Rattle.relay_text.specs.declared.lines.Line.{Line}
 use Rattle.relay_halves.specs.Halves.{AreUpTo}
 use Rattle.relay_halves.proofs.HalvedLines.{up_to-kept_lines}
-use Rattle.relay_routes.proofs.record_lines.RecordLines.read.Goals as goal
+use Rattle.relay_routes.proofs.record_lines.RecordLinesPartRead.read.Goals as goal
 
 pub loop-line-init : goal.loop-line-init
 loop-line-init c = record {

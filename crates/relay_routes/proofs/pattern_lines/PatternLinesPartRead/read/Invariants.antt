@@ -2,7 +2,7 @@ use Rattle.std.proofs.Common.{◌≡◌, ◌++◌, length, map}
 use Rattle.std.specs.Prelude.{filter_map, flat_map}
 use Rattle.relay_halves.specs.Halves.{moved, lines_behind, AreUpTo}
 use Rattle.relay_routes.specs.PatternLines.{entry_of, bad_in, orphan_faults}
-use Rattle.relay_routes.proofs.pattern_lines.PatternLines.read.Given as goal
+use Rattle.relay_routes.proofs.pattern_lines.PatternLinesPartRead.read.Given as goal
 
 -- what was gathered so far, with what the lines left give, is what all lines give
 abbrev pub invariant-loop-joined : goal.invariant-loop-joined

@@ -3,7 +3,7 @@ use Rattle.std.specs.Prelude.{filter_map, flat_map}
 use Rattle.relay_text.specs.KeptLines.{kept_rest}
 use Rattle.relay_halves.specs.Halves.{moved, kept_behind, AreUpTo}
 use Rattle.relay_aliasfile.specs.MailboxFiles.{name_in, faults_in}
-use Rattle.relay_aliasfile.proofs.mailbox_lines.MailboxLines.read.Given as goal
+use Rattle.relay_aliasfile.proofs.mailbox_lines.MailboxLinesPartRead.read.Given as goal
 
 -- what was gathered so far, with what the lines left give, is what all lines give
 abbrev pub invariant-loop-line : goal.invariant-loop-line

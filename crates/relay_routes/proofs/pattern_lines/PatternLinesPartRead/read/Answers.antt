@@ -8,8 +8,8 @@ use Rattle.relay_halves.proofs.HalvedLogicalLines.{up_to-orphans, up_to-logical_
 use Rattle.relay_routes.specs.PatternLines.{entry_of, bad_in}
 use Rattle.relay_routes.specs.declared.fault.LineFault.{LineFault}
 use Rattle.relay_routes.specs.declared.transport_line.TransportLine.{TransportLine}
-use Rattle.relay_routes.proofs.HalvedPatterns.{entries_more, faults_more}
-use Rattle.relay_routes.proofs.pattern_lines.PatternLines.read.Goals as goal
+use Rattle.relay_routes.proofs.LinesMore.{entries_more, faults_more}
+use Rattle.relay_routes.proofs.pattern_lines.PatternLinesPartRead.read.Goals as goal
 
 pub add_orphans-requires : goal.add_orphans-requires
 add_orphans-requires c =

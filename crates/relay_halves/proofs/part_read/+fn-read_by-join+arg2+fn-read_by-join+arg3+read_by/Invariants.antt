@@ -1,0 +1,11 @@
+use Rattle.std.proofs.Common.{◌+◌, ◌*◌}
+use Rattle.relay_halves.proofs.part_read.+fn-read_by-join+arg2+fn-read_by-join+arg3+read_by.Given as goal
+
+abbrev pub decreases-join+arg2 : goal.decreases-join+arg2
+decreases-join+arg2 g l = 2 * l.share + 1
+
+abbrev pub decreases-join+arg3 : goal.decreases-join+arg3
+decreases-join+arg3 g l = 2 * l.rest + 1
+
+abbrev pub decreases-read_by : goal.decreases-read_by
+decreases-read_by g l = 2 * l.workers
