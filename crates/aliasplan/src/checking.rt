@@ -13,6 +13,7 @@ ghost use Rattle.relay_planning.specs.Limits.{AreLimits, IsWithin, IsRefused};
 ghost use Rattle.relay_planning.specs.Report.{texts, IsFindingLine, IsLineOf};
 ghost use Rattle.relay_planning.specs.Texts.{has_fault_line};
 
+use relay_chains::TextKey;
 use relay_job::{Job, RunFault, Settings};
 use relay_planning::{Crew, JobView, Limits, Lookup, parsed_is_readable, plan_by_lookup};
 use relay_rounds::Gate;
@@ -33,9 +34,14 @@ fn write_to_each_alias(alloc: Global, tables: &mut Job, read: &Tables) -> Result
     Ok(())
 }
 
-/// The lines of findings that say which lines of the files and tables are at fault, in the order of their bytes, each once. `Err` where
-/// memory runs out.
-pub fn check_texts(alloc: Global, tables: &Job, limits: Limits) -> Result<Seq<Text>, AllocError>
+/// The lines of findings that say which lines of the files and tables are at fault, in the order of their bytes, each once; texts are hashed
+/// under the key. `Err` where memory runs out.
+pub fn check_texts(
+    alloc: Global,
+    key: TextKey,
+    tables: &Job,
+    limits: Limits,
+) -> Result<Seq<Text>, AllocError>
     requires limits { AreLimits limits }
     requires tables { AreTablesWithin limits.bytes tables.now }
     ensures { IfOk result (AreLines (IsLineOf tables.now texts)) }
@@ -43,7 +49,7 @@ pub fn check_texts(alloc: Global, tables: &Job, limits: Limits) -> Result<Seq<Te
     parsed_is_readable();
     let _ = limits;
     let mut lines = FindingLines::new(alloc);
-    match Lookup::read(alloc, tables, &mut lines) {
+    match Lookup::read(alloc, key, tables, &mut lines) {
         Ok(lookup) => {
             // The lines alone are asked for.
             drop(lookup);

@@ -55,6 +55,7 @@ ghost use Rattle.relay_planning.specs.Report.{texts, IsLineOf};
 ghost use Rattle.relay_planning.specs.Texts.{has_fault_line};
 
 use crate::enveloping::plan_envelope;
+use relay_chains::TextKey;
 use relay_job::{Envelope, RunFault, Settings, parsed_tables};
 use relay_rounds::Gate;
 use relay_tables::{TableFault, Tables};
@@ -144,7 +145,7 @@ impl TablesRead {
     }
 
     /// What the files and tables of a job say, whatever its envelope.
-    fn of(alloc: Global, job: &Job, limits: Limits) -> Result<TablesRead, RunFault>
+    fn of(alloc: Global, key: TextKey, job: &Job, limits: Limits) -> Result<TablesRead, RunFault>
         requires limits { AreLimits limits }
         requires tables { AreTablesWithin limits.bytes job.now }
         ensures read { IfOk result (λ read. AreRead (without_envelope job.now) read.lookup read.counts) }
@@ -154,7 +155,7 @@ impl TablesRead {
     {
         parsed_is_readable();
         let mut lines = FindingLines::new(alloc);
-        match Lookup::read(alloc, job, &mut lines) {
+        match Lookup::read(alloc, key, job, &mut lines) {
             Ok(lookup) => TablesRead::of_lookup(alloc, job, lookup, lines, limits),
             Err(_) => Err(RunFault::Memory),
         }
@@ -162,11 +163,16 @@ impl TablesRead {
 }
 
 impl Planner {
-    /// Reads files and tables; an envelope that they come with isn't looked at.
+    /// Reads files and tables, whose texts are hashed under the key; an envelope that they come with isn't looked at.
     ///
     /// `TooManyNames` and `TooManyOwners` come in this order, exactly where the tables alone have more than `limits` takes; `Memory`
     /// where a growth was refused.
-    pub fn new(alloc: Global, tables: Job, limits: Limits) -> Result<Planner, RunFault>
+    pub fn new(
+        alloc: Global,
+        key: TextKey,
+        tables: Job,
+        limits: Limits,
+    ) -> Result<Planner, RunFault>
         requires limits { AreLimits limits }
         requires tables { AreTablesWithin limits.bytes tables }
         ensures tables { IfOk result (λ planner. planner ≡ without_envelope tables) }
@@ -174,7 +180,7 @@ impl Planner {
         ensures refused { IfErr result (HasRefusedTables limits tables) }
     {
         parsed_tables();
-        match TablesRead::of(alloc, &tables, limits) {
+        match TablesRead::of(alloc, key, &tables, limits) {
             Ok(read) => Ok(Planner { tables, read }),
             Err(fault) => {
                 drop(tables);

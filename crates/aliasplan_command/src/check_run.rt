@@ -31,7 +31,7 @@ fn lines_of<G: Gate, R: Threads + Sync>(
     ensures refused { IfErr result (IsCheckRefused crew.now.limits scope tables) }
 {
     match scope {
-        Scope::Texts => match check_texts(crew.alloc, &tables, crew.limits) {
+        Scope::Texts => match check_texts(crew.alloc, crew.options.key, &tables, crew.limits) {
             Ok(lines) => Ok(lines),
             Err(_) => Err(RunFault::Memory),
         },

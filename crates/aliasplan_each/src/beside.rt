@@ -189,7 +189,7 @@ pub fn run_beside<F: Feed, S: Sink, G: Gate, R: Threads + Sync>(
     ensures front { IfErr result (λ fault. IfSome (F.remaining reader.old) (λ input. WritesBesideFront crew.now.limits crew.now.options.form tables input (S.contents writer.old) (S.contents writer.new))) }
     ensures ended { OnOk result (F.has_ended reader.new ≡ true) }
 {
-    let planner = Planner::new(crew.alloc, tables, crew.limits)?;
+    let planner = Planner::new(crew.alloc, crew.options.key, tables, crew.limits)?;
     let summary = answer_stream(crew, &planner, reader, writer);
     drop(planner);
     summary

@@ -127,7 +127,7 @@ fn answer_input<G: Gate, R: Threads + Sync>(
     ensures refused { IfErr result (RefusesEachBytes crew.now.limits input.now) }
 {
     let EachParts { tables, sections } = parts_of(crew.alloc, input)?;
-    match Planner::new(crew.alloc, tables, crew.limits) {
+    match Planner::new(crew.alloc, crew.options.key, tables, crew.limits) {
         Ok(planner) => {
             let answered = answer_sections(crew, &planner, &sections);
             drop(planner);

@@ -5,13 +5,35 @@ use crate::asking::{explain_request, plan_request, request_of};
 use crate::commands::command;
 use crate::refusing::{request_of_error, request_without_words};
 use crate::request::Request;
+use clap::ArgMatches;
+use relay_chains::TextKey;
 use relay_job::RunFault;
-use std::env;
+use std::random::RandomSource;
 use std::rt::Env;
+use std::{env, io};
+
+// A key for the hashes of texts, from the system's source of random bytes (getentropy(3)).
+fn drawn_key<R: RandomSource>(rt: &R) -> io::Result<TextKey> {
+    let mut bytes = [0; 16];
+    rt.fill_bytes(&mut bytes)?;
+    Ok(TextKey::from_le_bytes(bytes))
+}
+
+// What words that are read ask for.
+fn asked_by<R: Eprint + AllocGlobal>(rt: &R, matches: &ArgMatches<'_>, key: TextKey) -> Request
+    ensures { IsRequest result }
+{
+    match matches.subcommand() {
+        Some(("plan", words)) => plan_request(rt, words, key),
+        Some(("explain", words)) => explain_request(rt, words, key),
+        Some((name, words)) => request_of(rt.alloc(), name, words, key),
+        None => Request::Unknown,
+    }
+}
 
 /// What the words of the command line ask for. Help goes to standard output, and to standard error what makes words `Unknown`; a `Fault` is
-/// left to the caller to say.
-pub fn read_words<R: Env + Print + Eprint + AllocGlobal>(rt: &R) -> Request
+/// left to the caller to say: want of memory, or `Read` where the system gives no random bytes for the key of the options.
+pub fn read_words<R: Env + RandomSource + Print + Eprint + AllocGlobal>(rt: &R) -> Request
     ensures { IsRequest result }
 {
     let args = match env::args(rt) {
@@ -25,11 +47,9 @@ pub fn read_words<R: Env + Print + Eprint + AllocGlobal>(rt: &R) -> Request
         return Request::Fault(RunFault::Memory);
     };
     match command.try_get_matches_from(words.as_slice()) {
-        Ok(matches) => match matches.subcommand() {
-            Some(("plan", words)) => plan_request(rt, words),
-            Some(("explain", words)) => explain_request(rt, words),
-            Some((name, words)) => request_of(rt.alloc(), name, words),
-            None => Request::Unknown,
+        Ok(matches) => match drawn_key(rt) {
+            Ok(key) => asked_by(rt, &matches, key),
+            Err(_) => Request::Fault(RunFault::Read),
         },
         Err(error) => request_of_error(rt, &error),
     }

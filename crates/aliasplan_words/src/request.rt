@@ -28,6 +28,6 @@ pub enum Request {
     Help,
     /// Something else, as is said on standard error.
     Unknown,
-    /// Words that can't be read for want of memory, or the help, which can't be written.
+    /// Words that can't be read for want of memory, help that can't be written, or a key for the hashes of texts that can't be drawn.
     Fault(RunFault),
 }

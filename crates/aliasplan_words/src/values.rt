@@ -4,6 +4,7 @@ ghost use Rattle.relay_planning.specs.Limits.{AreOptions};
 use crate::detail::Detail;
 use crate::output::Output;
 use clap::ArgMatches;
+use relay_chains::TextKey;
 use relay_gather::Paths;
 use relay_planning::{Form, Options};
 use relay_text::{Seq, Text};
@@ -17,17 +18,18 @@ pub(crate) fn detail_of(words: &ArgMatches<'_>) -> Detail {
     }
 }
 
-/// The options that the words after `plan`, `explain`, `check` or `domains` say, or their defaults. What is out of range is refused before.
-pub(crate) fn options_of(words: &ArgMatches<'_>, form: Form) -> Options
+/// The options that the words after `plan`, `explain`, `check` or `domains` say, or four threads that take 1,024 pairs at once. What is out of
+/// range is refused before.
+pub(crate) fn options_of(words: &ArgMatches<'_>, form: Form, key: TextKey) -> Options
     ensures { AreOptions result }
 {
-    let usual = Options::default();
-    let workers = words.get_one::<usize>("workers").unwrap_or(usual.workers);
-    let cut = words.get_one::<usize>("cut").unwrap_or(usual.cut);
+    let workers = words.get_one::<usize>("workers").unwrap_or(4);
+    let cut = words.get_one::<usize>("cut").unwrap_or(1024);
     Options {
         form,
         workers: workers.clamp(1, 64),
         cut: cut.clamp(1, 1_048_576),
+        key,
     }
 }
 

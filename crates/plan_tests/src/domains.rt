@@ -69,6 +69,7 @@ fn names_the_domains_of_lists(rt: HostRuntime) -> Result<(), Fail> {
             form: Form::Wire,
             workers,
             cut,
+            key: 0,
         };
         match asked(&rt, rt.alloc(), job.as_slice(), options, LIMITS) {
             Ok(text) => assert_eq!(rt; text.as_bytes(), DOMAINS),

@@ -66,6 +66,7 @@ fn two_threads_meet(rt: HostRuntime) -> Result<(), Fail> {
         form: Form::Plan,
         workers: 2,
         cut: 1,
+        key: 0,
     };
     let gate = Meeting {
         first: AtomicBool::new(false),

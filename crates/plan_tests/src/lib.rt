@@ -14,6 +14,8 @@ mod gates;
 #[cfg(test)]
 mod gathering;
 #[cfg(test)]
+mod keys;
+#[cfg(test)]
 mod limits;
 #[cfg(test)]
 mod plans;

@@ -13,6 +13,7 @@ pub const OPTIONS: Options = Options {
     form: Form::Plan,
     workers: 2,
     cut: 2,
+    key: 0,
 };
 
 const SETTINGS: &[u8] =

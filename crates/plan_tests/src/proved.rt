@@ -68,6 +68,7 @@ const OPTIONS: Options = Options {
     form: Form::Plan,
     workers: 2,
     cut: 2,
+    key: 0,
 };
 
 const JOB: &[u8] = b"%settings\n\

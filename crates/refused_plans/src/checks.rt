@@ -27,7 +27,7 @@ fn checks_lines(alloc: Global) -> Result<Seen, Unready> {
     let tables = parse_tables(alloc, FAULTY)?;
     Ok(twice!({
         are_lines(
-            &check_texts(alloc, &tables, LIMITS),
+            &check_texts(alloc, 0, &tables, LIMITS),
             b"finding aliases line 1 badline",
         )
     }))

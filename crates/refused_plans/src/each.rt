@@ -79,7 +79,7 @@ fn finds_envelopes(alloc: Global) -> Result<Answer, Unready> {
 
 fn makes_a_planner(alloc: Global) -> Result<Answer, Unready> {
     let tables = parse_tables(alloc, FIRST_TABLES)?;
-    match Planner::new(alloc, tables, LIMITS) {
+    match Planner::new(alloc, 0, tables, LIMITS) {
         Ok(planner) => Ok(judged(planner, |planner| planner.findings().is_empty())),
         Err(RunFault::Memory) => Ok(Answer::Refused),
         Err(_) => Ok(Answer::Wrong),
@@ -101,7 +101,7 @@ fn planned<R: Threads + Sync>(
 fn plans_an_envelope<R: Threads + Sync>(rt: &R, alloc: Global) -> Result<Seen, Unready> {
     let envelope = parse_envelope(alloc, FIRST_ENVELOPE, b"example.org")?;
     let tables = parse_tables(alloc, FIRST_TABLES)?;
-    let planner = Planner::new(alloc, tables, LIMITS)?;
+    let planner = Planner::new(alloc, 0, tables, LIMITS)?;
     lent(
         planner,
         |planner| Ok(planned(rt, alloc, planner, &envelope)),

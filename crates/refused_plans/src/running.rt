@@ -15,6 +15,7 @@ pub const OPTIONS: Options = Options {
     form: Form::Plan,
     workers: 2,
     cut: 2,
+    key: 0,
 };
 
 pub const LIMITS: Limits = Limits {

@@ -84,7 +84,7 @@ fn finds_gateway_despite_faults(
 
 fn reads_transports(alloc: Global) -> Result<Answer, Unready> {
     let address = address(alloc, b"u@example.net")?;
-    match TransportTable::parse(alloc, FAULTY_TRANSPORTS) {
+    match TransportTable::parse(alloc, 0, FAULTY_TRANSPORTS) {
         Ok(table) => lent(table, |table| {
             Ok(finds_gateway_despite_faults(table, alloc, &address))
         }),
@@ -94,7 +94,7 @@ fn reads_transports(alloc: Global) -> Result<Answer, Unready> {
 
 fn reads_transports_by<R: Threads + Sync>(rt: &R, alloc: Global) -> Result<Answer, Unready> {
     let address = address(alloc, b"u@example.net")?;
-    match TransportTable::parse_by(rt, alloc, 2, FAULTY_TRANSPORTS) {
+    match TransportTable::parse_by(rt, alloc, 0, 2, FAULTY_TRANSPORTS) {
         Ok(table) => lent(table, |table| {
             Ok(finds_gateway_despite_faults(table, alloc, &address))
         }),
@@ -104,7 +104,7 @@ fn reads_transports_by<R: Threads + Sync>(rt: &R, alloc: Global) -> Result<Answe
 
 fn finds_a_transport(alloc: Global) -> Result<Seen, Unready> {
     let address = address(alloc, b"u+x@example.net")?;
-    let table = TransportTable::parse(alloc, TRANSPORTS)?;
+    let table = TransportTable::parse(alloc, 0, TRANSPORTS)?;
     lent(
         table,
         |table| Ok(twice!(finds_gateway(table, alloc, &address))),
@@ -145,7 +145,7 @@ fn finds_hosts_despite_fault(table: &MxTable, alloc: Global, own_names: &[Text])
 
 fn reads_exchangers(alloc: Global) -> Result<Answer, Unready> {
     let names = own_names(alloc)?;
-    match MxTable::parse(alloc, PREFERENCES) {
+    match MxTable::parse(alloc, 0, PREFERENCES) {
         Ok(table) => lent(table, |table| {
             Ok(finds_hosts_despite_fault(table, alloc, &names))
         }),
@@ -155,7 +155,7 @@ fn reads_exchangers(alloc: Global) -> Result<Answer, Unready> {
 
 fn reads_exchangers_by<R: Threads + Sync>(rt: &R, alloc: Global) -> Result<Answer, Unready> {
     let names = own_names(alloc)?;
-    match MxTable::parse_by(rt, alloc, 2, PREFERENCES) {
+    match MxTable::parse_by(rt, alloc, 0, 2, PREFERENCES) {
         Ok(table) => lent(table, |table| {
             Ok(finds_hosts_despite_fault(table, alloc, &names))
         }),
@@ -170,7 +170,7 @@ fn finds_exchangers(
     wanted: &[&[u8]],
 ) -> Result<Seen, Unready> {
     let names = own_names(alloc)?;
-    let table = MxTable::parse(alloc, exchanges)?;
+    let table = MxTable::parse(alloc, 0, exchanges)?;
     lent(table, |table| {
         Ok(twice!({ finds_hosts(table, alloc, domain, &names, wanted) }))
     })
@@ -195,8 +195,8 @@ fn settings(alloc: Global) -> Result<RouteSettings, AllocError> {
 }
 
 fn tables(alloc: Global) -> Result<(TransportTable, MxTable), AllocError> {
-    let transports = TransportTable::parse(alloc, TRANSPORTS)?;
-    let exchanges = MxTable::parse(alloc, EXCHANGES)?;
+    let transports = TransportTable::parse(alloc, 0, TRANSPORTS)?;
+    let exchanges = MxTable::parse(alloc, 0, EXCHANGES)?;
     Ok((transports, exchanges))
 }
 

@@ -116,7 +116,7 @@ fn inserts_all(set: &mut Chains, keys: &[(Key, Inserted)]) -> Seen {
 }
 
 fn makes_an_interner(alloc: Global) -> Answer {
-    match Interner::new(alloc, 2, 2) {
+    match Interner::new(alloc, 0, 2, 2) {
         Ok(set) => Answer::given(set.is_empty()),
         Err(_) => Answer::Refused,
     }
@@ -167,7 +167,7 @@ fn has_texts(set: &Interner, texts: &[(&[u8], Inserted)]) -> bool {
 fn interns_texts(alloc: Global, limit: usize, texts: &[(&[u8], Inserted)]) -> Result<Seen, Unready>
     requires { limit ≤ 2 ^ 32 - 2 }
 {
-    let set = Interner::new(alloc, 2, limit)?;
+    let set = Interner::new(alloc, 0, 2, limit)?;
     lent_mut(set, |set| Ok(interns_all(set, texts)))
 }
 

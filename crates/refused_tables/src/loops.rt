@@ -45,6 +45,7 @@ fn are_loops<R: Threads + Sync>(
         alloc,
         workers: 2,
         cut: 1,
+        salt: 0,
         gate: &NoGate,
     };
     match on_loops(&crew, graph, nodes) {

@@ -26,6 +26,7 @@ fn are_reached<R: Threads + Sync>(rt: &R, alloc: Global, graph: &Graph) -> Answe
         alloc,
         workers: 2,
         cut: 1,
+        salt: 0,
         gate: &NoGate,
     };
     match reached_pairs(&crew, graph, 100) {
@@ -63,6 +64,7 @@ fn are_reached_from_list<'a, R: Threads + Sync>(
         alloc,
         workers: 2,
         cut: 1,
+        salt: 0,
         gate: &NoGate,
     };
     let search = Search { crew, graph };
@@ -94,6 +96,7 @@ fn lists_its_nodes<R: Threads + Sync>(
         alloc,
         workers: 2,
         cut: 1,
+        salt: 0,
         gate: &NoGate,
     };
     let pairs = reached_pairs(&crew, graph, 100)?;

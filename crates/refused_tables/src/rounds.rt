@@ -40,6 +40,7 @@ fn reached<R: Threads + Sync>(rt: &R, alloc: Global, limit: usize) -> Result<Vec
         alloc,
         workers: 2,
         cut: 1,
+        salt: 0,
         gate: &NoGate,
     };
     reach(&crew, &Tenths, &[1, 1], limit)

@@ -49,6 +49,7 @@ fn finds_its_trails<R: Threads + Sync>(
         alloc,
         workers: 2,
         cut: 1,
+        salt: 0,
         gate: &NoGate,
     };
     let pairs = reached_pairs(&crew, graph, 100)?;

@@ -9,20 +9,17 @@ ghost use Rattle.relay_text.specs.FirstPlaces.{first_place};
 ghost use Rattle.relay_aliasfile.specs.Twins.{texts_of, texts_at, ArePutFirst};
 
 use crate::twins::twin_places;
-use relay_chains::hash_text;
+use relay_chains::{FIXED_KEY, hash_text};
 use relay_text::FirstPlaces;
 use std::alloc::{AllocError, Global};
 
-/// The key of the hashes. Any will do, since they decide nothing.
-const KEY: u64 = 0;
-
 /// The hashes of texts.
 fn text_hashes(alloc: Global, texts: &[&[u8]]) -> Result<Vec<u32>, AllocError>
-    ensures { IfOk result (λ hashes. hashes.items ≡ map (text_hash KEY) (texts_of texts.now)) }
+    ensures { IfOk result (λ hashes. hashes.items ≡ map (text_hash FIXED_KEY) (texts_of texts.now)) }
 {
     let mut hashes = Vec::with_capacity(alloc, texts.len())?;
     for text in texts {
-        hashes.push_reserved(hash_text(KEY, text));
+        hashes.push_reserved(hash_text(FIXED_KEY, text));
     }
     Ok(hashes)
 }

@@ -41,12 +41,9 @@ ghost use Rattle.relay_aliasfile.specs.Twins.{texts_of};
 use crate::distinct::are_own;
 use crate::first_places::first_places;
 use crate::twins::slot_of;
-use relay_chains::hash_text;
+use relay_chains::{FIXED_KEY, hash_text};
 use std::alloc::{AllocError, Global};
 use std::thread::{Threads, join};
-
-// The key of the hashes. Any will do, since they decide nothing.
-const KEY: u64 = 0;
 
 // A thread has so many texts at least: starting it takes as long as looking at some hundreds of them.
 const LEAST: usize = 16_384;
@@ -69,11 +66,11 @@ fn part_of(hash: u32, parts: usize) -> usize
 
 /// The hashes of texts.
 fn hashes_of<T: HasText>(alloc: Global, items: &[T]) -> Result<Vec<u32>, AllocError>
-    ensures { IfOk result (λ hashes. hashes.items ≡ map (λ item. text_hash KEY (T.text item)) items.now) }
+    ensures { IfOk result (λ hashes. hashes.items ≡ map (λ item. text_hash FIXED_KEY (T.text item)) items.now) }
 {
     let mut hashes = Vec::with_capacity(alloc, items.len())?;
     for item in items {
-        hashes.push_reserved(hash_text(KEY, item.text()));
+        hashes.push_reserved(hash_text(FIXED_KEY, item.text()));
     }
     Ok(hashes)
 }
@@ -86,7 +83,7 @@ fn hashes_by<R: Threads + Sync, T: HasText + Sync>(
     threads: usize,
     items: &[T],
 ) -> Result<Vec<u32>, AllocError>
-    ensures { IfOk result (λ hashes. hashes.items ≡ map (λ item. text_hash KEY (T.text item)) items.now) }
+    ensures { IfOk result (λ hashes. hashes.items ≡ map (λ item. text_hash FIXED_KEY (T.text item)) items.now) }
 {
     if threads < 2 {
         return hashes_of(alloc, items);
@@ -97,11 +94,11 @@ fn hashes_by<R: Threads + Sync, T: HasText + Sync>(
         rt,
         || -> Result<Vec<u32>, AllocError>
             requires { IsSync T.row }
-            ensures { IfOk result (λ hashes. hashes.items ≡ map (λ item. text_hash KEY (T.text item)) last.entry.now) }
+            ensures { IfOk result (λ hashes. hashes.items ≡ map (λ item. text_hash FIXED_KEY (T.text item)) last.entry.now) }
         { hashes_of(alloc, last) },
         || -> Result<Vec<u32>, AllocError>
             requires { IsSync R.row × IsSync T.row }
-            ensures { IfOk result (λ hashes. hashes.items ≡ map (λ item. text_hash KEY (T.text item)) before.entry.now) }
+            ensures { IfOk result (λ hashes. hashes.items ≡ map (λ item. text_hash FIXED_KEY (T.text item)) before.entry.now) }
         { hashes_by(rt, alloc, others, before) },
     );
     let mut hashes = here?;
@@ -119,8 +116,8 @@ fn texts_in<'a, T: HasText>(
 ) -> Result<Vec<&'a [u8]>, AllocError>
     requires some { 0 < parts }
     requires few { parts ≤ 2 ^ 32 }
-    requires hashes { hashes.now ≡ map (λ item. text_hash KEY (T.text item)) items.now }
-    ensures { IfOk result (λ texts. texts_of texts.items ≡ filter (is_in_part KEY parts part) (map T.text items.now)) }
+    requires hashes { hashes.now ≡ map (λ item. text_hash FIXED_KEY (T.text item)) items.now }
+    ensures { IfOk result (λ texts. texts_of texts.items ≡ filter (is_in_part FIXED_KEY parts part) (map T.text items.now)) }
 {
     let mut texts = Vec::new(alloc);
     for (place, hash) in hashes.iter().enumerate() {
@@ -141,8 +138,8 @@ fn is_part_distinct<T: HasText>(
 ) -> Result<bool, AllocError>
     requires some { 0 < parts }
     requires few { parts ≤ 2 ^ 32 }
-    requires hashes { hashes.now ≡ map (λ item. text_hash KEY (T.text item)) items.now }
-    ensures { IfOk result (λ own. IsTrue own → AreDistinct (filter (is_in_part KEY parts part) (map T.text items.now))) }
+    requires hashes { hashes.now ≡ map (λ item. text_hash FIXED_KEY (T.text item)) items.now }
+    ensures { IfOk result (λ own. IsTrue own → AreDistinct (filter (is_in_part FIXED_KEY parts part) (map T.text items.now))) }
 {
     let texts = texts_in(alloc, items, hashes, parts, part)?;
     let places = first_places(alloc, &texts)?;
@@ -162,8 +159,8 @@ fn are_parts_distinct<R: Threads + Sync, T: HasText + Sync>(
     requires some { 0 < count }
     requires within { count ≤ parts }
     requires few { parts ≤ 2 ^ 32 }
-    requires hashes { hashes.now ≡ map (λ item. text_hash KEY (T.text item)) items.now }
-    ensures { IfOk result (λ own. IsTrue own → (part : ℕ) → part < count → AreDistinct (filter (is_in_part KEY parts part) (map T.text items.now))) }
+    requires hashes { hashes.now ≡ map (λ item. text_hash FIXED_KEY (T.text item)) items.now }
+    ensures { IfOk result (λ own. IsTrue own → (part : ℕ) → part < count → AreDistinct (filter (is_in_part FIXED_KEY parts part) (map T.text items.now))) }
 {
     let last = count - 1;
     if last == 0 {
@@ -172,12 +169,12 @@ fn are_parts_distinct<R: Threads + Sync, T: HasText + Sync>(
     let (there, here) = join(
         rt,
         || -> Result<bool, AllocError>
-            requires { IsSync T.row × (0 < parts) × (parts ≤ 2 ^ 32) × (hashes.now ≡ map (λ item. text_hash KEY (T.text item)) items.now) }
-            ensures { IfOk result (λ own. IsTrue own → AreDistinct (filter (is_in_part KEY parts last) (map T.text items.entry.now))) }
+            requires { IsSync T.row × (0 < parts) × (parts ≤ 2 ^ 32) × (hashes.now ≡ map (λ item. text_hash FIXED_KEY (T.text item)) items.now) }
+            ensures { IfOk result (λ own. IsTrue own → AreDistinct (filter (is_in_part FIXED_KEY parts last) (map T.text items.entry.now))) }
         { is_part_distinct(alloc, items, hashes, parts, last) },
         || -> Result<bool, AllocError>
-            requires { IsSync R.row × IsSync T.row × (0 < last) × (last ≤ parts) × (parts ≤ 2 ^ 32) × (hashes.now ≡ map (λ item. text_hash KEY (T.text item)) items.now) }
-            ensures { IfOk result (λ own. IsTrue own → (part : ℕ) → part < last → AreDistinct (filter (is_in_part KEY parts part) (map T.text items.entry.now))) }
+            requires { IsSync R.row × IsSync T.row × (0 < last) × (last ≤ parts) × (parts ≤ 2 ^ 32) × (hashes.now ≡ map (λ item. text_hash FIXED_KEY (T.text item)) items.now) }
+            ensures { IfOk result (λ own. IsTrue own → (part : ℕ) → part < last → AreDistinct (filter (is_in_part FIXED_KEY parts part) (map T.text items.entry.now))) }
         { are_parts_distinct(rt, alloc, items, hashes, parts, last) },
     );
     let own = here?;

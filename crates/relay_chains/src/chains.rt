@@ -68,6 +68,7 @@ impl Chains {
         ensures inserts { Inserts (insertion nat_eq self.old.keys self.old.limit key) self.old.keys result self.new.keys }
         ensures limit { self.new.limit ≡ self.old.limit }
         ensures memory_for_new { result ≡ Err ChainFault.Memory → number_of nat_eq self.old.keys key ≡ None }
+        ensures memory_within { result ≡ Err ChainFault.Memory → length self.old.keys < self.old.limit }
     {
         let bucket = bucket_of(key, self.heads.len());
         if let Some(number) = search(&self.heads, &self.nodes, bucket, key) {

@@ -10,25 +10,22 @@ ghost use Rattle.relay_chains.specs.TextHash.{text_hash};
 
 use crate::fault::ChainFault;
 use crate::links::Links;
-use crate::text_hash::hash_text;
+use crate::text_hash::{TextKey, hash_text};
 use relay_text::same_bytes;
 use std::alloc::{AllocError, Global};
 use std::marker::Model;
-
-// The key of the hashes of an `Interner` that is given none: the first 64 bits behind the point of pi.
-const ANY_KEY: u64 = 0x243f_6a88_85a3_08d3;
 
 /// A list of distinct texts, of any bytes, numbered from 0 up in the order in which they came.
 ///
 /// A call hashes its text once, under the key, and walks the chain of one bucket from its newest node to the text's own, if there is one:
 /// two or three nodes where the hashes spread. Who chooses the texts and knows the key can put them all in one bucket, and then a call
-/// may walk all of them: where texts come from strangers, take a key that they didn't know when they wrote them. Memory is 4 bytes for
+/// may walk all of them: where texts come from strangers, take a key that is drawn at random. Memory is 4 bytes for
 /// each head, which are doubled when there are half as many texts, 16 for each text and the texts' own bytes, which grow by doubling.
 pub struct Interner {
     links: Links,
     ends: Vec<usize>,
     bytes: Vec<u8>,
-    key: u64,
+    key: TextKey,
     limit: usize,
 }
 
@@ -58,19 +55,10 @@ impl Model for Interner {
 }
 
 impl Interner {
-    /// No texts yet, and at most `limit` of them ever; `limit` may be 0. Only the heads take memory now.
-    pub fn new(alloc: Global, heads: usize, limit: usize) -> Result<Interner, AllocError>
-        requires heads { 1 ≤ heads }
-        requires limit { limit ≤ 2 ^ 32 - 2 }
-        ensures { IfOk result (λ set. set ≡ record { keys = []; limit = limit }) }
-    {
-        Interner::with_key(alloc, ANY_KEY, heads, limit)
-    }
-
-    /// The same, with a key for the hashes.
-    pub fn with_key(
+    /// No texts yet, and at most `limit` of them ever; `limit` may be 0. They are hashed under the key. Only the heads take memory now.
+    pub fn new(
         alloc: Global,
-        key: u64,
+        key: TextKey,
         heads: usize,
         limit: usize,
     ) -> Result<Interner, AllocError>
@@ -95,6 +83,7 @@ impl Interner {
         ensures inserts { Inserts (insertion bytes_eq self.old.keys self.old.limit text.now) self.old.keys result self.new.keys }
         ensures limit { self.new.limit ≡ self.old.limit }
         ensures memory_for_new { result ≡ Err ChainFault.Memory → number_of bytes_eq self.old.keys text.now ≡ None }
+        ensures memory_within { result ≡ Err ChainFault.Memory → length self.old.keys < self.old.limit }
     {
         let hash = hash_text(self.key, text);
         if let Some(number) = search(&self.links, &self.ends, &self.bytes, self.key, hash, text) {
@@ -189,7 +178,7 @@ fn search(
     links: &Links,
     ends: &[usize],
     bytes: &[u8],
-    key: u64,
+    key: TextKey,
     hash: u32,
     text: &[u8],
 ) -> Option<u32>

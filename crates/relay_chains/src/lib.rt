@@ -15,4 +15,4 @@ pub use chains::{Chains, Key};
 pub use fault::ChainFault;
 pub use interner::Interner;
 pub use links::Links;
-pub use text_hash::hash_text;
+pub use text_hash::{FIXED_KEY, TextKey, hash_text};

@@ -1,34 +1,42 @@
 //! Hashes of texts, under a key.
-ghost use Rattle.std.specs.Prelude.{◌≡◌};
+ghost use Rattle.std.specs.Prelude.{◌≡◌, ◌<◌, ◌^◌, ◌*◌, ◌/◌};
 ghost use Rattle.relay_chains.specs.TextHash.{folded, last_word, short_word, text_hash};
+
+/// A key for the hashes of texts: 128 bits, drawn from the system's source of random bytes and told to nobody who writes the texts.
+pub type TextKey = u128;
+
+/// A key for hashes that only say which texts have to be compared: who writes many of one hash gets them sorted, and no more.
+pub const FIXED_KEY: TextKey = 0x9e37_79b9_7f4a_7c15_0000_0000_0000_0000;
 
 // An odd number whose bits look drawn at random: the golden ratio's first 64 bits.
 const MULTIPLIER: u64 = 0x9e37_79b9_7f4a_7c15;
 
 /// The hash of a text under a key.
 ///
-/// Eight bytes at a time are joined to the state by xor, and the halves of the 128 bits of the state's product with a fixed number by
-/// another. The text's last eight bytes come last, of which some or all may have come before; a text of fewer bytes is one word. Which
-/// texts have one hash depends on the key: it isn't known of any two texts that they have one under many keys. Who knows the key can
-/// find such texts at will.
-pub fn hash_text(key: u64, text: &[u8]) -> u32
+/// Its lower half is what the state begins with, and its upper half what the state is multiplied by when eight bytes were joined to it by
+/// xor; the halves of the 128 bits of each product are joined alike. The text's last eight bytes come last, of which some or all may have
+/// come before; a text of fewer bytes is one word. So who doesn't know the key knows neither a word that takes the state away nor two texts
+/// whose hashes are more likely to be one than those of any others.
+pub fn hash_text(key: TextKey, text: &[u8]) -> u32
     ensures { result ≡ text_hash key text.now }
 {
-    let mut state = key.wrapping_add(text.len() as u64);
+    let multiplier = (key >> 64) as u64 | 1;
+    let mut state = ((key & 0xFFFF_FFFF_FFFF_FFFF) as u64).wrapping_add(text.len() as u64);
     let mut rest = text;
     'words: while let Some((word, behind)) = rest.split_first_chunk::<8>() {
-        state = mixed(state ^ u64::from_le_bytes(*word));
+        state = mixed(state ^ u64::from_le_bytes(*word), multiplier);
         rest = behind;
     }
-    (mixed(state ^ last_word(text)) >> 32) as u32
+    let last = mixed(state ^ last_word(text), multiplier);
+    (mixed(last, MULTIPLIER) >> 32) as u32
 }
 
-// Each bit of the state has a part in each bit of this.
+// Each bit of both has a part in each bit of this.
 #[tactic(auto, unfolding(crate::specs::TextHash::folded))]
-fn mixed(state: u64) -> u64
-    ensures { result ≡ folded state }
+fn mixed(state: u64, multiplier: u64) -> u64
+    ensures { result ≡ folded multiplier state }
 {
-    let product = state as u128 * MULTIPLIER as u128;
+    let product = state as u128 * multiplier as u128;
     (product & 0xFFFF_FFFF_FFFF_FFFF) as u64 ^ (product >> 64) as u64
 }
 

@@ -8,8 +8,6 @@
 mod round;
 mod seat;
 mod steps;
-#[cfg(test)]
-mod tests;
 mod view;
 
 pub use relay_chains::Key;

@@ -1,6 +1,7 @@
 //! The routes of addresses.
 use crate::known_ways::KnownWays;
 use crate::numbered_routes::NumberedRoutes;
+use relay_chains::TextKey;
 use std::marker::Model;
 
 /// The routes of the addresses that were asked for, and the reasons why there is none, each under its number from 0 up. Contracts see it
@@ -58,7 +59,7 @@ impl<'r> Destinations<'r> {
         alloc: Global,
         router: &'r Router,
         via: &'r Via,
-        key: u64,
+        key: TextKey,
     ) -> Result<Destinations<'r>, AllocError>
         ensures { IfOk result (λ found. found ≡ record { routing = router.entry.now; via = via.entry.now; routes = []; reasons = [] }) }
     {

@@ -1,6 +1,6 @@
 //! Ways by text.
 use crate::way::Way;
-use relay_chains::Interner;
+use relay_chains::{Interner, TextKey};
 use std::marker::Model;
 
 /// Distinct texts, each with its way. Contracts see them as a list of pairs, in the order in which they came.
@@ -33,11 +33,11 @@ use std::alloc::{AllocError, Global};
 
 impl KnownWays {
     /// No texts yet. The key is that of their hashes.
-    pub(crate) fn new(alloc: Global, key: u64) -> Result<KnownWays, AllocError>
+    pub(crate) fn new(alloc: Global, key: TextKey) -> Result<KnownWays, AllocError>
         ensures { IfOk result (λ known. known ≡ []) }
     {
         Ok(KnownWays {
-            texts: Interner::with_key(alloc, key, 1, u32::MAX as usize - 1)?,
+            texts: Interner::new(alloc, key, 1, u32::MAX as usize - 1)?,
             ways: Vec::new(alloc),
             latest: 0,
             comes_again: false,

@@ -1,5 +1,6 @@
 //! Routes by destination.
 use crate::known_ways::KnownWays;
+use relay_chains::TextKey;
 use relay_routes::{Route, RouteFinder, Router, Unrouted, Via};
 use std::marker::Model;
 
@@ -60,7 +61,7 @@ impl<'r> NumberedRoutes<'r> {
         alloc: Global,
         router: &'r Router,
         via: &'r Via,
-        key: u64,
+        key: TextKey,
     ) -> Result<NumberedRoutes<'r>, AllocError>
         ensures { IfOk result (λ numbered. numbered.found ≡ record { routing = router.entry.now; via = via.entry.now; routes = []; reasons = [] }) }
     {

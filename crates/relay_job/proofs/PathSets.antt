@@ -12,7 +12,7 @@ use Rattle.std.proofs.lemmas.Map.Lookups.{exact_bytes}
 use Rattle.std.proofs.lemmas.Cmp.{nat_cmp_total, nat_list_cmp_total, tied_itself}
 use Rattle.std.proofs.lemmas.Slice.Eq.{bytes_eq-Decides}
 use Rattle.relay_text.specs.Bytes.{has_text}
-use Rattle.relay_chains.specs.TextHash.{text_hash}
+use Rattle.relay_chains.specs.TextHash.{fixed_key, text_hash}
 use Rattle.relay_job.specs.declared.hashed_path.HashedPath.{HashedPath}
 use Rattle.relay_job.specs.PathSets.{paths_of}
 
@@ -29,7 +29,7 @@ same_path h g = at (nat_cmp h.hash g.hash) where
 
 tied_paths : (h g : HashedPath) → h.path.now ≡ g.path.now → hashed_cmp h g ≡ Equal
 tied_paths h g e =
-    let hashes : h.hash ≡ g.hash = h.hash_of_path ∙ ap (text_hash 0) e ∙ sym g.hash_of_path in
+    let hashes : h.hash ≡ g.hash = h.hash_of_path ∙ ap (text_hash fixed_key) e ∙ sym g.hash_of_path in
     ap (λ n. ordering_then (nat_cmp n g.hash) (slice_cmp nat_cmp h.path.now g.path.now)) hashes
     ∙ ap (λ o. ordering_then o (slice_cmp nat_cmp h.path.now g.path.now)) (tied_itself nat_cmp_total g.hash)
     ∙ ap (λ (t : List ℕ). slice_cmp nat_cmp t g.path.now) e

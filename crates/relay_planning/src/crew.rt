@@ -28,6 +28,7 @@ impl<'a, G, R> Crew<'a, G, R> {
             alloc: self.alloc,
             workers: self.options.workers,
             cut: self.options.cut,
+            salt: (self.options.key & 0xFFFF_FFFF_FFFF_FFFF) as u64,
             gate: self.gate,
         }
     }

@@ -7,9 +7,8 @@ use relay_tables::Tables;
 pub struct Lookup {
     pub tables: Tables,
     pub router: Router,
-    /// A key for the hashes of names, domains and nexthops, in which all files and tables have a part. Who writes some of them doesn't know
-    /// which names have one hash under it.
-    pub key: u64,
+    /// The key of the hashes of names, domains and nexthops.
+    pub key: TextKey,
 }
 
 ghost use Rattle.std.specs.Prelude.{◌≡◌, map, IsOk, IfOk, OnOk};
@@ -33,7 +32,7 @@ use crate::routing::{push_copies, route_settings_of};
 use crate::table::Table;
 use crate::texts::{report_file, report_file_by, report_table};
 use relay_aliasfile::{AliasFile, MailboxFile};
-use relay_chains::hash_text;
+use relay_chains::TextKey;
 use relay_job::{Job, Settings};
 use relay_rounds::Gate;
 use relay_routes::{MxTable, RouteSettings, TransportTable};
@@ -41,51 +40,7 @@ use relay_tables::{IncludeEntry, Local, parsed_files};
 use relay_text::{Seq, Text};
 use relay_wire::{FindingLines, KeptFindings};
 use std::alloc::{AllocError, Global};
-use std::thread::{Threads, join};
-
-// An odd number whose bits look drawn at random: the first 64 bits of the root of 5.
-const MULTIPLIER: u64 = 0x3c6e_f372_fe94_f82b;
-
-/// The key of a job's files and tables.
-fn key_of(job: &Job) -> u64 {
-    let mut key = job.settings.seed;
-    for table in [&job.aliases, &job.mailboxes, &job.transport, &job.mx] {
-        key = key.wrapping_mul(MULTIPLIER) ^ u64::from(hash_text(key, table.as_bytes()));
-    }
-    key
-}
-
-// From so many bytes on a job's key is made beside its parsing: starting a thread takes as long as the key of some 100 kilobytes.
-const LONG_JOB: usize = 1 << 20;
-
-// The length of the longest of a job's files and tables.
-fn longest_text(job: &Job) -> usize {
-    let files = job.aliases.len().max(job.mailboxes.len());
-    files.max(job.transport.len()).max(job.mx.len())
-}
-
-/// The key of a job's files and tables, and what is parsed of them by so many workers. The key is made in a new thread, where there are
-/// several and it's worth that.
-fn keyed<R: Threads + Sync>(
-    rt: &R,
-    alloc: Global,
-    workers: usize,
-    job: &Job,
-) -> (u64, Result<Parsed, AllocError>)
-    ensures { IfOk result.1 (AreParsed job.now) }
-{
-    if workers < 2 || longest_text(job) < LONG_JOB {
-        return (key_of(job), Parsed::by_workers(rt, alloc, workers, job));
-    }
-    join(
-        rt,
-        || -> u64 { key_of(job) },
-        || -> Result<Parsed, AllocError>
-            requires { IsSync R.row }
-            ensures { IfOk result (AreParsed job.entry.now) }
-        { Parsed::by_workers(rt, alloc, workers, job) },
-    )
-}
+use std::thread::Threads;
 
 /// Which domains are local, and how a local name is read.
 fn local_of(alloc: Global, settings: &Settings) -> Result<Local, AllocError>
@@ -206,7 +161,7 @@ fn read_settings<K: KeptFindings>(
 fn tables_of(
     alloc: Global,
     job: &Job,
-    key: u64,
+    key: TextKey,
     local: Local,
     files: (AliasFile, MailboxFile),
     includes: Vec<IncludeEntry>,
@@ -229,7 +184,7 @@ impl Lookup {
     fn joined(
         alloc: Global,
         job: &Job,
-        key: u64,
+        key: TextKey,
         parsed: Parsed,
         settings: TableSettings,
         includes: Vec<IncludeEntry>,
@@ -264,7 +219,7 @@ impl Lookup {
     fn of<K: KeptFindings>(
         alloc: Global,
         job: &Job,
-        key: u64,
+        key: TextKey,
         parsed: Parsed,
         includes: Result<Vec<IncludeEntry>, AllocError>,
         lines: &mut FindingLines<K>,
@@ -283,9 +238,11 @@ impl Lookup {
         Lookup::joined(alloc, job, key, parsed, settings, includes)
     }
 
-    /// What the files and tables of a job say. Adds the lines of those that are at fault. `Err` where memory runs out.
+    /// What the files and tables of a job say, whose texts are hashed under the key. Adds the lines of those that are at fault. `Err` where
+    /// memory runs out.
     pub fn read<K: KeptFindings>(
         alloc: Global,
+        key: TextKey,
         job: &Job,
         lines: &mut FindingLines<K>,
     ) -> Result<Lookup, AllocError>
@@ -294,9 +251,9 @@ impl Lookup {
         ensures router { IfOk result (λ lookup. lookup.router ≡ routing_of job.now) }
         ensures lines { OnOk result (ReportsWhere lines.old lines.new (has_fault_line job.now)) }
     {
-        let parsed = Parsed::one_by_one(alloc, job)?;
+        let parsed = Parsed::one_by_one(alloc, key, job)?;
         let includes = read_files(alloc, job, &parsed, lines);
-        Lookup::of(alloc, job, key_of(job), parsed, includes, lines)
+        Lookup::of(alloc, job, key, parsed, includes, lines)
     }
 
     /// The same by a crew, which shares the work where files and tables are long, or many lines at fault.
@@ -310,9 +267,9 @@ impl Lookup {
         ensures router { IfOk result (λ lookup. lookup.router ≡ routing_of job.now) }
         ensures lines { OnOk result (ReportsWhere lines.old lines.new (has_fault_line job.now)) }
     {
-        let (key, parsed) = keyed(crew.rt, crew.alloc, crew.options.workers, job);
-        let parsed = parsed?;
-        let includes = read_files_by(&crew.of_shares(), job, &parsed, lines);
-        Lookup::of(crew.alloc, job, key, parsed, includes, lines)
+        let shares = crew.of_shares();
+        let parsed = Parsed::by_crew(&shares, crew.options.key, job)?;
+        let includes = read_files_by(&shares, job, &parsed, lines);
+        Lookup::of(crew.alloc, job, crew.options.key, parsed, includes, lines)
     }
 }

@@ -2,6 +2,7 @@
 ghost use Rattle.std.specs.Prelude.{◌≡◌, IfOk};
 ghost use Rattle.relay_planning.specs.Written.{text_in};
 
+use relay_chains::TextKey;
 use relay_text::Text;
 use relay_wire::plan::plan_text;
 use relay_wire::{Plan, wire_text};
@@ -28,27 +29,17 @@ impl Form {
     }
 }
 
-/// How the answer is written, and how the work is divided, which changes no byte of the answer.
-#[derive(Clone, Copy, Debug, PartialEq, Eq)]
+/// How the answer is written, and how the work is divided and texts are hashed, which changes no byte of the answer.
+#[derive(Clone, Copy)]
 pub struct Options {
     pub form: Form,
     /// How many threads, from 1 to 64.
     pub workers: usize,
     /// How many pairs of sender and node a thread takes at once, from 1 to 1,048,576.
     pub cut: usize,
-}
-
-impl Default for Options {
-    /// A plan's lines, by four threads that take 1,024 pairs at once.
-    fn default() -> Options
-        ensures { result ≡ record { form = Form.Plan; workers = 4; cut = 1024 } }
-    {
-        Options {
-            form: Form::Plan,
-            workers: 4,
-            cut: 1024,
-        }
-    }
+    /// What texts are hashed under. Who writes jobs must not know it: he could write one that takes a time that grows with the square of its
+    /// length. Draw it once from the system's source of random bytes.
+    pub key: TextKey,
 }
 
 /// How much a run takes.

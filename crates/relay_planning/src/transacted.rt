@@ -5,6 +5,7 @@
 //! before that, while the graph is made and searched ([`reached_beside_ways`]). What each step leaves behind is let go of where nobody waits for
 //! it: the tables behind those lines, and the basis by who writes the transactions.
 use crate::reached_graph::ReachedGraph;
+use relay_chains::TextKey;
 use relay_routes::Router;
 use relay_wire::Planned;
 
@@ -294,7 +295,7 @@ fn transactions_by_tables<G: Gate, R: Threads + Sync, K: KeptFindings + Send + D
     job: &JobView<'_>,
     tables: Tables,
     router: &Router,
-    key: u64,
+    key: TextKey,
     lines: &mut FindingLines<K>,
 ) -> Result<(Vec<Planned>, ReachedGraph), RunFault>
     requires tables { tables ≡ directory_of job.now }

@@ -35,12 +35,12 @@ pub(crate) fn home_of(key: Key, parts: usize) -> usize
 }
 
 impl Part {
-    pub(crate) fn new(alloc: Global) -> Result<Part, AllocError>
+    pub(crate) fn new(alloc: Global, salt: u64) -> Result<Part, AllocError>
         ensures { IfOk result (λ part. (part.shard ≡ []) × (part.refused ≡ false)) }
     {
         Ok(Part {
             alloc,
-            shard: Shard::new(alloc)?,
+            shard: Shard::new(alloc, salt)?,
             refused: false,
         })
     }

@@ -48,9 +48,10 @@ pub fn reach<S: Steps, G: Gate, R: Threads + Sync>(
         alloc,
         workers,
         cut,
+        salt,
         gate,
     } = *crew;
-    let mut settled = Settled::new(alloc, workers)?;
+    let mut settled = Settled::new(alloc, workers, salt)?;
     let mut offered = Vec::from_slice(alloc, roots)?;
     let mut kept = Kept::new(alloc);
     let mut next = Vec::new(alloc);
@@ -71,6 +72,7 @@ pub fn reach<S: Steps, G: Gate, R: Threads + Sync>(
             keys: offered.as_slice(),
             settled: &settled,
             cut,
+            salt,
         };
         winners(rt, &offers, workers, gate, &mut kept)?;
         offered.clear();

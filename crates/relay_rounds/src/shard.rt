@@ -5,7 +5,7 @@ ghost use Rattle.relay_rounds.specs.Shards.{is_there, Grows};
 
 use crate::bits::{has_bit, with_bit};
 use crate::block::{BLOCK, Block};
-use crate::spread::{heads_from, spread};
+use crate::spread::heads_from;
 use relay_chains::{Chains, Key};
 use std::alloc::{AllocError, Global};
 use std::marker::Model;
@@ -22,8 +22,7 @@ const FIRST_HEADS: usize = 15;
 pub(crate) struct Shard {
     chains: Chains,
     heads: usize,
-    // Of all blocks' numbers; the next number of heads hangs on it.
-    sum: u64,
+    salt: u64,
     words: Vec<u64>,
 }
 
@@ -60,14 +59,14 @@ fn rebuilt(alloc: Global, chains: &Chains, heads: usize) -> Result<Chains, Alloc
 }
 
 impl Shard {
-    pub(crate) fn new(alloc: Global) -> Result<Shard, AllocError>
+    pub(crate) fn new(alloc: Global, salt: u64) -> Result<Shard, AllocError>
         ensures { IfOk result (λ shard. shard ≡ []) }
     {
         let chains = Chains::new(alloc, FIRST_HEADS, LIMIT)?;
         Ok(Shard {
             chains,
             heads: FIRST_HEADS,
-            sum: 0,
+            salt,
             words: Vec::new(alloc),
         })
     }
@@ -88,7 +87,7 @@ impl Shard {
         if self.chains.len() < self.heads {
             return Ok(());
         }
-        let heads = heads_from(self.heads + self.heads / 2, self.sum);
+        let heads = heads_from(self.heads + self.heads / 2, self.salt);
         self.chains = rebuilt(alloc, &self.chains, heads)?;
         self.heads = heads;
         Ok(())
@@ -105,7 +104,6 @@ impl Shard {
             return Err(AllocError);
         };
         if new {
-            self.sum = self.sum.wrapping_add(spread(key / BLOCK));
             self.words.push_reserved(with_bit(0, key % BLOCK));
             return Ok(true);
         }

@@ -5,25 +5,20 @@ ghost use Rattle.relay_rounds.specs.Searches.{AreNewOf};
 use crate::gate::Gate;
 use crate::kept::Kept;
 use crate::offers::Offers;
-use crate::spread::{heads_from, spread};
+use crate::spread::heads_from;
 use crate::worker::Worker;
 use crate::workers::work_all;
-use relay_chains::Key;
 use relay_claims::Round;
 use std::alloc::AllocError;
 use std::mem;
 use std::thread::Threads;
 
-// How many heads a round takes: between half as many as its keys and as many.
-fn heads_for(keys: &[Key]) -> usize
+// How many heads a round of so many keys takes: between half as many and as many.
+fn heads_for(keys: usize, salt: u64) -> usize
     ensures some { 1 ≤ result }
     ensures few { result ≤ 2 ^ 32 }
 {
-    let mut sum = 0u64;
-    for key in keys {
-        sum = sum.wrapping_add(spread(*key));
-    }
-    heads_from((keys.len() / 2).min(2147483647), sum)
+    heads_from((keys / 2).min(2147483647), salt)
 }
 
 /// Wins each offered key that isn't settled once, by so many threads, but no more than there are pieces.
@@ -38,7 +33,7 @@ pub(crate) fn winners<G: Gate, R: Threads + Sync>(
     ensures { OnOk result (AreNewOf offers.now.settled.now offers.now.keys.now kept.new.won.items) }
 {
     let keys = offers.keys;
-    let heads = heads_for(keys);
+    let heads = heads_for(keys.len(), offers.salt);
     let count = 1 + heads + keys.len();
     kept.zeros.grow(count)?;
     let zeros = kept.zeros.first(count);

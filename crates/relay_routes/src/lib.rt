@@ -27,7 +27,6 @@ mod room;
 pub mod route;
 mod route_finder;
 pub mod router;
-mod text_key;
 pub mod transport;
 pub mod transport_line;
 pub mod transport_table;

@@ -6,8 +6,8 @@ use crate::mx_records::MxRecords;
 use crate::preferences::{before_relay, hosts_in_order, without_null};
 use crate::record_lines::RecordLines;
 use crate::room::BYTES_FOR_LINE;
-use crate::text_key::key_of;
 use crate::unrouted::Unrouted;
+use relay_chains::TextKey;
 use relay_halves::{PartRead, about_lines, read_by};
 use relay_text::{Seq, Text, TextSet};
 use std::alloc::{AllocError, Global};
@@ -49,36 +49,43 @@ ghost use Rattle.relay_routes.specs.Routes.{Answers};
 impl MxTable {
     /// The records of a table: on each line that isn't ignored `domain MX number host` or `domain A`, fields apart by white space, the
     /// words in any case. The number is of decimal digits and up to 65535, leading zeros taken; domain and host are names, not address
-    /// literals, and the host may be the `.` of the null MX with the number 0 (RFC 7505 section 3). Names are put into lower case.
-    /// Every text is accepted: any other line is `BadLine`. `Err` where memory runs out.
-    pub fn parse(alloc: Global, bytes: &[u8]) -> Result<MxTable, AllocError>
+    /// literals, and the host may be the `.` of the null MX with the number 0 (RFC 7505 section 3). Names are put into lower case,
+    /// and hashed under the key. Every text is accepted: any other line is `BadLine`. `Err` where memory runs out.
+    pub fn parse(alloc: Global, key: TextKey, bytes: &[u8]) -> Result<MxTable, AllocError>
         ensures { IfOk result (λ table. table ≡ mx_table_of bytes.now) }
     {
         let lines = RecordLines::read(alloc, bytes.len() / BYTES_FOR_LINE, 0, bytes)?;
-        MxTable::of_lines(alloc, bytes, lines)
+        MxTable::of_lines(alloc, key, bytes, lines)
     }
 
     /// The same by so many threads, where the text is long. `Err` where memory runs out.
     pub fn parse_by<R: Threads + Sync>(
         rt: &R,
         alloc: Global,
+        key: TextKey,
         workers: usize,
         bytes: &[u8],
     ) -> Result<MxTable, AllocError>
         ensures { IfOk result (λ table. table ≡ mx_table_of bytes.now) }
     {
         let lines = read_by(rt, alloc, workers, about_lines(bytes), 0, bytes)?;
-        MxTable::of_lines(alloc, bytes, lines)
+        MxTable::of_lines(alloc, key, bytes, lines)
     }
 
     /// The table of a text, of whose lines this was read.
-    fn of_lines(alloc: Global, bytes: &[u8], lines: RecordLines) -> Result<MxTable, AllocError>
+    fn of_lines(
+        alloc: Global,
+        key: TextKey,
+        bytes: &[u8],
+        lines: RecordLines,
+    ) -> Result<MxTable, AllocError>
         requires { AreRead 0 bytes.now lines }
         ensures { IfOk result (λ table. table ≡ mx_table_of bytes.now) }
     {
+        let _ = bytes;
         let RecordLines { records, faults } = lines;
         Ok(MxTable {
-            records: MxRecords::of(alloc, key_of(bytes), records)?,
+            records: MxRecords::of(alloc, key, records)?,
             faults: Seq::of(faults),
         })
     }

@@ -7,8 +7,8 @@ ghost use Rattle.relay_routes.specs.MxRecords.{domain_hash, own_exchange, is_own
 
 use crate::exchange::Exchange;
 use crate::mx_record::MxRecord;
-use crate::text_key::MOST_TEXTS;
-use relay_chains::{Links, hash_text};
+use crate::room::MOST_TEXTS;
+use relay_chains::{Links, TextKey, hash_text};
 use relay_text::same_bytes;
 use std::alloc::{AllocError, Global};
 use std::marker::Model;
@@ -19,7 +19,7 @@ use std::marker::Model;
 pub(crate) struct MxRecords {
     records: Vec<MxRecord>,
     links: Links,
-    key: u64,
+    key: TextKey,
 }
 
 impl Model for MxRecords {
@@ -38,7 +38,7 @@ impl MxRecords {
     /// The records with their links. The key is that of the hashes of their domains. `Err` where memory runs out.
     pub(crate) fn of(
         alloc: Global,
-        key: u64,
+        key: TextKey,
         records: Vec<MxRecord>,
     ) -> Result<MxRecords, AllocError>
         ensures { IfOk result (λ r. r ≡ records.items) }
@@ -112,7 +112,7 @@ fn is_own_address(candidate: &MxRecord, domain: &[u8]) -> bool
 }
 
 /// The hashes of the records' domains.
-fn domain_hashes(alloc: Global, key: u64, records: &[MxRecord]) -> Result<Vec<u32>, AllocError>
+fn domain_hashes(alloc: Global, key: TextKey, records: &[MxRecord]) -> Result<Vec<u32>, AllocError>
     ensures { IfOk result (λ hashes. hashes.items ≡ map (domain_hash key) records.now) }
 {
     let mut hashes = Vec::with_capacity(alloc, records.len())?;

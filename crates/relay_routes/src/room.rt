@@ -8,3 +8,6 @@ pub(crate) const BYTES_FOR_LINE: usize = 64;
 
 /// For so many bytes there is one head of 4 bytes: about two for each short line, so that the heads are seldom doubled.
 pub(crate) const BYTES_FOR_HEAD: usize = 16;
+
+/// How many texts of a table are numbered at most: each number fits 32 bits.
+pub(crate) const MOST_TEXTS: usize = u32::MAX as usize - 1;

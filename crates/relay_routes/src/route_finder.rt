@@ -2,7 +2,7 @@
 use crate::hosts::Hosts;
 use crate::router::Router;
 use crate::unrouted::Unrouted;
-use relay_chains::Interner;
+use relay_chains::{Interner, TextKey};
 use std::marker::Model;
 
 /// What finds the routes of destinations, and looks up the mail exchangers of a host once, whatever ports stand behind it. Contracts see
@@ -33,8 +33,8 @@ ghost use Rattle.relay_routes.specs.Routes.{Answers, exchangers_of, route_by, ro
 
 use crate::form::{Form, form_of};
 use crate::host_form::HostForm;
+use crate::room::MOST_TEXTS;
 use crate::route::{Route, route_to_exchangers};
-use crate::text_key::MOST_TEXTS;
 use crate::transport::Transport;
 use relay_text::Text;
 use std::alloc::{AllocError, Global};
@@ -54,12 +54,16 @@ fn copy_of(
 
 impl<'r> RouteFinder<'r> {
     /// Nothing is looked up yet. The key is that of the hashes of domains: who writes them must not know it. `Err` where memory runs out.
-    pub fn new(alloc: Global, router: &'r Router, key: u64) -> Result<RouteFinder<'r>, AllocError>
+    pub fn new(
+        alloc: Global,
+        router: &'r Router,
+        key: TextKey,
+    ) -> Result<RouteFinder<'r>, AllocError>
         ensures { IfOk result (λ finder. finder ≡ router.entry.now) }
     {
         Ok(RouteFinder {
             router,
-            domains: Interner::with_key(alloc, key, 1, MOST_TEXTS)?,
+            domains: Interner::new(alloc, key, 1, MOST_TEXTS)?,
             found: Vec::new(alloc),
         })
     }

@@ -1,14 +1,14 @@
 //! The transport table.
 use crate::fault::LineFault;
 use crate::transport_line::TransportLine;
-use relay_chains::Links;
+use relay_chains::{Links, TextKey};
 use std::marker::Model;
 
 /// A transport table (transport(5)): patterns, each with what it says of the addresses that it fits, and the lines at fault.
 pub struct TransportTable {
     entries: Vec<TransportLine>,
     links: Links,
-    key: u64,
+    key: TextKey,
     faults: Vec<LineFault>,
     /// Whether a pattern has an `@`, as that of an address has. Most tables have none, and then no address is written as a key.
     has_addresses: bool,
@@ -50,8 +50,7 @@ use crate::choice::Choice;
 use crate::fault::FaultKind;
 use crate::pattern::{address_key, is_literal};
 use crate::pattern_lines::PatternLines;
-use crate::room::{BYTES_FOR_HEAD, BYTES_FOR_LINE};
-use crate::text_key::{MOST_TEXTS, key_of};
+use crate::room::{BYTES_FOR_HEAD, BYTES_FOR_LINE, MOST_TEXTS};
 use crate::transport_line::line_of;
 use relay_chains::hash_text;
 use relay_halves::{about_lines, is_long, read_by};
@@ -60,13 +59,14 @@ use std::alloc::{AllocError, Global};
 use std::thread::Threads;
 
 impl TransportTable {
-    /// The table that a text is (transport(5), "TABLE FORMAT"). Every text is taken: of several lines with one pattern the first
-    /// holds, a later one is a `Duplicate`; any other line that is no pattern and result is a `BadLine`. `Err` where memory runs out.
-    pub fn parse(alloc: Global, bytes: &[u8]) -> Result<TransportTable, AllocError>
+    /// The table that a text is (transport(5), "TABLE FORMAT"), whose patterns are hashed under the key. Every text is taken: of several lines
+    /// with one pattern the first holds, a later one is a `Duplicate`; any other line that is no pattern and result is a `BadLine`. `Err` where
+    /// memory runs out.
+    pub fn parse(alloc: Global, key: TextKey, bytes: &[u8]) -> Result<TransportTable, AllocError>
         ensures { IfOk result (λ table. table ≡ transport_table_of bytes.now) }
     {
         let mut lines = LogicalLines::new(alloc, bytes)?;
-        let mut table = TransportTable::without_lines(alloc, bytes, lines.orphans())?;
+        let mut table = TransportTable::without_lines(alloc, key, bytes, lines.orphans())?;
         let mut joined = Vec::new(alloc);
         while let Some(line) = lines.next_line(&mut joined)? {
             table.add(alloc, line)?;
@@ -78,24 +78,26 @@ impl TransportTable {
     pub fn parse_by<R: Threads + Sync>(
         rt: &R,
         alloc: Global,
+        key: TextKey,
         workers: usize,
         bytes: &[u8],
     ) -> Result<TransportTable, AllocError>
         ensures { IfOk result (λ table. table ≡ transport_table_of bytes.now) }
     {
         if !is_long(workers, bytes) {
-            return TransportTable::parse(alloc, bytes);
+            return TransportTable::parse(alloc, key, bytes);
         }
         let lines = read_by(rt, alloc, workers, about_lines(bytes), 0, bytes)?;
-        match TransportTable::of_distinct(alloc, bytes, lines)? {
+        match TransportTable::of_distinct(alloc, key, bytes, lines)? {
             Some(table) => Ok(table),
-            None => TransportTable::parse(alloc, bytes),
+            None => TransportTable::parse(alloc, key, bytes),
         }
     }
 
     /// The table of a text whose lines these are; `None` where a pattern comes again, or where more lines are good than are numbered.
     fn of_distinct(
         alloc: Global,
+        key: TextKey,
         bytes: &[u8],
         lines: PatternLines,
     ) -> Result<Option<TransportTable>, AllocError>
@@ -106,7 +108,7 @@ impl TransportTable {
         if entries.len() >= MOST_TEXTS {
             return Ok(None);
         }
-        let key = key_of(bytes);
+        let _ = bytes;
         let links = pattern_links(alloc, key, &entries)?;
         if has_repeat(&entries, &links, key) {
             return Ok(None);
@@ -229,6 +231,7 @@ impl TransportTable {
     /// length how much room is taken ahead.
     fn without_lines(
         alloc: Global,
+        key: TextKey,
         bytes: &[u8],
         orphans: &[usize],
     ) -> Result<TransportTable, AllocError>
@@ -245,7 +248,7 @@ impl TransportTable {
         Ok(TransportTable {
             entries: Vec::with_capacity(alloc, bytes.len() / BYTES_FOR_LINE)?,
             links: Links::new(alloc, heads)?,
-            key: key_of(bytes),
+            key,
             faults,
             has_addresses: false,
         })
@@ -300,7 +303,7 @@ impl TransportTable {
 }
 
 /// The place of the first entry of a pattern.
-fn place_of(entries: &[TransportLine], links: &Links, key: u64, pattern: &[u8]) -> Option<u32>
+fn place_of(entries: &[TransportLine], links: &Links, key: TextKey, pattern: &[u8]) -> Option<u32>
     requires { links.now ≡ map (pattern_hash key) entries.now }
     ensures { result ≡ position (λ e. bytes_eq pattern.now e.pattern) entries.now }
 {
@@ -314,7 +317,11 @@ fn place_of(entries: &[TransportLine], links: &Links, key: u64, pattern: &[u8]) 
 }
 
 /// The hashes of the patterns of entries, each under the number of its place.
-fn pattern_links(alloc: Global, key: u64, entries: &[TransportLine]) -> Result<Links, AllocError>
+fn pattern_links(
+    alloc: Global,
+    key: TextKey,
+    entries: &[TransportLine],
+) -> Result<Links, AllocError>
     requires { length entries.now < 2 ^ 32 - 2 }
     ensures { IfOk result (λ links. links ≡ map (pattern_hash key) entries.now) }
 {
@@ -326,7 +333,7 @@ fn pattern_links(alloc: Global, key: u64, entries: &[TransportLine]) -> Result<L
 }
 
 /// Whether a pattern of these entries comes again. Of nearly all of them no other one has the hash, and then none is read.
-fn has_repeat(entries: &[TransportLine], links: &Links, key: u64) -> bool
+fn has_repeat(entries: &[TransportLine], links: &Links, key: TextKey) -> bool
     requires linked { links.now ≡ map (pattern_hash key) entries.now }
     requires few { length entries.now < 2 ^ 32 - 2 }
     ensures { result ≡ false → AreNew [] entries.now }
@@ -340,7 +347,7 @@ fn has_repeat(entries: &[TransportLine], links: &Links, key: u64) -> bool
 }
 
 /// Whether the pattern of the entry at a place stands before it.
-fn is_repeat(entries: &[TransportLine], links: &Links, key: u64, number: u32) -> bool
+fn is_repeat(entries: &[TransportLine], links: &Links, key: TextKey, number: u32) -> bool
     requires linked { links.now ≡ map (pattern_hash key) entries.now }
     requires few { length entries.now < 2 ^ 32 - 2 }
     requires within { number < length entries.now }

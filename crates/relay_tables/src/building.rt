@@ -14,6 +14,7 @@ use crate::node::Node;
 use crate::numbering::Numbering;
 use crate::rowing::{Scratch, number_entries, number_recipients};
 use crate::tables::Tables;
+use relay_chains::TextKey;
 use relay_text::Address;
 use std::alloc::Global;
 
@@ -85,7 +86,7 @@ struct Begun {
 fn number_front(
     alloc: Global,
     tables: &Tables,
-    key: u64,
+    key: TextKey,
     heads: usize,
     earlier: Earlier,
     names: usize,
@@ -108,7 +109,7 @@ fn number_front(
 fn begin(
     alloc: Global,
     tables: &Tables,
-    key: u64,
+    key: TextKey,
     heads: usize,
     earlier: Earlier,
     names: usize,

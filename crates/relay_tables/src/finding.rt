@@ -8,13 +8,13 @@ ghost use Rattle.relay_tables.specs.Numbering.{node_of, node_hash};
 use crate::lead::Lead;
 use crate::node::Node;
 use crate::node_hashes::NodeHashes;
-use relay_chains::hash_text;
+use relay_chains::{TextKey, hash_text};
 use relay_text::{Address, one_joined_text, same_bytes};
 use std::alloc::{AllocError, Global};
 
 /// The hash of what a lead leads to.
 #[tactic(auto, unfolding(crate::specs::Numbering::node_hash))]
-pub(crate) fn lead_hash(key: u64, lead: Lead<'_>) -> u32
+pub(crate) fn lead_hash(key: TextKey, lead: Lead<'_>) -> u32
     ensures { result ≡ node_hash key (node_of lead.entry) }
 {
     match lead {
@@ -70,7 +70,7 @@ pub(crate) fn find_node(
     alloc: Global,
     nodes: &[Node],
     hashes: &mut NodeHashes,
-    key: u64,
+    key: TextKey,
     hash: u32,
     lead: Lead<'_>,
 ) -> Result<Option<u32>, AllocError>

@@ -10,7 +10,7 @@ use crate::marking::{MARKS, marks_of};
 use crate::named::Named;
 use crate::owning::entry_owners;
 use relay_aliasfile::Entry;
-use relay_chains::{Links, hash_text};
+use relay_chains::{Links, TextKey, hash_text};
 use relay_text::{Text, TextSet, same_bytes};
 use std::alloc::{AllocError, Global};
 
@@ -19,7 +19,7 @@ use std::alloc::{AllocError, Global};
 pub(crate) struct Indices {
     pub(crate) domains: TextSet,
     pub(crate) marks: [bool; MARKS],
-    pub(crate) key: u64,
+    pub(crate) key: TextKey,
     pub(crate) aliases: Links,
     pub(crate) includes: Links,
     pub(crate) mailboxes: Links,
@@ -30,7 +30,7 @@ impl Indices {
     /// Those of the tables of these settings and lists, by hashes under a key. `Err` where memory runs out.
     pub(crate) fn of(
         alloc: Global,
-        key: u64,
+        key: TextKey,
         local: &Local,
         entries: &[Entry],
         includes: &[IncludeEntry],
@@ -59,7 +59,7 @@ impl Indices {
 }
 
 // The hashes of the names of these.
-fn links_of<T: Named>(alloc: Global, key: u64, items: &[T]) -> Result<Links, AllocError>
+fn links_of<T: Named>(alloc: Global, key: TextKey, items: &[T]) -> Result<Links, AllocError>
     requires { length items.now < 2 ^ 32 - 2 }
     ensures { IfOk result (λ links. links ≡ map (λ item. text_hash key (T.name_in item)) items.now) }
 {
@@ -74,7 +74,7 @@ fn links_of<T: Named>(alloc: Global, key: u64, items: &[T]) -> Result<Links, All
 pub(crate) fn place_named<T: Named>(
     items: &[T],
     links: &Links,
-    key: u64,
+    key: TextKey,
     name: &[u8],
 ) -> Option<u32>
     requires { links.now ≡ map (λ item. text_hash key (T.name_in item)) items.now }

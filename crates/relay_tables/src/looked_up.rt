@@ -2,6 +2,7 @@
 use crate::earlier::Earlier;
 use crate::known_name::KnownName;
 use crate::tables::Tables;
+use relay_chains::TextKey;
 use relay_text::Address;
 use std::marker::Model;
 
@@ -16,7 +17,7 @@ use std::marker::Model;
 pub struct LookedUp<'a> {
     tables: &'a Tables,
     recipients: &'a [Address],
-    key: u64,
+    key: TextKey,
     items: Vec<KnownName>,
     roots: Vec<KnownName>,
     earlier: Earlier,

@@ -7,7 +7,7 @@ use crate::known_name::KnownName;
 use crate::tables::Tables;
 use crate::target::Target;
 use relay_aliasfile::Item;
-use relay_chains::hash_text;
+use relay_chains::{TextKey, hash_text};
 use relay_text::{Address, fold};
 use std::alloc::{AllocError, Global};
 
@@ -30,7 +30,7 @@ pub(crate) fn write_folded(local: &[u8], name: &mut Vec<u8>) -> Result<(), Alloc
 }
 
 // What is known of a folded name that stands for a target.
-fn known_as(key: u64, name: &[u8], target: Target) -> KnownName
+fn known_as(key: TextKey, name: &[u8], target: Target) -> KnownName
     ensures { result ≡ known_as key name.now target }
 {
     match target {
@@ -43,7 +43,7 @@ fn known_as(key: u64, name: &[u8], target: Target) -> KnownName
 // What a local name stands for in a parent; its folded name goes into `name` where that's another.
 fn known_of_name(
     tables: &Tables,
-    key: u64,
+    key: TextKey,
     local: &[u8],
     parent: Option<u32>,
     name: &mut Vec<u8>,
@@ -61,7 +61,7 @@ fn known_of_name(
 /// What an address stands for in a parent, and the hash of its node under a key. `Err` where memory runs out.
 pub(crate) fn known_of_address(
     tables: &Tables,
-    key: u64,
+    key: TextKey,
     address: &Address,
     parent: Option<u32>,
     name: &mut Vec<u8>,
@@ -78,7 +78,7 @@ pub(crate) fn known_of_address(
 /// What an item stands for in a parent, and the hash of its node under a key. `Err` where memory runs out.
 pub(crate) fn known_of_item(
     tables: &Tables,
-    key: u64,
+    key: TextKey,
     item: &Item,
     parent: Option<u32>,
     name: &mut Vec<u8>,

@@ -10,6 +10,7 @@ use crate::keys::make_node;
 use crate::lead::Lead;
 use crate::node::Node;
 use crate::node_hashes::NodeHashes;
+use relay_chains::TextKey;
 use std::alloc::{AllocError, Global};
 use std::marker::Model;
 
@@ -21,7 +22,7 @@ use std::marker::Model;
 pub(crate) struct Numbering {
     nodes: Vec<Node>,
     hashes: NodeHashes,
-    key: u64,
+    key: TextKey,
     aliases: usize,
     includes: usize,
     limit: usize,
@@ -42,7 +43,7 @@ impl Numbering {
     /// as other nodes are expected: there is room for these, so that none is copied and no head is made anew when they come.
     pub(crate) fn new(
         alloc: Global,
-        key: u64,
+        key: TextKey,
         aliases: usize,
         includes: usize,
         heads: usize,
@@ -73,7 +74,7 @@ impl Numbering {
     /// The same where other nodes are awaited with these hashes, in their order: there is room for as many.
     pub(crate) fn awaiting(
         alloc: Global,
-        key: u64,
+        key: TextKey,
         aliases: usize,
         includes: usize,
         earlier: Earlier,
@@ -137,7 +138,7 @@ impl Numbering {
     }
 
     /// The key under which nodes are found.
-    pub(crate) fn key(&self) -> u64
+    pub(crate) fn key(&self) -> TextKey
         ensures { result ≡ self.now.key }
     {
         self.key

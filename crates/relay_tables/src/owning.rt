@@ -8,7 +8,7 @@ ghost use Rattle.relay_tables.specs.Tables.{owner_place, AreOwners};
 ghost use Rattle.relay_tables.specs.Owning.{owner_or};
 
 use relay_aliasfile::Entry;
-use relay_chains::{Links, hash_text};
+use relay_chains::{Links, TextKey, hash_text};
 use relay_text::same_bytes;
 use std::alloc::{AllocError, Global};
 
@@ -18,7 +18,7 @@ use std::alloc::{AllocError, Global};
 /// What is looked up is the name behind each `owner-`, since few names begin so.
 pub(crate) fn entry_owners(
     alloc: Global,
-    key: u64,
+    key: TextKey,
     entries: &[Entry],
     links: &Links,
 ) -> Result<Vec<Option<u32>>, AllocError>
@@ -65,7 +65,7 @@ fn owned_name(name: &[u8]) -> Option<&[u8]>
 
 // Gives an owner to each entry of a name that has none.
 fn give_owner(
-    key: u64,
+    key: TextKey,
     entries: &[Entry],
     links: &Links,
     owner: u32,
@@ -91,7 +91,7 @@ fn give_owner(
 fn named_from(
     entries: &[Entry],
     links: &Links,
-    key: u64,
+    key: TextKey,
     hash: u32,
     name: &[u8],
     start: u32,

@@ -81,7 +81,7 @@ fn reach_roots(
         names: numbering,
         roots,
         children: Adjacency::with_capacity(alloc, FEW)?,
-        senders: SenderList::new(alloc, 1, sender)?,
+        senders: SenderList::new(alloc, tables.key(), 1, sender)?,
         owners,
         scratch,
     })

@@ -18,6 +18,7 @@ use crate::looking::{known_of_address, known_of_item};
 use crate::numbering::Numbering;
 use crate::tables::Tables;
 use relay_aliasfile::Item;
+use relay_chains::TextKey;
 use relay_text::Address;
 use std::alloc::{AllocError, Global};
 
@@ -53,7 +54,7 @@ fn known_at(found: &[KnownName], place: usize) -> Option<KnownName>
 // What is found for an item: what is known of it, or what is looked up now.
 fn item_known(
     tables: &Tables,
-    key: u64,
+    key: TextKey,
     known: Option<KnownName>,
     item: &Item,
     parent: Option<u32>,
@@ -72,7 +73,7 @@ fn item_known(
 // The same for a recipient.
 fn recipient_known(
     tables: &Tables,
-    key: u64,
+    key: TextKey,
     known: Option<KnownName>,
     address: &Address,
     name: &mut Vec<u8>,

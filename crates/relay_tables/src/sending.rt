@@ -6,7 +6,7 @@ ghost use Rattle.relay_tables.specs.Sending.{sender_key, IsOwnedBy, AreOwned, Ma
 
 use crate::keys::put_address;
 use crate::tables::Tables;
-use relay_chains::Interner;
+use relay_chains::{Interner, TextKey};
 use relay_text::Address;
 use std::alloc::{AllocError, Global};
 use std::marker::Model;
@@ -32,9 +32,10 @@ impl Model for SenderList {
 }
 
 impl SenderList {
-    /// One sender alone. Take about as many heads as senders are expected.
+    /// One sender alone, hashed under a key. Take about as many heads as senders are expected.
     pub(crate) fn new(
         alloc: Global,
+        key: TextKey,
         heads: usize,
         sender: Option<&Address>,
     ) -> Result<SenderList, AllocError>
@@ -43,7 +44,7 @@ impl SenderList {
     {
         let mut first = SenderList {
             senders: Vec::new(alloc),
-            texts: Interner::new(alloc, heads, u32::MAX as usize - 1)?,
+            texts: Interner::new(alloc, key, heads, u32::MAX as usize - 1)?,
             key: Vec::new(alloc),
         };
         let copy = match sender {
@@ -184,7 +185,7 @@ pub(crate) fn number_senders(
     ensures few { IfOk result (λ numbered. length numbered.senders ≤ owner_count tables.now + 1) }
     ensures owned { IfOk result (λ numbered. AreOwned tables.now (option_map (λ a. a.now) sender.entry) (length tables.now.aliases) numbered.senders numbered.owners.items) }
 {
-    let mut senders = SenderList::new(alloc, owned + 1, sender)?;
+    let mut senders = SenderList::new(alloc, tables.key(), owned + 1, sender)?;
     let owners = number_owners(alloc, tables, owned, &mut senders)?;
     Ok(OwnedSenders { senders, owners })
 }

@@ -5,7 +5,7 @@ use crate::tables::Tables;
 #[derive(Drop)]
 pub(crate) struct SoughtItems<'a> {
     pub(crate) tables: &'a Tables,
-    pub(crate) key: u64,
+    pub(crate) key: TextKey,
 }
 
 ghost use Rattle.std.specs.Prelude.{◌≡◌, ◌<◌, ◌≤◌, ◌+◌, ◌++◌, ℕ, length, map, take, drop, IfOk, OnOk, IfSome};
@@ -16,6 +16,7 @@ use crate::known_name::KnownName;
 use crate::listed::{Listed, entry_count, list_of};
 use crate::looking::known_of_item;
 use crate::sought::{Sought, part_of};
+use relay_chains::TextKey;
 use std::alloc::{AllocError, Global};
 
 // An item, by the number of its entry and its place there.
@@ -48,7 +49,7 @@ fn place_of(tables: &Tables, number: usize) -> Place
 // Puts what is found for items behind what was found before.
 fn find_items(
     tables: &Tables,
-    key: u64,
+    key: TextKey,
     list: Listed<'_>,
     found: &mut Vec<KnownName>,
     name: &mut Vec<u8>,
@@ -70,7 +71,7 @@ fn find_items(
 fn items_found(
     alloc: Global,
     tables: &Tables,
-    key: u64,
+    key: TextKey,
     start: usize,
     most: usize,
 ) -> Result<Vec<KnownName>, AllocError>

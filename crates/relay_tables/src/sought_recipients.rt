@@ -1,12 +1,13 @@
 //! The recipients of an envelope, as they are looked up.
 use crate::tables::Tables;
+use relay_chains::TextKey;
 use relay_text::Address;
 
 /// The recipients, in order, whose nodes are found under a key.
 #[derive(Drop)]
 pub(crate) struct SoughtRecipients<'a> {
     pub(crate) tables: &'a Tables,
-    pub(crate) key: u64,
+    pub(crate) key: TextKey,
     pub(crate) recipients: &'a [Address],
 }
 
@@ -23,7 +24,7 @@ use std::alloc::{AllocError, Global};
 fn recipients_found(
     alloc: Global,
     tables: &Tables,
-    key: u64,
+    key: TextKey,
     recipients: &[Address],
     start: usize,
     most: usize,

@@ -6,6 +6,7 @@ use crate::local::Local;
 use crate::marking::domain_mark;
 use crate::target::Target;
 use relay_aliasfile::{AliasFile, Entry, Item, MailboxFile};
+use relay_chains::TextKey;
 use relay_text::{Address, Seq, Text, same_bytes, split_place};
 use std::alloc::{AllocError, Global};
 use std::marker::Model;
@@ -65,7 +66,7 @@ impl Tables {
     /// memory runs out.
     pub fn build(
         alloc: Global,
-        key: u64,
+        key: TextKey,
         local: Local,
         aliases: AliasFile,
         includes: Vec<IncludeEntry>,
@@ -231,7 +232,7 @@ impl Tables {
     }
 
     /// The key of the hashes of names, as it was given.
-    pub fn key(&self) -> u64 {
+    pub fn key(&self) -> TextKey {
         self.indices.key
     }
 

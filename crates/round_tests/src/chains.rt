@@ -2,7 +2,7 @@
 ghost use Rattle.std.specs.Prelude.{◌≤◌, ◌<◌, length};
 
 use crate::compared::expect;
-use relay_chains::{ChainFault, Chains, Interner, Links, hash_text};
+use relay_chains::{ChainFault, Chains, Interner, Links, TextKey, hash_text};
 use std::alloc::{AllocError, Global};
 use std::process::Abort;
 use std::test::Fail;
@@ -68,13 +68,13 @@ fn push_hash(rt: &impl Abort, links: &mut Links, hash: u32) -> Result<(), AllocE
     links.push(hash)
 }
 
-// Three pairs of texts that agree in all bits of their hash under this key, as a search among 110,000 found them.
-const KEY: u64 = 0x243f_6a88_85a3_08d3;
+// Three pairs of texts that agree in all bits of their hash under this key, as a search among 120,000 found them.
+const KEY: TextKey = 0x243f_6a88_85a3_08d3_1319_8a2e_0370_7344;
 
 const ALIKE: [(&[u8], &[u8]); 3] = [
-    (b"u027520", b"u100193"),
-    (b"u027529", b"u100198"),
-    (b"u021417", b"u102086"),
+    (b"u028491", b"u058711"),
+    (b"u057958", b"u070436"),
+    (b"u031591", b"u119822"),
 ];
 
 fn expect_alike(rt: &impl Abort, first: &[u8], second: &[u8]) {
@@ -102,7 +102,7 @@ fn intern_apart(rt: &impl Abort, set: &mut Interner) {
 
 #[test]
 fn texts_of_one_hash_keep_apart(rt: HostRuntime) -> Result<(), Fail> {
-    let mut set = Interner::with_key(rt.alloc(), KEY, 1, 6)?;
+    let mut set = Interner::new(rt.alloc(), KEY, 1, 6)?;
     intern_apart(&rt, &mut set);
     Ok(())
 }
@@ -125,7 +125,7 @@ fn expect_found(rt: &impl Abort, set: &Interner) {
 
 #[test]
 fn texts_of_one_hash_are_found(rt: HostRuntime) -> Result<(), Fail> {
-    let mut set = Interner::with_key(rt.alloc(), KEY, 1, 6)?;
+    let mut set = Interner::new(rt.alloc(), KEY, 1, 6)?;
     intern_alike(&mut set)?;
     expect_found(&rt, &set);
     Ok(())
@@ -161,7 +161,7 @@ fn links_of_one_hash_keep_apart(rt: HostRuntime) -> Result<(), Fail> {
 // Pushes the hash of each text twice.
 fn push_hashes(rt: &impl Abort, links: &mut Links) -> Result<(), AllocError> {
     for number in 0..100_000u32 {
-        push_hash(rt, links, hash_text(7, &numbered_text(number % 50_000)))?;
+        push_hash(rt, links, hash_text(KEY, &numbered_text(number % 50_000)))?;
     }
     Ok(())
 }
@@ -169,7 +169,7 @@ fn push_hashes(rt: &impl Abort, links: &mut Links) -> Result<(), AllocError> {
 // The number of a text is the first that has its hash, and not the newest.
 fn expect_first_numbers(rt: &impl Abort, links: &Links) {
     for number in 0..50_000u32 {
-        let hash = hash_text(7, &numbered_text(number));
+        let hash = hash_text(KEY, &numbered_text(number));
         let found = links.find(hash, |found| found % 50_000 == number);
         expect(rt, found, Some(number));
         assert!(rt; links.newest(hash) > 50_000);
@@ -189,10 +189,10 @@ fn the_first_of_many_numbers_is_found(rt: HostRuntime) -> Result<(), Fail> {
 fn expect_other_hashes(rt: &impl Abort, text: &[u8], len: usize)
     requires { len < length text.now }
 {
-    let hash = hash_text(1, &text[..len]);
+    let hash = hash_text(KEY, &text[..len]);
     let are_alike = [
-        hash_text(2, &text[..len]) == hash,
-        hash_text(1, &text[..len + 1]) == hash,
+        hash_text(KEY + 1, &text[..len]) == hash,
+        hash_text(KEY, &text[..len + 1]) == hash,
     ];
     expect(rt, (len, are_alike), (len, [false, false]));
 }
@@ -201,11 +201,11 @@ fn expect_other_hashes(rt: &impl Abort, text: &[u8], len: usize)
 fn expect_hash_of_all_bytes(rt: &impl Abort, text: &[u8; 28], len: usize)
     requires { len ≤ 28 }
 {
-    let hash = hash_text(1, &text[..len]);
+    let hash = hash_text(KEY, &text[..len]);
     for place in 0..len {
         let mut other = *text;
         other[place] ^= 1;
-        let turned = hash_text(1, &other[..len]);
+        let turned = hash_text(KEY, &other[..len]);
         expect(rt, (place, len, turned == hash), (place, len, false));
     }
 }
@@ -217,7 +217,7 @@ fn hashes_depend_on_every_byte_and_the_key(rt: HostRuntime) {
         expect_other_hashes(&rt, text, len);
         expect_hash_of_all_bytes(&rt, text, len);
     }
-    expect(&rt, hash_text(1, b"a") == hash_text(1, b"a\0"), false);
+    expect(&rt, hash_text(KEY, b"a") == hash_text(KEY, b"a\0"), false);
 }
 
 // How many of so many texts fall into each of as many buckets.

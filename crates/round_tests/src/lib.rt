@@ -4,6 +4,8 @@
 #[cfg(test)]
 mod chains;
 #[cfg(test)]
+mod claims;
+#[cfg(test)]
 mod compared;
 #[cfg(test)]
 mod rings;
@@ -13,3 +15,5 @@ mod rounds;
 mod rounds_gates;
 #[cfg(test)]
 mod rounds_graphs;
+#[cfg(test)]
+mod workers;

@@ -28,6 +28,7 @@ fn reach_at_last<S: Steps, R: AllocGlobal + Threads + Sync>(
         alloc: rt.alloc(),
         workers,
         cut,
+        salt: 0,
         gate: &NoGate,
     };
     match reach(&crew, steps, roots, limit) {
@@ -167,6 +168,7 @@ fn comes_through<S: Steps, G: Gate, R: Abort + AllocGlobal + Threads + Sync>(
         alloc: rt.alloc(),
         workers: 2,
         cut: 1,
+        salt: 0,
         gate,
     };
     match reach(&crew, steps, roots, keys.len()) {

@@ -2,7 +2,7 @@ use Rattle.std.proofs.Common.{◌≡◌, ◌<◌, List, ℕ, [], ◌∷◌, ◌+
 use Rattle.std.specs.Borrow.{Bor}
 use Rattle.std.proofs.lemmas.List.{get_or-map, length-map, map-append}
 use Rattle.std.proofs.lemmas.Simd.{map-map}
-use Rattle.relay_chains.specs.TextHash.{text_hash}
+use Rattle.relay_chains.specs.TextHash.{text_hash, fixed_key}
 use Rattle.relay_aliasfile.specs.Spread.{part_under, is_in_part}
 use Rattle.relay_aliasfile.specs.Twins.{texts_of}
 use Rattle.relay_aliasfile.proofs.SpreadTexts.{same_number, other_number, hash_here, part_more, part_left}
@@ -15,11 +15,11 @@ loop-place-preserved g c =
     let all = map g.T.HasText.text items in
     let hashes = c.args.hashes.now in
     let k = c.loop-place.place in
-    let p = is_in_part 0 c.args.parts c.args.part in
-    let are : hashes ≡ map (text_hash 0) all = c.requires.hashes ∙ sym (map-map (text_hash 0) g.T.HasText.text items) in
-    let inside : k < length all = omega (arith, c.loop-place-test.true, ap length are, length-map all (text_hash 0)) in
+    let p = is_in_part fixed_key c.args.parts c.args.part in
+    let are : hashes ≡ map (text_hash fixed_key) all = c.requires.hashes ∙ sym (map-map (text_hash fixed_key) g.T.HasText.text items) in
+    let inside : k < length all = omega (arith, c.loop-place-test.true, ap length are, length-map all (text_hash fixed_key)) in
     let within : k < length items = omega (arith, inside, length-map items g.T.HasText.text) in
-    let number : c.part_of.result ≡ part_under c.args.parts (text_hash 0 (get_or all k [])) = c.part_of.ensures ∙ ap (part_under c.args.parts) (hash_here 0 all hashes are k inside) in
+    let number : c.part_of.result ≡ part_under c.args.parts (text_hash fixed_key (get_or all k [])) = c.part_of.ensures ∙ ap (part_under c.args.parts) (hash_here fixed_key all hashes are k inside) in
     let old = c.loop-place.texts.items in
     elim c.if-part_of-part.branch [
       | then-part_of-part+in_ok-push w ↦

@@ -48,3 +48,14 @@ returns-clause-inserts c =
     rw (← c.self.view_is, bytes_are, c.push_reserved.ensures.items, c.reserve.ensures.items)
     (inserts-new bytes_eq (texts_from bytes 0 ends) c.self.inside.limit text c.len-number.result _ new number c.if-number-self.false
     (texts-pushed c.self.inside.links bytes ends c.self.inside.key c.self.inside.limit c.len-end.result text c.self.invariant end))
+
+-- a new text is put where there are fewer than the limit
+
+pub returns-in_err-reserve-clause-memory_within : goal.returns-in_err-reserve-clause-memory_within
+returns-in_err-reserve-clause-memory_within c = λ _. rw (← c.self.view_is) (omega (arith, length-texts c.self.inside.bytes.items 0 c.self.inside.ends.items, c.self.invariant.within, c.len-number.ensures, c.if-number-self.false))
+
+pub returns-in_err-extend_from_slice-clause-memory_within : goal.returns-in_err-extend_from_slice-clause-memory_within
+returns-in_err-extend_from_slice-clause-memory_within c = λ _. rw (← c.self.view_is) (omega (arith, length-texts c.self.inside.bytes.items 0 c.self.inside.ends.items, c.self.invariant.within, c.len-number.ensures, c.if-number-self.false))
+
+pub returns-in_default-push-clause-memory_within : goal.returns-in_default-push-clause-memory_within
+returns-in_default-push-clause-memory_within c = λ _. rw (← c.self.view_is) (omega (arith, length-texts c.self.inside.bytes.items 0 c.self.inside.ends.items, c.self.invariant.within, c.len-number.ensures, c.if-number-self.false))

@@ -1,5 +1,3 @@
-use Rattle.std.proofs.lemmas.Result.{IfOk-at_ok}
-use Rattle.relay_planning.specs.Parsed.{AreParsed}
 use Rattle.relay_planning.specs.Findings.{ReportsWhere}
 use Rattle.relay_planning.specs.Texts.{is_name_line, is_route_line, has_fault_line}
 use Rattle.relay_planning.proofs.ReportFacts.{on_ok_both, reports_faults}
@@ -16,4 +14,4 @@ returns-clause-lines g c =
     {Q = ReportsWhere middle new (is_route_line parsed.transports.faults parsed.exchanges.faults)}
     {S = ReportsWhere c.args.lines.now new (has_fault_line job)}
     c.of.result c.read_files_by-includes.result c.of.ensures.read c.read_files_by-includes.ensures.lines c.of.ensures.lines
-    (reports_faults job parsed c.args.lines.now middle new (IfOk-at_ok (AreParsed job) c.in_ok-parsed.was c.keyed-key.ensures))
+    (reports_faults job parsed c.args.lines.now middle new c.in_ok-parsed.ensures)

@@ -1,5 +1,0 @@
-use Rattle.std.proofs.Common.{rules, []}
-use Rattle.relay_claims.proofs.tests.two_seats_cross.Goals as goal
-
-pub join-seat-requires-clause-halves : goal.join-seat-requires-clause-halves
-join-seat-requires-clause-halves g c = ([], (search rules, search rules))
