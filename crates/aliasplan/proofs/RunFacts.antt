@@ -27,5 +27,5 @@ pub answer_of : (limits : Limits) (form : Form) (text : List ℕ) (job : Job) (w
     → IfOk written (IsWrittenFor job form)
     → IfOk written (λ w. IsAnswer limits form text (concat w.texts.items) w.summary)
 answer_of limits form text job (Ok w) size read within is =
-    record { size = size; job = job; read = read; within = within; plan = is.0; planned = is.1; written = is.3.0; summed = is.3.1; fewest = is.2 }
+    record { size = size; job = job; read = read; within = within; plan = is.0; planned = is.1; written = is.4.0; summed = is.4.1; sound = is.2; fewest = is.3 }
 answer_of limits form text job (Err fault) size read within is = tt

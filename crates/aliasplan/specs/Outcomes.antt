@@ -13,7 +13,7 @@ use Rattle.relay_planning.specs.declared.summary.Summary.{Summary}
 use Rattle.relay_planning.specs.Delivery.{directory_of}
 use Rattle.relay_planning.specs.Limits.{owned_count, IsWithin, IsRefused}
 use Rattle.relay_planning.specs.Written.{text_in, summary_of}
-use Rattle.relay_planning.specs.Plans.{IsFewest, IsPlanOf}
+use Rattle.relay_planning.specs.Plans.{IsFewest, IsPlanOf, IsSoundFor}
 
 -- tables that are within the limits, whatever the envelope
 pub record AreTableCountsWithin (limits : Limits) (tables : Job) : Type 0 where
@@ -43,6 +43,7 @@ pub record Plans (limits : Limits) (form : Form) (input : List ℕ) (old new : O
   pub planned : IsPlanOf job plan
   pub written : Appends old new (text_in form plan)
   pub summed : summary ≡ summary_of plan
+  pub sound : IsSoundFor job plan.transactions
   pub fewest : IsFewest job plan.transactions
 
 -- What becomes of a job's bytes: the text of its plan, and its numbers.
@@ -55,6 +56,7 @@ pub record IsAnswer (limits : Limits) (form : Form) (input text : List ℕ) (sum
   pub planned : IsPlanOf job plan
   pub written : text ≡ text_in form plan
   pub summed : summary ≡ summary_of plan
+  pub sound : IsSoundFor job plan.transactions
   pub fewest : IsFewest job plan.transactions
 
 -- the bytes are within the limit, and no job

@@ -31,7 +31,7 @@ use Rattle.relay_planning.specs.Listing.{place_of, target_finding}
 use Rattle.relay_planning.specs.Limits.{IsWithin, IsRefused}
 use Rattle.relay_planning.specs.Written.{summary_of}
 use Rattle.aliasplan.specs.Outcomes.{Refuses}
-use Rattle.relay_planning.specs.Plans.{IsPlanOf, IsFewest}
+use Rattle.relay_planning.specs.Plans.{IsFewest, IsPlanOf, IsSoundFor}
 use Rattle.relay_planning.specs.Report.{reason_of}
 
 module _ (job : Job) where
@@ -136,6 +136,7 @@ pub record IsReturnedAnswer (limits : Limits) (form : Form) (input text : List �
   pub returned : AreReturnsOf job returns
   pub written : text ≡ returned_text_in form plan returns
   pub summed : summary ≡ summary_of plan
+  pub sound : IsSoundFor job plan.transactions
   pub fewest : IsFewest job plan.transactions
 
 -- that text is written

@@ -5,7 +5,7 @@ ghost use Rattle.relay_job.specs.JobAnswers.{IsJobWithin};
 ghost use Rattle.relay_wire.specs.declared.plan.Plan as plans;
 ghost use Rattle.relay_returns.specs.declared.block.Return as returned;
 ghost use Rattle.relay_planning.specs.Written.{summary_of};
-ghost use Rattle.relay_planning.specs.Plans.{IsFewest, IsPlanOf};
+ghost use Rattle.relay_planning.specs.Plans.{IsFewest, IsPlanOf, IsSoundFor};
 ghost use Rattle.aliasplan.specs.Returns.{returned_text_in, AreReturnsOf, IsReturnedAnswer, IsReturnedWithin, IsUnreturned, PlansReturns, RefusesReturnBytes, RefusesReturns, WritesReturnsFront};
 
 use crate::device::{Feed, Sink};
@@ -56,7 +56,7 @@ fn answer_job<G: Gate, R: Threads + Sync>(
     job: &Job,
 ) -> Result<ReturnedText, RunFault>
     requires job { IsJobWithin crew.now.limits.bytes job.now }
-    ensures answered { IfOk result (λ answer. IsReturnedWithin crew.now.limits job.now × ((plan : plans.Plan) × IsPlanOf job.now plan × IsFewest job.now plan.transactions × ((blocks : List returned.Return) × AreReturnsOf job.now blocks × (answer.text ≡ returned_text_in crew.now.options.form plan blocks) × (answer.summary ≡ summary_of plan)))) }
+    ensures answered { IfOk result (λ answer. IsReturnedWithin crew.now.limits job.now × ((plan : plans.Plan) × IsPlanOf job.now plan × IsSoundFor job.now plan.transactions × IsFewest job.now plan.transactions × ((blocks : List returned.Return) × AreReturnsOf job.now blocks × (answer.text ≡ returned_text_in crew.now.options.form plan blocks) × (answer.summary ≡ summary_of plan)))) }
     ensures refused { IfErr result (IsUnreturned crew.now.limits job.now) }
 {
     let returned = returns(crew, job)?;

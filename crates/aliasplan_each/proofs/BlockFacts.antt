@@ -87,7 +87,7 @@ module _ (limits : Limits) (tables : Job) (section : Section) where
     pub grows_by_plan : (plan : Plan) → IsOwnPlan limits tables section plan → new ≡ between ++ text_in form plan → after ≡ with_planned before (length plan.findings) → Grows limits form tables section old new before after
     grows_by_plan plan own more counted = record {
       block = record { text = line (envelope_line section.id) ++ text_in form plan; outcome = planned (length plan.findings) };
-      is = record { envelope = own.envelope; read = own.read; within = own.within; plan = plan; planned = own.planned; fewest = own.fewest; written = refl; counted = refl };
+      is = record { envelope = own.envelope; read = own.read; within = own.within; plan = plan; planned = own.planned; sound = own.sound; fewest = own.fewest; written = refl; counted = refl };
       written = block_text (text_in form plan) more;
       counted = counted;
     }

@@ -17,7 +17,7 @@ use Rattle.relay_planning.specs.declared.options.Form.{Form}
 use Rattle.relay_planning.specs.declared.options.Limits.{Limits}
 use Rattle.relay_planning.specs.Limits.{IsWithin, IsRefused}
 use Rattle.relay_planning.specs.Written.{text_in}
-use Rattle.relay_planning.specs.Plans.{IsFewest, IsOwnPlanOf}
+use Rattle.relay_planning.specs.Plans.{IsFewest, IsOwnPlanOf, IsSoundFor}
 
 -- planned, with so many findings, or refused
 pub data Outcome : Type 0 where
@@ -75,6 +75,7 @@ module _ (limits : Limits) (tables : Job) where
     pub read : envelope_of tables.settings.origin section.bytes ≡ Ok envelope
     pub within : IsWithin limits (with_envelope tables envelope)
     pub planned : IsOwnPlanOf (with_envelope tables envelope) plan
+    pub sound : IsSoundFor (with_envelope tables envelope) plan.transactions
     pub fewest : IsFewest (with_envelope tables envelope) plan.transactions
 
   -- an envelope whose job is refused for this
@@ -111,6 +112,7 @@ module _ (limits : Limits) (form : Form) (tables : Job) where
     pub within : IsWithin limits (with_envelope tables envelope)
     pub plan : Plan
     pub planned : IsOwnPlanOf (with_envelope tables envelope) plan
+    pub sound : IsSoundFor (with_envelope tables envelope) plan.transactions
     pub fewest : IsFewest (with_envelope tables envelope) plan.transactions
     pub written : text ≡ line (envelope_line section.id) ++ text_in form plan
     pub counted : findings ≡ length plan.findings

@@ -116,6 +116,12 @@ none_told [] [] are none = refl
 none_told [] (t ∷ told) are none = absurd are
 none_told (a ∷ answers) told are none = cc
 
+-- and none told is no answer
+pub none_answered : (answers : List Answer) (told : List Told) → AreTold answers told → told ≡ [] → answers ≡ []
+none_answered [] told are none = refl
+none_answered (a ∷ answers) [] are none = absurd are
+none_answered (a ∷ answers) (t ∷ told) are none = cc
+
 -- ---- the answers that are told
 module _ (job : Job) (plan : Plan) (lines : List ℕ) (node : Node) where
   pub answers_of : (told : List Told) → All (IsToldFor job plan lines node) told → (answers : List Answer) × All (IsAnswerFor job plan lines node) answers × AreTold answers told × (map (λ (a : Answer). a.from) answers ≡ map (λ (t : Told). t.from) told)

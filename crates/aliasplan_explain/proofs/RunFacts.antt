@@ -1,5 +1,6 @@
 -- Which faults the lines of recipients have in a text that is a job, and what of an explanation is written.
 use Rattle.std.proofs.Common.{◌≡◌, List, [], ◌∷◌, ◌++◌, ◌+◌, ◌<◌, ◌||◌, ℕ, zero, suc, Bool, Option, None, Some, option_map, Ok, Err, get_or, take, drop, length, refl, sym, ap, ◌∙◌, subst, append_assoc, arith}
+use Rattle.std.specs.Prelude.{IfSome}
 use Rattle.std.specs.List.{list_any}
 use Rattle.std.specs.Io.KnownBytes.{Appends}
 use Rattle.std.proofs.lemmas.List.{take-append-drop}
@@ -10,13 +11,16 @@ use Rattle.relay_job.specs.declared.fault.RunFault.TheVariants.{Read, TooLong, B
 use Rattle.relay_job.specs.JobParts.{Stops}
 use Rattle.relay_job.specs.JobText.{job_of, bad_job}
 use Rattle.relay_job.proofs.ParseFacts.{job-broken}
+use Rattle.relay_explain.specs.declared.asked.Asked.{Asked}
 use Rattle.relay_explain.specs.declared.outcome.Outcome.{Outcome}
 use Rattle.relay_explain.specs.declared.told.Told.{Told}
 use Rattle.relay_explain.specs.Explanations.{Answer}
 use Rattle.relay_explain.specs.PiecedTexts.{text_of}
 use Rattle.relay_explain.specs.Tellings.{AreTold}
+use Rattle.relay_planning.specs.declared.options.Limits.{Limits}
 use Rattle.aliasplan.specs.Transfers.{Fronts}
 use Rattle.aliasplan_explain.specs.Explanations.{is_transaction}
+use Rattle.aliasplan_explain.specs.Runs.{Explains, IsExplained, WritesExplanationFront}
 
 -- a job has no bad line
 unbroken : (text : List ℕ) (job : Job) → job_of text ≡ Ok job → (fault : RunFault) → option_map BadJob (bad_job text) ≡ Some fault → ⊥
@@ -75,3 +79,19 @@ transaction_told (a ∷ answers) [] are = absurd are
 transaction_told (a ∷ answers) (t ∷ told) are =
     ap (λ (o : Option Outcome). is_transaction o || list_any (λ (u : Told). is_transaction u.outcome) told) are.0.outcome
     ∙ ap (λ (b : Bool). is_transaction a.outcome || b) (transaction_told answers told are.1)
+
+-- what is written of a text that was read whole, and a front of it
+module _ (limits : Limits) (question : Asked) (input text : List ℕ) (old new : Option (List ℕ)) (in_plan : Bool) (due : IsExplained limits question input text in_plan) where
+  pub explains_read : (remaining : Option (List ℕ)) → IfSome remaining (λ bytes. input ≡ bytes) → Appends old new text → IfSome remaining (λ bytes. Explains limits question bytes old new in_plan)
+  explains_read None same written = tt
+  explains_read (Some bytes) same written = record { text = text; due = subst (λ (b : List ℕ). IsExplained limits question b text in_plan) same due; written = written }
+
+  pub front_read : (remaining : Option (List ℕ)) → IfSome remaining (λ bytes. input ≡ bytes) → Fronts old new text → IfSome remaining (λ bytes. WritesExplanationFront limits question bytes old new)
+  front_read None same front = tt
+  front_read (Some bytes) same front = record {
+    text = text;
+    in_plan = in_plan;
+    due = subst (λ (b : List ℕ). IsExplained limits question b text in_plan) same due;
+    count = front.count;
+    written = front.written;
+  }

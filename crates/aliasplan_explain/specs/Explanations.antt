@@ -56,7 +56,8 @@ module _ (job : Job) (plan : Plan) where
       pub senders : (sender : Sender) → Contains (map (λ (a : Answer). a.from) answers) sender ↔ IsReachedPair job (record { sender = sender; node = node })
       pub each : All (IsAnswerFor node) answers
 
-    -- Where there is no answer, the items that lead to the node are told: no entry or include file that has one of them is reached.
+    -- Where there is no answer, and only there, the items that lead to the node are told: no entry or include file that has one of them is
+    -- reached.
     pub record IsExplanationOf (question : Asked) (e : Explanation) : Type 0 where
       pub asked : e.asked ≡ question
       pub node : Node
@@ -66,6 +67,7 @@ module _ (job : Job) (plan : Plan) where
       pub decision : e.decision ≡ decision_of job node
       pub answers : AreAnswersFor node e.answers
       pub unreached : e.answers ≡ [] → e.unreached ≡ unreached_of job node
+      pub reached : (e.answers ≡ [] → ⊥) → e.unreached ≡ []
 
 -- some answer says that a transaction has the address
 abbrev pub is_transaction : Option Outcome → Bool

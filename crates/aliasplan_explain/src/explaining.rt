@@ -41,7 +41,8 @@ fn unreached_beside(
     answers: &Seq<Told>,
 ) -> Result<Seq<Listed>, AllocError>
     requires { IsBasisOf grounds.now.job.now grounds.now.basis.now }
-    ensures { IfOk result (λ listed. answers.now ≡ [] → listed ≡ unreached_of grounds.now.job.now node.now) }
+    ensures none { IfOk result (λ listed. answers.now ≡ [] → listed ≡ unreached_of grounds.now.job.now node.now) }
+    ensures some { IfOk result (λ listed. (answers.now ≡ [] → ⊥) → listed ≡ []) }
 {
     if answers.is_empty() {
         unreached_of(alloc, grounds, node)

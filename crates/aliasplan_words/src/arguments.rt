@@ -7,7 +7,7 @@ pub(crate) const WORKERS: Argument = Argument {
     name: "workers",
     position: Position::Option,
     kind: Kind::Number(64),
-    help: "How many threads take part, from 1 to 64; 4 where it isn't said",
+    help: "How many threads share a piece of work, from 1 to 64; 4 where it isn't said",
 };
 
 pub(crate) const CUT: Argument = Argument {

@@ -4,7 +4,7 @@
 pub(crate) const AFTER_PLAN: &str =
     "Exit status: 0 a plan without findings, 1 a plan with findings, 2 the job is refused,\n\
       3 out of memory, 4 the job can't be read or the plan can't be written, 5 a fault of the command line.\n\
-      Where the status is 2 or more, one line on standard error says why; with -v a second says where.\n\
+      Where the status is 2 or more, one line on standard error says why; with -v, but not with --each, a second says where.\n\
       Where it is 1, -v says there which items of alias and include files are bad, and why.\n\n\
       Example: aliasplan plan examples/first.job";
 

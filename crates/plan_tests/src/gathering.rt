@@ -1,4 +1,5 @@
 //! Jobs gathered from files, by example.
+ghost use Rattle.std.specs.Prelude.{◌≤◌};
 ghost use Rattle.relay_gather.specs.Source.{unknown};
 
 use crate::devices::Paper;
@@ -6,6 +7,7 @@ use crate::limits::LIMITS;
 use aliasplan::{Paths, RunFault, Source, SourceFault, gather};
 use relay_text::{Seq, Text};
 use std::alloc::{AllocError, Global};
+use std::process::Abort;
 use std::test::Fail;
 
 /// A job's files by their paths, in the order in which they are gathered.
@@ -69,13 +71,16 @@ fn listed(alloc: Global, path: &[u8]) -> Result<Seq<Text>, AllocError> {
     Ok(Seq::of(paths))
 }
 
-/// What gathering the files answers, where this path has this fault and the writer so much room, and what it wrote.
+/// What gathering at most so many bytes of the files answers, where this path has this fault and the writer so much room, and what it wrote.
 fn gathered(
     alloc: Global,
     path: &[u8],
     fault: SourceFault,
     room: usize,
-) -> Result<(Result<(), RunFault>, Vec<u8>), Fail> {
+    max: usize,
+) -> Result<(Result<(), RunFault>, Vec<u8>), Fail>
+    requires { max ≤ 67108864 }
+{
     let paths = Paths {
         settings: text_of(alloc, b"/settings")?,
         aliases: listed(alloc, b"/aliases")?,
@@ -90,37 +95,61 @@ fn gathered(
         room,
         failed: false,
     };
-    let answer = gather(alloc, &mut source, &paths, &mut writer, LIMITS.bytes);
+    let answer = gather(alloc, &mut source, &paths, &mut writer, max);
     let Paper { text, .. } = writer;
     Ok((answer, text))
 }
 
-#[test]
-fn writes_the_text_that_is_gathered(rt: HostRuntime) -> Result<(), Fail> {
-    let (answer, text) = gathered(rt.alloc(), b"", SourceFault::Failed, usize::MAX)?;
+/// The text is written where it may have so many bytes.
+fn expect_text(rt: &(impl Abort + AllocGlobal), max: usize) -> Result<(), Fail>
+    requires { max ≤ 67108864 }
+{
+    let (answer, text) = gathered(rt.alloc(), b"", SourceFault::Failed, usize::MAX, max)?;
     assert_eq!(rt; answer, Ok(()));
     assert_eq!(rt; text.as_slice(), GATHERED);
     Ok(())
 }
 
 #[test]
-fn writes_nothing_where_a_file_fails(rt: HostRuntime) -> Result<(), Fail> {
-    for (path, _) in FILES {
-        for (fault, told) in [
-            (SourceFault::Failed, RunFault::Read),
-            (SourceFault::Memory, RunFault::Memory),
-        ] {
-            let (answer, text) = gathered(rt.alloc(), path, fault, usize::MAX)?;
-            assert_eq!(rt; answer, Err(told), "at {path:?}");
-            assert!(rt; text.is_empty());
-        }
+fn writes_the_text_that_is_gathered(rt: HostRuntime) -> Result<(), Fail> {
+    expect_text(&rt, LIMITS.bytes)?;
+    expect_text(&rt, GATHERED.len())
+}
+
+#[test]
+fn writes_nothing_where_the_text_is_longer(rt: HostRuntime) -> Result<(), Fail> {
+    let max = GATHERED.len() - 1;
+    let (answer, text) = gathered(rt.alloc(), b"", SourceFault::Failed, usize::MAX, max)?;
+    assert_eq!(rt; answer, Err(RunFault::TooLong));
+    assert!(rt; text.is_empty());
+    Ok(())
+}
+
+/// Nothing is written where this path fails.
+fn expect_nothing(rt: &(impl Abort + AllocGlobal), path: &[u8]) -> Result<(), Fail> {
+    for (fault, told) in [
+        (SourceFault::Failed, RunFault::Read),
+        (SourceFault::Memory, RunFault::Memory),
+    ] {
+        let (answer, text) = gathered(rt.alloc(), path, fault, usize::MAX, LIMITS.bytes)?;
+        assert_eq!(rt; answer, Err(told), "at {path:?}");
+        assert!(rt; text.is_empty());
     }
     Ok(())
 }
 
 #[test]
+fn writes_nothing_where_a_file_fails(rt: HostRuntime) -> Result<(), Fail> {
+    for (path, _) in FILES {
+        expect_nothing(&rt, path)?;
+    }
+    // What an include file includes.
+    expect_nothing(&rt, b"/m")
+}
+
+#[test]
 fn writes_a_front_where_the_writer_fails(rt: HostRuntime) -> Result<(), Fail> {
-    let (answer, text) = gathered(rt.alloc(), b"", SourceFault::Failed, 20)?;
+    let (answer, text) = gathered(rt.alloc(), b"", SourceFault::Failed, 20, LIMITS.bytes)?;
     assert_eq!(rt; answer, Err(RunFault::Write));
     assert_eq!(rt; text.as_slice(), &GATHERED[..20]);
     Ok(())

@@ -1,8 +1,7 @@
 //! Plans under several keys of the hashes of texts.
-use crate::devices::{Paper, Pieces};
 use crate::limits::{LIMITS, LISTS, PLAN};
-use crate::plans::{OPTIONS, job_of};
-use aliasplan::{NoGate, Options, run};
+use crate::plans::{OPTIONS, job_of, planned_by};
+use aliasplan::Options;
 use std::process::Abort;
 use std::test::Fail;
 use std::thread::Threads;
@@ -18,23 +17,9 @@ const KEYS: [u128; 5] = [
 
 /// The job of the lists has its plan under this key.
 fn expect_plan(rt: &(impl Abort + AllocGlobal + Threads + Sync), job: &[u8], key: u128) {
-    let mut reader = Pieces::new(job, usize::MAX, usize::MAX);
-    let mut writer = Paper {
-        text: Vec::new(rt.alloc()),
-        room: usize::MAX,
-        failed: false,
-    };
-    let answer = run(
-        rt,
-        rt.alloc(),
-        &mut reader,
-        &mut writer,
-        Options { key, ..OPTIONS },
-        LIMITS,
-        &NoGate,
-    );
+    let (answer, text) = planned_by(rt, job, Options { key, ..OPTIONS }, LIMITS);
     assert!(rt; answer.is_ok(), "{answer:?} under {key}");
-    assert_eq!(rt; writer.text.as_slice(), PLAN);
+    assert_eq!(rt; text.as_slice(), PLAN);
 }
 
 #[test]

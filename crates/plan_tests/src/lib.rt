@@ -1,4 +1,4 @@
-//! Tests of whole plans, from outside the crate that makes them.
+//! Tests of whole plans, and of the shortest files and tables, from outside the crates that make and read them.
 #![tactic(auto)]
 
 #[cfg(test)]
@@ -21,5 +21,9 @@ mod limits;
 mod plans;
 #[cfg(test)]
 mod proved;
+#[cfg(test)]
+mod refusals;
+#[cfg(test)]
+mod short_texts;
 #[cfg(test)]
 mod signals;

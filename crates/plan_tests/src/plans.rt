@@ -1,8 +1,9 @@
 //! Jobs through `run`, by example.
-ghost use Rattle.relay_planning.specs.Limits.{AreLimits};
+ghost use Rattle.relay_planning.specs.Limits.{AreOptions, AreLimits};
 
 use crate::devices::{Endless, Full, Paper, Pieces};
 use crate::limits::{LIMITS, LISTS, PLAN};
+use crate::proved::blank;
 use aliasplan::{Device, Form, Limits, NoGate, Options, RunFault, Summary, run};
 use std::alloc::Global;
 use std::process::Abort;
@@ -32,7 +33,31 @@ pub(crate) fn job_of(alloc: Global, lines: &[u8]) -> Result<Vec<u8>, Fail> {
     Ok(job)
 }
 
-/// What a run answers, and what it wrote.
+/// What a run with these options answers, and what it wrote.
+pub(crate) fn planned_by<R: AllocGlobal + Threads + Sync>(
+    rt: &R,
+    job: &[u8],
+    options: Options,
+    limits: Limits,
+) -> (Result<Summary, RunFault>, Vec<u8>)
+    requires options { AreOptions options }
+    requires limits { AreLimits limits }
+{
+    let mut reader = Pieces::new(job, usize::MAX, usize::MAX);
+    let mut writer = blank(rt.alloc());
+    let answer = run(
+        rt,
+        rt.alloc(),
+        &mut reader,
+        &mut writer,
+        options,
+        limits,
+        &NoGate,
+    );
+    (answer, writer.text)
+}
+
+/// What a run answers whose devices may fail, and what it wrote.
 pub(crate) fn planned<R: AllocGlobal + Threads + Sync>(
     rt: &R,
     job: &[u8],

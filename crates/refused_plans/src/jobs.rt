@@ -3,7 +3,7 @@ use growth_answers::inputs::{are_texts, is_address};
 use growth_answers::{Answer, Teller, Unready, call, judged};
 use relay_job::{Job, RunFault, Settings, parse_job, parse_job_by, parse_tables};
 use relay_routes::Transport;
-use std::alloc::Global;
+use std::alloc::{AllocError, Global};
 use std::thread::Threads;
 
 /// A message to one mailbox.
@@ -171,6 +171,66 @@ pub const OWNERS_PLAN: &[u8] = b"plan 3 transactions 3 recipients 0 findings\n\
     host mx1.example.net\n\
     to <lee+x@example.net>\n\
     end\n";
+
+/// A list in a list of mailboxes, of which the inner one has an owner.
+pub const MAILBOXES_JOB: &[u8] = b"%settings\n\
+    myhostname = relay.example.org\n\
+    myorigin = example.org\n\
+    mailbox_transport = lmtp:unix:mbox\n\
+    %mailboxes\n\
+    joe\n\
+    kim\n\
+    lee\n\
+    %aliases\n\
+    outer: inner, kim\n\
+    inner: kim, lee\n\
+    owner-inner: joe\n\
+    %envelope\n\
+    MAIL FROM:<a@example.com>\n\
+    RCPT TO:<outer@example.org>\n";
+
+pub const MAILBOXES_PLAN: &[u8] = b"plan 2 transactions 3 recipients 0 findings\n\
+    transaction 1\n\
+    from <a@example.com>\n\
+    via lmtp unix:mbox\n\
+    host unix:mbox\n\
+    to <kim@example.org>\n\
+    transaction 2\n\
+    from <owner-inner@example.org>\n\
+    via lmtp unix:mbox\n\
+    host unix:mbox\n\
+    to <kim@example.org>\n\
+    to <lee@example.org>\n\
+    end\n";
+
+/// What stands before the items of a list.
+const EQUAL_FRONT: &[u8] = b"%settings\n\
+    myhostname = relay.example.org\n\
+    myorigin = example.org\n\
+    %mx\n\
+    example.net MX 10 mx1.example.net\n\
+    %envelope\n\
+    MAIL FROM:<>\n\
+    RCPT TO:<big@example.org>\n\
+    %aliases\n\
+    big: ";
+
+pub const EQUAL_PLAN: &[u8] = b"plan 1 transactions 1 recipients 0 findings\n\
+    transaction 1\n\
+    from <>\n\
+    via smtp example.net\n\
+    host mx1.example.net\n\
+    to <kim@example.net>\n\
+    end\n";
+
+/// A list of ten thousand equal items.
+pub(crate) fn equal_items_job(alloc: Global) -> Result<Vec<u8>, AllocError> {
+    let mut job = Vec::from_slice(alloc, EQUAL_FRONT)?;
+    for _ in 0..10_000 {
+        job.extend_from_slice(b"kim@example.net, ")?;
+    }
+    Ok(job)
+}
 
 /// Whether the settings are those of a message to one mailbox.
 fn are_settings(settings: &Settings) -> bool {

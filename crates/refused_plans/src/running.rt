@@ -3,8 +3,9 @@ ghost use Rattle.std.specs.Prelude.{◌≡◌, false};
 
 use crate::devices::{Page, Paper};
 use crate::jobs::{
-    FIRST_JOB, FIRST_PLAN, LISTS_DOMAINS, LISTS_JOB, LISTS_PLAN, LISTS_PLAN_WITH_RETURNS,
-    OWNERS_JOB, OWNERS_PLAN,
+    EQUAL_PLAN, FIRST_JOB, FIRST_PLAN, LISTS_DOMAINS, LISTS_JOB, LISTS_PLAN,
+    LISTS_PLAN_WITH_RETURNS, MAILBOXES_JOB, MAILBOXES_PLAN, OWNERS_JOB, OWNERS_PLAN,
+    equal_items_job,
 };
 use aliasplan::{Crew, Form, Limits, NoGate, Options, RunFault, run, run_domains, run_returns};
 use growth_answers::{Answer, Seen, Teller, Unready, case};
@@ -19,7 +20,7 @@ pub const OPTIONS: Options = Options {
 };
 
 pub const LIMITS: Limits = Limits {
-    bytes: 10_000,
+    bytes: 200_000,
     names: 1000,
     owners: 100,
     pairs: 1000,
@@ -27,7 +28,7 @@ pub const LIMITS: Limits = Limits {
 
 /// What the parts of a call are handed.
 pub(crate) fn crew<R: Threads + Sync>(rt: &R, alloc: Global) -> Crew<'_, NoGate, R>
-    ensures { result.limits.bytes ≡ 10000 }
+    ensures { result.limits.bytes ≡ 200000 }
 {
     Crew {
         rt,
@@ -73,11 +74,14 @@ fn answered_at_last<R: Threads + Sync>(
 
 /// Behind a run that was refused, each later one is right.
 fn runs_jobs<R: Threads + Sync>(rt: &R, alloc: Global) -> Result<Seen, Unready> {
+    let equal_items = equal_items_job(alloc)?;
     let mut seen = Seen::Answered;
     for (job, plan) in [
         (FIRST_JOB, FIRST_PLAN),
         (LISTS_JOB, LISTS_PLAN),
         (OWNERS_JOB, OWNERS_PLAN),
+        (MAILBOXES_JOB, MAILBOXES_PLAN),
+        (equal_items.as_slice(), EQUAL_PLAN),
     ] {
         seen = seen.max(answered_at_last(rt, alloc, job, plan)?);
         if !seen.is_answered() {

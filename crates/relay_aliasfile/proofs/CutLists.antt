@@ -7,7 +7,9 @@ use Rattle.std.proofs.Math.Seq.{drop-cons}
 use Rattle.std.proofs.lemmas.Bool.{eqb-true, or_parts}
 use Rattle.std.proofs.lemmas.List.{map-append, take-append-drop, take_rest, length-take, length-drop, get_or-take, get_or-drop, get_or_default}
 use Rattle.std.proofs.lemmas.List.Elements.{All-head, All-tail, All-take, filter-append, filter_map-append}
-use Rattle.memchr.specs.Find.{Passes, Nowhere, is_byte, is_byte2}
+use Rattle.bstr.proofs.lemmas.ByteLemmas.{is_in-two, IsFirstByte-same}
+use Rattle.bstr.specs.Bytes.{is_in}
+use Rattle.bstr.specs.Find.{IsFirstByte, Passes, Nowhere, is_byte}
 use Rattle.relay_text.specs.Addresses.{is_empty}
 use Rattle.relay_text.specs.Bytes.{trimmed}
 use Rattle.relay_aliasfile.specs.IncludeFiles.{bad_item_faults}
@@ -92,8 +94,19 @@ texts_before list place comma quotes within passes =
     let here : Passes (is_byte 44) list comma = ap (λ b. b == 44) (sym (get_or-take place list comma 0 near)) ∙ passes in
     texts_at_comma list comma quotes inside here ∙ ap (λ rest. item_texts (take comma list) ++ item_texts rest) (sym (take_rest list (comma + 1)))
 
+-- what a search for a quote or a backslash answers
+pub first_quote : (list : List ℕ) (found : Option ℕ) → IsFirstByte (is_in (34 ∷ 92 ∷ [])) list found → IsFirstByte is_quote_byte list found
+first_quote list = IsFirstByte-same list (is_in (34 ∷ 92 ∷ [])) is_quote_byte (λ k within. sym (is_in-two (34 ∷ 92 ∷ []) (get_or list k 0) refl))
+
+-- where none is found
+pub no_quotes : (list : List ℕ) → IsFirstByte is_quote_byte list None → HasNoQuotes list
+no_quotes list none k d inside = ap is_quote_byte (get_or_default list k d 0 inside) ∙ not_there (is_quote_byte (get_or list k 0)) (none k (omega arith) inside) where
+  not_there : (t : Bool) → (t ≡ true → ⊥) → t ≡ false
+  not_there true h = absurd (h refl)
+  not_there false h = refl
+
 -- what no quote stands before
-pub quotes_before : (list : List ℕ) (quote comma : ℕ) → Nowhere (Passes (is_byte2 34 92) list) 0 quote → quote ≤ length list → comma < length (take quote list) → HasNoQuotes (take comma list)
+pub quotes_before : (list : List ℕ) (quote comma : ℕ) → Nowhere (Passes is_quote_byte list) 0 quote → quote ≤ length list → comma < length (take quote list) → HasNoQuotes (take comma list)
 quotes_before list quote comma none room within = λ k d inside.
     let short : k < comma = omega (arith, length-take comma list) in
     let near : k < quote = omega (arith, short, length-take quote list) in

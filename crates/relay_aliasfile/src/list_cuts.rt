@@ -3,7 +3,7 @@ ghost use Rattle.std.specs.Prelude.{◌≡◌, ◌++◌, ◌≤◌, IfSome};
 ghost use Rattle.relay_aliasfile.specs.Items.{item_texts};
 ghost use Rattle.relay_aliasfile.specs.ListCuts.{HasNoQuotes};
 
-use memchr::{memchr, memchr2, memrchr};
+use bstr::ByteSlice;
 use relay_halves::{LEAST_HALF, is_long};
 
 /// The front of a list up to the last comma before its first quote or backslash, and what follows that comma. A comma before the first
@@ -12,10 +12,10 @@ pub(crate) fn unquoted_front(list: &[u8]) -> (&[u8], &[u8])
     ensures quotes { HasNoQuotes result.0.now }
     ensures texts { item_texts list.now ≡ item_texts result.0.now ++ item_texts result.1.now }
 {
-    let Some(quote) = memchr2(b'"', b'\\', list) else {
+    let Some(quote) = list.find_byteset(b"\"\\") else {
         return (list, &list[list.len()..]);
     };
-    let Some(comma) = memrchr(b',', &list[..quote]) else {
+    let Some(comma) = (&list[..quote]).rfind_byte(b',') else {
         return (&list[..0], list);
     };
     (&list[..comma], &list[comma + 1..])
@@ -33,6 +33,6 @@ pub(crate) fn last_part(workers: usize, list: &[u8]) -> Option<(&[u8], &[u8])>
         return None;
     }
     let place = list.len() - usize::max(list.len() / workers, LEAST_HALF);
-    let comma = place + memchr(b',', &list[place..])?;
+    let comma = place + (&list[place..]).find_byte(b',')?;
     Some((&list[..comma], &list[comma + 1..]))
 }

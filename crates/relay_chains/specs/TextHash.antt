@@ -40,6 +40,6 @@ fixed_key = 0x9e37_79b9_7f4a_7c15_0000_0000_0000_0000
 abbrev pub hash_of : ℕ → ℕ
 hash_of state = folded 0x9e37_79b9_7f4a_7c15 state / 2 ^ 32
 
--- the hash of a text: all its words of eight bytes and then its last word are joined to the state, one after another
+-- the hash of a text: its words of eight bytes that another byte follows and then its last word are joined to the state, one after another
 unfoldable pub text_hash : ℕ → List ℕ → ℕ
-text_hash key text = hash_of (fold (joined (multiplier_of key)) (start_of key text) (words (length text / 8) text ++ last_word text ∷ []))
+text_hash key text = hash_of (fold (joined (multiplier_of key)) (start_of key text) (words ((length text - 1) / 8) text ++ last_word text ∷ []))

@@ -14,9 +14,8 @@ const MULTIPLIER: u64 = 0x9e37_79b9_7f4a_7c15;
 /// The hash of a text under a key.
 ///
 /// Its lower half is what the state begins with, and its upper half what the state is multiplied by when eight bytes were joined to it by
-/// xor; the halves of the 128 bits of each product are joined alike. The text's last eight bytes come last, of which some or all may have
-/// come before; a text of fewer bytes is one word. So who doesn't know the key knows neither a word that takes the state away nor two texts
-/// whose hashes are more likely to be one than those of any others.
+/// xor; the halves of the 128 bits of each product are joined alike. The text's last eight bytes come last, of which some may have come
+/// before; a text of fewer bytes is one word. So who doesn't know the key knows no word that takes the state away.
 pub fn hash_text(key: TextKey, text: &[u8]) -> u32
     ensures { result ≡ text_hash key text.now }
 {
@@ -24,6 +23,9 @@ pub fn hash_text(key: TextKey, text: &[u8]) -> u32
     let mut state = ((key & 0xFFFF_FFFF_FFFF_FFFF) as u64).wrapping_add(text.len() as u64);
     let mut rest = text;
     'words: while let Some((word, behind)) = rest.split_first_chunk::<8>() {
+        if behind.is_empty() {
+            break;
+        }
         state = mixed(state ^ u64::from_le_bytes(*word), multiplier);
         rest = behind;
     }

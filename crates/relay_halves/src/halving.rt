@@ -3,7 +3,7 @@ ghost use Rattle.std.specs.Prelude.{◌≡◌, ◌≤◌, ◌+◌, ◌*◌, ◌+
 ghost use Rattle.relay_text.specs.Lines.{raw_lines};
 ghost use Rattle.relay_halves.specs.Halves.{feeds_of, EndsWithLine, BeginsLogicalLine};
 
-use memchr::memchr;
+use bstr::ByteSlice;
 
 /// A half has about so many bytes at least: starting a thread takes as long as reading some kilobytes, a small part of this.
 pub const LEAST_HALF: usize = 65_536;
@@ -43,7 +43,7 @@ pub fn halves(workers: usize, bytes: &[u8]) -> Option<(&[u8], &[u8])>
     }
     let mut place = bytes.len() / 2;
     for _ in 0..MOST_LINES {
-        let feed = place + memchr(b'\n', &bytes[place..])?;
+        let feed = place + (&bytes[place..]).find_byte(b'\n')?;
         place = feed + 1;
         let (front, back) = bytes.split_at(place);
         if begins_logical_line(back) {

@@ -1,4 +1,5 @@
 //! Lines of the settings.
+use bstr::ByteSlice;
 use relay_text::trimmed;
 
 /// What a line `key = value` sets, without the white space round key and value.
@@ -16,7 +17,7 @@ impl<'a> Setting<'a> {
     fn equals_place(line: &[u8]) -> Option<usize>
         ensures { result ≡ position is_equals line.now }
     {
-        line.iter().position(|byte| *byte == b'=')
+        line.find_byte(b'=')
     }
 
     /// What a line sets; `None` where it has no `=`.

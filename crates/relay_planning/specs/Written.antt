@@ -8,7 +8,7 @@ use Rattle.relay_wire.specs.declared.plan.Planned.{Planned}
 use Rattle.relay_wire.specs.PlanText.{plan_text_of, wire_text_of, recipient_count}
 use Rattle.relay_wire.specs.PlanTexts.{plan_from}
 use Rattle.relay_job.specs.declared.job.Job.{Job}
-use Rattle.relay_planning.specs.Plans.{IsFewest, IsPlanOf}
+use Rattle.relay_planning.specs.Plans.{IsFewest, IsPlanOf, IsSoundFor}
 use Rattle.relay_planning.specs.declared.options.Form.{Form}
 use Rattle.relay_planning.specs.declared.options.Form.TheVariants as forms
 use Rattle.relay_planning.specs.declared.summary.Summary.{Summary}
@@ -27,7 +27,7 @@ IsWrittenAs form plan written = (concat written.texts.items ≡ text_in form pla
 
 -- the same of a job's plan
 abbrev pub IsWrittenFor : Job → Form → WrittenPlan → Type 0
-IsWrittenFor job form written = (plan : Plan) × IsPlanOf job plan × IsFewest job plan.transactions × IsWrittenAs form plan written
+IsWrittenFor job form written = (plan : Plan) × IsPlanOf job plan × IsSoundFor job plan.transactions × IsFewest job plan.transactions × IsWrittenAs form plan written
 
 -- the same of a plan of these transactions, whose findings are some lines in the order of their bytes, each once, with any host name
 abbrev pub AreWritten : List Planned → List (List ℕ) → WrittenPlan → Type 0

@@ -33,7 +33,7 @@ impl Form {
 #[derive(Clone, Copy)]
 pub struct Options {
     pub form: Form,
-    /// How many threads, from 1 to 64.
+    /// How many threads share a piece of work, from 1 to 64. With 1 none is started; two pieces side by side may have as many each.
     pub workers: usize,
     /// How many pairs of sender and node a thread takes at once, from 1 to 1,048,576.
     pub cut: usize,

@@ -6,6 +6,6 @@ pub mod Rising
 pub mod Numbers
 pub mod Sharding
 pub mod Winners
+pub mod ShareKeys
 pub mod AllZero
 pub mod Search
-pub mod SideBySide

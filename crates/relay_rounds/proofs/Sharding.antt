@@ -10,7 +10,7 @@ use Rattle.std.proofs.lemmas.List.Elements.{All-head, All-tail, All-contains, Co
 use Rattle.relay_rounds.specs.declared.block.Block.{Block}
 use Rattle.relay_rounds.specs.declared.part.Part.{Part}
 use Rattle.relay_rounds.specs.Blocks.{keys_in, keys_of, AreBlocks}
-use Rattle.relay_rounds.specs.Shards.{AreAtHome, AreBothOf, ArePartsFrom, AreParts, Taken, Grows, HasTaken, HaveTakenFrom, home_of, keys_of_parts}
+use Rattle.relay_rounds.specs.Shards.{AreAtHome, AreBothOf, AreInPlace, AreParts, Taken, Grows, HasTaken, HaveTaken, home_of, keys_of_parts}
 use Rattle.relay_rounds.proofs.Keys.{nowhere, in_head, cons_cases, in_flat_map, from_flat_map, pairs_flat, all_of, no_longer, as_many, distinct_both}
 use Rattle.relay_rounds.proofs.Rising.{sorted_rises}
 use Rattle.relay_rounds.proofs.BlockKeys.{from_block, blocks_distinct, blocks_rise}
@@ -21,7 +21,7 @@ home_of_key parts place blocks k home on =
     let w = from_flat_map keys_in blocks k on in
     ap (λ (n : ℕ). n % parts) (from_block w.0 k w.2).0 ∙ All-contains (λ b. b.number % parts ≡ place) blocks w.0 home w.1
 
-module _ (parts : List Part) (p : ArePartsFrom (length parts) 0 parts) where
+module _ (parts : List Part) (p : AreInPlace (length parts) parts) where
   -- a key is settled where it stands in its part
   pub part_has : (k : ℕ) (d : Part) → Contains (keys_of_parts parts) k ↔ Contains (keys_of (get_or parts (home_of (length parts) k) d).shard) k
   part_has k d = (
@@ -31,7 +31,7 @@ module _ (parts : List Part) (p : ArePartsFrom (length parts) 0 parts) where
         let below : j < length parts = w.1.1 in
         let here : get_or parts j d ≡ w.0 = get_or_default parts j d w.0 below ∙ w.1.2 in
         let there : Contains (keys_of (get_or parts j d).shard) k = subst (λ part. Contains (keys_of part.shard) k) (sym here) w.2 in
-        let own = home_of_key (length parts) (0 + j) (get_or parts j d).shard k (p.homes j d below) there in
+        let own = home_of_key (length parts) j (get_or parts j d).shard k (p.homes j d below) there in
         let at : home_of (length parts) k ≡ j = omega arith in
         subst (λ (p : ℕ). Contains (keys_of (get_or parts p d).shard) k) (sym at) there),
     (λ on. let some = p.some_part in in_flat_map (λ part. keys_of part.shard) parts (get_or parts (home_of (length parts) k) d) k (Contains-get_or parts (home_of (length parts) k) d (omega arith)) on),
@@ -41,9 +41,9 @@ module _ (parts : List Part) (p : ArePartsFrom (length parts) 0 parts) where
   parts_distinct = pairs_flat (λ a b. a ≢ b) (λ part. keys_of part.shard) parts
       (λ part on. blocks_distinct part.shard (All-contains (λ q. AreBlocks q.shard) parts part p.lawful on).apart)
       (λ i j d before below k l ink inl e.
-      let a = home_of_key (length parts) (0 + i) (get_or parts i d).shard k (p.homes i d (omega arith)) ink in
-      let b = home_of_key (length parts) (0 + j) (get_or parts j d).shard l (p.homes j d below) inl in
-      let same : 0 + i ≡ 0 + j = sym a ∙ ap (λ (z : ℕ). home_of (length parts) z) e ∙ b in
+      let a = home_of_key (length parts) i (get_or parts i d).shard k (p.homes i d (omega arith)) ink in
+      let b = home_of_key (length parts) j (get_or parts j d).shard l (p.homes j d below) inl in
+      let same : i ≡ j = sym a ∙ ap (λ (z : ℕ). home_of (length parts) z) e ∙ b in
       omega arith)
 
   -- the blocks of all parts
@@ -51,9 +51,9 @@ module _ (parts : List Part) (p : ArePartsFrom (length parts) 0 parts) where
   whole_apart = pairs_flat (λ a b. a.number ≢ b.number) (λ part. part.shard) parts
       (λ part on. (All-contains (λ q. AreBlocks q.shard) parts part p.lawful on).apart)
       (λ i j d before below a b ina inb e.
-      let x = All-contains (λ z. z.number % length parts ≡ 0 + i) (get_or parts i d).shard a (p.homes i d (omega arith)) ina in
-      let y = All-contains (λ z. z.number % length parts ≡ 0 + j) (get_or parts j d).shard b (p.homes j d below) inb in
-      let same : 0 + i ≡ 0 + j = sym x ∙ ap (λ (z : ℕ). z % length parts) e ∙ y in
+      let x = All-contains (λ z. z.number % length parts ≡ i) (get_or parts i d).shard a (p.homes i d (omega arith)) ina in
+      let y = All-contains (λ z. z.number % length parts ≡ j) (get_or parts j d).shard b (p.homes j d below) inb in
+      let same : i ≡ j = sym x ∙ ap (λ (z : ℕ). z % length parts) e ∙ y in
       omega arith)
 
   pub whole_small : All (λ b. b.number < 2 ^ 58) (flat_map (λ part. part.shard) parts)
@@ -198,20 +198,20 @@ module _ (len : ℕ) (parts : List Part) (p : AreParts len parts) (home key : �
         (λ ne. subst (λ q. AreBlocks q.shard) (sym (get_or-set_other parts home i after d ne)) (p.all.lawful i d (omega arith)))
         (cases_eq i home)
 
-    home_part : AreAtHome (length parts) (0 + home) part.shard
-    home_part = subst (λ q. AreAtHome (length parts) (0 + home) q.shard) (sym is) (p.all.homes home part home_low)
+    home_part : AreAtHome (length parts) home part.shard
+    home_part = subst (λ q. AreAtHome (length parts) home q.shard) (sym is) (p.all.homes home part home_low)
 
-    homes_set : (place : ℕ) (d : Part) → place < length (set parts home after) → AreAtHome (length (set parts home after)) (0 + place) (get_or (set parts home after) place d).shard
+    homes_set : (place : ℕ) (d : Part) → place < length (set parts home after) → AreAtHome (length (set parts home after)) place (get_or (set parts home after) place d).shard
     homes_set place d low =
         let size = size_set in
-        subst (λ (n : ℕ). AreAtHome n (0 + place) (get_or (set parts home after) place d).shard) (sym size)
+        subst (λ (n : ℕ). AreAtHome n place (get_or (set parts home after) place d).shard) (sym size)
         (⊎_elim
-        (λ e. subst (λ (j : ℕ). AreAtHome (length parts) (0 + j) (get_or (set parts home after) j d).shard) (sym e)
-        (subst (λ q. AreAtHome (length parts) (0 + home) q.shard) (sym (get_or-set_same parts home after d home_low)) (g.home (length parts) (0 + home) (omega arith) home_part)))
-        (λ ne. subst (λ q. AreAtHome (length parts) (0 + place) q.shard) (sym (get_or-set_other parts home place after d ne)) (p.all.homes place d (omega arith)))
+        (λ e. subst (λ (j : ℕ). AreAtHome (length parts) j (get_or (set parts home after) j d).shard) (sym e)
+        (subst (λ q. AreAtHome (length parts) home q.shard) (sym (get_or-set_same parts home after d home_low)) (g.home (length parts) home (omega arith) home_part)))
+        (λ ne. subst (λ q. AreAtHome (length parts) place q.shard) (sym (get_or-set_other parts home place after d ne)) (p.all.homes place d (omega arith)))
         (cases_eq place home))
 
-    all_set : ArePartsFrom (length (set parts home after)) 0 (set parts home after)
+    all_set : AreInPlace (length (set parts home after)) (set parts home after)
     all_set = let size = size_set in let some = p.all.some_part in record { some_part = omega arith; within = omega arith; lawful = lawful_set; homes = homes_set }
 
     has_set : (k : ℕ) → Contains (keys_of_parts (set parts home after)) k ↔ (Contains (keys_of_parts parts) k ⊎ (key ≡ k))
@@ -283,14 +283,14 @@ module _ (len : ℕ) (parts : List Part) (p : AreParts len parts) (home key : �
     }
 
 -- all parts took their keys
-module _ (len : ℕ) (parts now : List Part) (keys : List ℕ) (p : AreParts len parts) (h : HaveTakenFrom keys (length parts) 0 parts now) (fine : All (λ q. q.refused ≡ false) now) where
+module _ (len : ℕ) (parts now : List Part) (keys : List ℕ) (p : AreParts len parts) (h : HaveTaken keys (length parts) parts now) (fine : All (λ q. q.refused ≡ false) now) where
   lawful_now : All (λ q. AreBlocks q.shard) now
   lawful_now i d low = let size = h.size in (h.each i d (omega arith)).lawful (fine i d low)
 
-  homes_now : (place : ℕ) (d : Part) → place < length now → AreAtHome (length now) (0 + place) (get_or now place d).shard
-  homes_now place d low = let size = h.size in subst (λ (n : ℕ). AreAtHome n (0 + place) (get_or now place d).shard) (sym size) ((h.each place d (omega arith)).home (fine place d low))
+  homes_now : (place : ℕ) (d : Part) → place < length now → AreAtHome (length now) place (get_or now place d).shard
+  homes_now place d low = let size = h.size in subst (λ (n : ℕ). AreAtHome n place (get_or now place d).shard) (sym size) ((h.each place d (omega arith)).home (fine place d low))
 
-  all_now : ArePartsFrom (length now) 0 now
+  all_now : AreInPlace (length now) now
   all_now = let size = h.size in let some = p.all.some_part in record { some_part = omega arith; within = omega arith; lawful = lawful_now; homes = homes_now }
 
   pub all_taken : AreBothOf (keys_of_parts parts) keys (keys_of_parts now)
@@ -375,7 +375,7 @@ no_parts parts some empty = record {
     some_part = some;
     within = omega arith;
     lawful = λ i d below. subst (λ (bs : List Block). AreBlocks bs) (sym (empty i d below)) empty_blocks;
-    homes = λ place d below. subst (λ (bs : List Block). AreAtHome (length parts) (0 + place) bs) (sym (empty place d below)) (λ i e low. absurd (omega arith));
+    homes = λ place d below. subst (λ (bs : List Block). AreAtHome (length parts) place bs) (sym (empty place d below)) (λ i e low. absurd (omega arith));
   };
   count = ap length (sym (no_keys parts empty));
 }

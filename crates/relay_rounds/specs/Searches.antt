@@ -11,6 +11,11 @@ pub record IsSearch (next : ℕ → List ℕ) (roots settled offered : List ℕ)
   pub roots_met : (key : ℕ) → Contains roots key → Contains settled key ⊎ Contains offered key
   pub nexts_met : (from to : ℕ) → Contains settled from → Contains (next from) to → Contains settled to ⊎ Contains offered to
 
+-- each offered key, once
+pub record AreDistinctOf (offered keys : List ℕ) : Type 0 where
+  pub distinct : AllPairs (λ a b. a ≢ b) keys
+  pub members : (key : ℕ) → Contains keys key ↔ Contains offered key
+
 -- each offered key that is not settled, once
 pub record AreNewOf (settled offered keys : List ℕ) : Type 0 where
   pub distinct : AllPairs (λ a b. a ≢ b) keys

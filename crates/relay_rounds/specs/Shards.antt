@@ -43,16 +43,16 @@ pub record Grows (old : List Block) (key : ℕ) (new : Bool) (blocks : List Bloc
 abbrev pub keys_of_parts : List Part → List ℕ
 keys_of_parts parts = flat_map (λ part. keys_of part.shard) parts
 
--- parts that stand from a place on, among so many
-pub record ArePartsFrom (count first : ℕ) (parts : List Part) : Type 0 where
+-- parts of which each has the blocks of its place, among so many
+pub record AreInPlace (count : ℕ) (parts : List Part) : Type 0 where
   pub some_part : 0 < length parts
-  pub within : first + length parts ≤ count
+  pub within : length parts ≤ count
   pub lawful : All (λ part. AreBlocks part.shard) parts
-  pub homes : (k : ℕ) (d : Part) → k < length parts → AreAtHome count (first + k) (slice_index_or parts k d).shard
+  pub homes : (k : ℕ) (d : Part) → k < length parts → AreAtHome count k (slice_index_or parts k d).shard
 
 -- all parts, with so many keys
 pub record AreParts (len : ℕ) (parts : List Part) : Type 0 where
-  pub all : ArePartsFrom (length parts) 0 parts
+  pub all : AreInPlace (length parts) parts
   pub count : len ≡ length (keys_of_parts parts)
 
 -- a part has taken those of the keys that belong to it, unless memory for one was refused
@@ -61,7 +61,7 @@ pub record HasTaken (keys : List ℕ) (parts place : ℕ) (before after : Part) 
   pub home : after.refused ≡ false → AreAtHome parts place after.shard
   pub keys_now : after.refused ≡ false → (key : ℕ) → Contains (keys_of after.shard) key ↔ (Contains (keys_of before.shard) key ⊎ (Contains keys key × (home_of parts key ≡ place)))
 
--- each part from a place on, among so many, has taken its keys
-pub record HaveTakenFrom (keys : List ℕ) (count first : ℕ) (before after : List Part) : Type 0 where
+-- each part, among so many, has taken its keys
+pub record HaveTaken (keys : List ℕ) (count : ℕ) (before after : List Part) : Type 0 where
   pub size : length after ≡ length before
-  pub each : (k : ℕ) (d : Part) → k < length before → HasTaken keys count (first + k) (slice_index_or before k d) (slice_index_or after k d)
+  pub each : (k : ℕ) (d : Part) → k < length before → HasTaken keys count k (slice_index_or before k d) (slice_index_or after k d)

@@ -1,7 +1,7 @@
 -- What a worker keeps of what it wins.
-use Rattle.std.specs.Prelude.{◌≡◌, ℕ, ◌<◌, ◌≤◌, Bool, false, List, map, slice_index, Contains, ◌⊎◌}
+use Rattle.std.specs.Prelude.{◌≡◌, ℕ, ◌+◌, ◌-◌, ◌<◌, ◌≤◌, Bool, false, List, map, slice_index}
 use Rattle.relay_claims.specs.declared.view.Settled.{Settled}
-use Rattle.relay_claims.specs.Counting.{times, IsIn}
+use Rattle.relay_claims.specs.Counting.{times, span}
 use Rattle.relay_claims.specs.Settled.{won_of, places_of}
 use Rattle.relay_claims.specs.Round.{piece_count}
 use Rattle.relay_claims.specs.Seat.{Progress}
@@ -14,20 +14,18 @@ keys_won keys claims = map (λ i. slice_index keys i) (won_of claims)
 abbrev pub HasKept : List ℕ → Progress → Bool → List ℕ → Type 0
 HasKept keys seat refused won = refused ≡ false → won ≡ keys_won keys seat.settled
 
--- each place that was drawn is claimed, where it is not among those from start up to end; but no place is whose key was settled before
-pub record IsClaiming (old keys : List ℕ) (start end : ℕ) (s : Progress) : Type 0 where
-  pub met : (x : ℕ) → IsIn x s.drawn → (IsIn x (places_of s.settled) ⊎ Contains old (slice_index keys x)) ⊎ ((start ≤ x) × (x < end))
-  pub new : (x : ℕ) → IsIn x (places_of s.settled) → Contains old (slice_index keys x) → ⊥
-  pub once : (x : ℕ) → times x (places_of s.settled) ≤ times x s.drawn
-  pub free : (x : ℕ) → start ≤ x → x < end → (times x (places_of s.settled) ≡ 0) × IsIn x s.drawn
+-- each place is claimed as often as it was drawn, but for those from start up to end, none of which is claimed yet
+pub record IsClaiming (start end : ℕ) (s : Progress) : Type 0 where
+  pub each : (x : ℕ) → times x s.drawn ≡ times x (places_of s.settled) + times x (span start (end - start))
+  pub free : (x : ℕ) → start ≤ x → x < end → times x (places_of s.settled) ≡ 0
 
--- each place that was drawn is claimed, but for those whose key was settled before
-abbrev pub HasClaimedNew : List ℕ → List ℕ → Progress → Type 0
-HasClaimedNew old keys s = IsClaiming old keys 0 0 s
+-- each place is claimed as often as it was drawn
+abbrev pub HasClaimedAll : Progress → Type 0
+HasClaimedAll s = (x : ℕ) → times x s.drawn ≡ times x (places_of s.settled)
 
--- the seat drew until no piece was left
-pub record ClaimsTheNew (old keys : List ℕ) (before after : Progress) : Type 0 where
+-- the seat drew until no piece was left, and claimed
+pub record ClaimsAll (before after : Progress) : Type 0 where
   pub round : after.round ≡ before.round
   pub position : after.position ≡ before.position
   pub last : after.seen ≡ piece_count before.round
-  pub claimed : HasClaimedNew old keys after
+  pub claimed : HasClaimedAll after

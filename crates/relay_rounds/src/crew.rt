@@ -3,7 +3,7 @@ ghost use Rattle.std.specs.Prelude.{◌≤◌};
 
 use std::alloc::Global;
 
-/// What a search is handed: its threads, of which so many take part, the calling one among them, and each takes so many keys at once. Each
+/// What a search is handed: its threads, of which so many share a round, the calling one among them, and each takes so many keys at once. Each
 /// enters the gate before it does. Numbers of buckets hang on the salt: where strangers choose the keys, it is drawn at random. None of that
 /// changes what is found.
 #[derive(Drop)]

@@ -1,59 +1,55 @@
 //! The next keys of many keys.
-ghost use Rattle.std.specs.Prelude.{◌≡◌, ◌<◌, ◌++◌, All, flat_map, OnOk};
-ghost use Rattle.std.specs.Thread.{IsSync};
+ghost use Rattle.std.specs.Prelude.{◌≡◌, ◌<◌, ◌++◌, All, flat_map, IfOk, OnOk};
 
-use crate::shares::share_of;
+use crate::crew::Crew;
+use crate::shares::share_len;
 use crate::steps::Steps;
+use rayon::prelude::*;
 use relay_chains::Key;
 use std::alloc::{AllocError, Global};
-use std::thread::{Threads, join_mut};
+use std::thread::Threads;
 
-/// Puts the next keys of all keys, in their order, behind what is there.
-pub(crate) fn next_keys<S: Steps>(
-    steps: &S,
-    keys: &[Key],
-    next: &mut Vec<Key>,
-) -> Result<(), AllocError>
+// The next keys of the keys of a share, in their order.
+fn next_of_share<S: Steps>(alloc: Global, steps: &S, keys: &[Key]) -> Result<Vec<Key>, AllocError>
     requires { All (λ key. key < S.key_bound steps.now) keys.now }
-    ensures { OnOk result (next.new.items ≡ next.old.items ++ flat_map (S.next_keys steps.now) keys.now) }
+    ensures { IfOk result (λ next. next.items ≡ flat_map (S.next_keys steps.now) keys.now) }
 {
+    let mut next = Vec::new(alloc);
     for key in keys {
-        steps.append(*key, next)?;
+        steps.append(*key, &mut next)?;
+    }
+    Ok(next)
+}
+
+// Puts the keys of all parts, in their order, behind what is there.
+fn append_all(parts: &[Vec<Key>], keys: &mut Vec<Key>) -> Result<(), AllocError>
+    ensures { OnOk result (keys.new.items ≡ keys.old.items ++ flat_map (λ part. part.items) parts.now) }
+{
+    for part in parts {
+        keys.extend_from_slice(part.as_slice())?;
     }
     Ok(())
 }
 
-/// The same by so many threads, this one among them.
-pub(crate) fn next_keys_in_threads<S: Steps, R: Threads + Sync>(
-    rt: &R,
-    alloc: Global,
+/// Puts the next keys of all keys, in their order, behind what is there: each thread of the crew expands a share of them.
+pub(crate) fn next_keys<S: Steps, G, R: Threads + Sync>(
+    crew: &Crew<G, R>,
     steps: &S,
     keys: &[Key],
-    workers: usize,
     next: &mut Vec<Key>,
 ) -> Result<(), AllocError>
     requires { All (λ key. key < S.key_bound steps.now) keys.now }
     ensures { OnOk result (next.new.items ≡ next.old.items ++ flat_map (S.next_keys steps.now) keys.now) }
 {
-    if workers <= 1 {
-        return next_keys(steps, keys, next);
-    }
-    let share = share_of(workers);
-    let rest = workers - share;
-    let (front, back) = keys.split_at(keys.len() - keys.len() / workers * share);
-    let mut more = Vec::new(alloc);
-    let (there, here) = join_mut(
-        rt,
-        &mut || -> Result<(), AllocError>
-            requires { IsSync R.row × IsSync S.row × All (λ key. key < S.key_bound steps.now) back.now }
-            ensures { OnOk result (more.exit.items ≡ more.entry.items ++ flat_map (S.next_keys steps.entry.now) back.entry.now) }
-        { next_keys_in_threads(rt, alloc, steps, back, share, &mut more) },
-        &mut || -> Result<(), AllocError>
-            requires { IsSync R.row × IsSync S.row × All (λ key. key < S.key_bound steps.now) front.now }
-            ensures { OnOk result (next.exit.now.items ≡ next.entry.now.items ++ flat_map (S.next_keys steps.entry.now) front.entry.now) }
-        { next_keys_in_threads(rt, alloc, steps, front, rest, next) },
-    );
-    there?;
-    here?;
-    next.extend_from_slice(more.as_slice())
+    let alloc = crew.alloc;
+    let parts = keys
+        .par_chunks(share_len(keys.len(), crew.workers))
+        .map(
+            |share: &[Key]| -> Result<Vec<Key>, AllocError>
+                requires { All (λ key. key < S.key_bound steps.now) share.now }
+                ensures { IfOk result (λ next. next.items ≡ flat_map (S.next_keys steps.entry.now) share.now) }
+            { next_of_share(alloc, steps, share) },
+        )
+        .collect::<Result<Vec<Vec<Key>>, AllocError>>(crew.rt, alloc)??;
+    append_all(parts.as_slice(), next)
 }

@@ -7,7 +7,6 @@ use crate::crew::Crew;
 use crate::fault::ReachFault;
 use crate::gate::Gate;
 use crate::kept::Kept;
-use crate::offers::Offers;
 use crate::settled::Settled;
 use crate::settling::settle;
 use crate::steps::Steps;
@@ -23,7 +22,8 @@ fn is_for_one(workers: usize, keys: usize, cut: usize) -> bool {
 
 /// All keys that some chain of steps from a root ends in, ascending, each once. A root is reached by a chain of no steps.
 ///
-/// The threads of the crew take part, but no more than a round has pieces; a piece is so many offered keys as one of them takes at once.
+/// The threads of the crew share a round, but no more than it has pieces; a piece is so many offered keys as one of them takes at once. Many
+/// keys of an answer are sorted by as many threads as there are processors.
 /// `roots` may name a key more than once.
 /// Time of a round grows with the keys that it offers, and not with the bound of the steps. 64 keys one after another take
 /// about 40 bytes once one of them is settled, and no more where all are. A round of one piece, or of one worker, takes no table
@@ -68,16 +68,9 @@ pub fn reach<S: Steps, G: Gate, R: Threads + Sync>(
             mem::swap(&mut offered, &mut next);
             continue;
         }
-        let offers = Offers {
-            keys: offered.as_slice(),
-            settled: &settled,
-            cut,
-            salt,
-        };
-        winners(rt, &offers, workers, gate, &mut kept)?;
+        let new = winners(crew, &settled, &offered, &mut kept)?;
         offered.clear();
-        let new = kept.won.as_slice();
-        settled = settle(crew, steps, new, limit, settled, &mut offered)?;
+        settled = settle(crew, steps, &new, limit, settled, &mut offered)?;
     }
     let keys = settled.ascending(rt)?;
     Ok(keys)

@@ -4,12 +4,13 @@
 //! puts all of its keys into one bucket. These numbers hang on a salt that the file's writer doesn't know.
 ghost use Rattle.std.specs.Prelude.{◌≤◌, ◌+◌, ◌*◌, ◌^◌};
 
-/// A number of heads between `few` and twice as many. It is odd, so that keys that are multiples of a power of two spread.
+/// A number of heads between one and a half times `few` and twice as many. It is odd, so that keys that are multiples of a power of two spread.
 pub(crate) fn heads_from(few: usize, salt: u64) -> usize
     requires { few ≤ 2 ^ 34 }
     ensures some { 1 ≤ result }
     ensures most { result ≤ 2 * few + 1 }
 {
-    let more = (salt % few.max(1) as u64) as usize;
-    (few + more) / 2 * 2 + 1
+    let half = few / 2;
+    let more = (salt % half.max(1) as u64) as usize;
+    (few + half + more) / 2 * 2 + 1
 }

@@ -3,10 +3,9 @@ ghost use Rattle.std.specs.Prelude.{◌≡◌, ◌+◌, ◌-◌, ◌++◌, ◌<�
 ghost use Rattle.relay_claims.specs.Counting.{times, IsIn};
 ghost use Rattle.relay_claims.specs.Settled.{places_of};
 ghost use Rattle.relay_claims.specs.Seat.{IsSeatOf, AreHalves, first_half, second_half, joined};
-ghost use Rattle.relay_rounds.specs.Winners.{HasKept, HasClaimedNew, IsClaiming, ClaimsTheNew};
+ghost use Rattle.relay_rounds.specs.Winners.{HasKept, HasClaimedAll, IsClaiming, ClaimsAll};
 
 use crate::gate::Gate;
-use crate::offers::Offers;
 use relay_chains::Key;
 use relay_claims::{Claim, Round, Seat};
 use std::alloc::Global;
@@ -66,38 +65,36 @@ impl Worker {
         }
     }
 
-    // Claims the places from start up to end whose keys aren't settled.
-    fn claim_piece(&mut self, round: &Round, offers: &Offers, start: usize, end: usize)
+    // Claims the places from start up to end.
+    fn claim_piece(&mut self, round: &Round, keys: &[Key], start: usize, end: usize)
         requires own { IsSeatOf round.now self.old.seat }
-        requires within { end ≤ length offers.now.keys.now }
-        requires left { IsClaiming offers.now.settled.now offers.now.keys.now start end self.old.seat }
-        requires kept { HasKept offers.now.keys.now self.old.seat self.old.refused self.old.won.items }
+        requires within { end ≤ length keys.now }
+        requires left { IsClaiming start end self.old.seat }
+        requires kept { HasKept keys.now self.old.seat self.old.refused self.old.won.items }
         requires room { self.old.refused ≡ false → vec_len self.old.won + (end - start) ≤ vec_capacity self.old.won }
-        ensures claimed { HasClaimedNew offers.now.settled.now offers.now.keys.now self.new.seat }
+        ensures claimed { HasClaimedAll self.new.seat }
         ensures same { (self.new.seat.round ≡ self.old.seat.round) × (self.new.seat.position ≡ self.old.seat.position) × (self.new.seat.seen ≡ self.old.seat.seen) }
-        ensures kept { HasKept offers.now.keys.now self.new.seat self.new.refused self.new.won.items }
+        ensures kept { HasKept keys.now self.new.seat self.new.refused self.new.won.items }
     {
         for j in start..end {
-            if !offers.settled.contains(offers.keys[j]) {
-                self.claim(round, offers.keys, j);
-            }
+            self.claim(round, keys, j);
         }
     }
 
-    /// Draws and claims until no piece is left, and enters the gate before each piece.
-    pub(crate) fn work<G: Gate>(&mut self, round: &Round, offers: &Offers, gate: &G)
+    /// Draws and claims until no piece is left, and enters the gate before each piece. A piece is so many keys.
+    pub(crate) fn work<G: Gate>(&mut self, round: &Round, keys: &[Key], cut: usize, gate: &G)
         requires own { IsSeatOf round.now self.old.seat }
-        requires keys { round.now.keys ≡ offers.now.keys.now }
-        requires cut { 1 ≤ offers.now.cut }
-        requires claimed { HasClaimedNew offers.now.settled.now offers.now.keys.now self.old.seat }
-        requires kept { HasKept offers.now.keys.now self.old.seat self.old.refused self.old.won.items }
-        ensures rest { ClaimsTheNew offers.now.settled.now offers.now.keys.now self.old.seat self.new.seat }
-        ensures kept { HasKept offers.now.keys.now self.new.seat self.new.refused self.new.won.items }
+        requires keys { round.now.keys ≡ keys.now }
+        requires cut { 1 ≤ cut }
+        requires claimed { HasClaimedAll self.old.seat }
+        requires kept { HasKept keys.now self.old.seat self.old.refused self.old.won.items }
+        ensures rest { ClaimsAll self.old.seat self.new.seat }
+        ensures kept { HasKept keys.now self.new.seat self.new.refused self.new.won.items }
     {
         while let Some(piece) = round.draw(&mut self.seat) {
-            gate.enter(piece.start / offers.cut);
+            gate.enter(piece.start / cut);
             self.reserve(piece.end - piece.start);
-            self.claim_piece(round, offers, piece.start, piece.end);
+            self.claim_piece(round, keys, piece.start, piece.end);
         }
     }
 

@@ -8,6 +8,7 @@ ghost use Rattle.relay_routes.specs.Exchanges.{fields_of, record_of, exchange_of
 use crate::exchange::Exchange;
 use crate::field::Field;
 use crate::mx_record::MxRecord;
+use bstr::ByteSlice;
 use relay_text::{begins_with_word, number_within, trimmed_start};
 use std::alloc::{AllocError, Global};
 
@@ -117,7 +118,5 @@ fn field_len(text: &[u8]) -> usize
     ensures place { result ≡ position_or_len is_white text.now }
     ensures within { result ≤ length text.now }
 {
-    text.iter()
-        .position(|byte| *byte == b' ' || *byte == b'\t')
-        .unwrap_or(text.len())
+    text.find_byteset(b" \t").unwrap_or(text.len())
 }

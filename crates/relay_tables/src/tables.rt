@@ -13,7 +13,7 @@ use std::marker::Model;
 
 /// The local domains, the alias table, the job's include files and the mailboxes, with indices by which a name is found.
 ///
-/// An index holds the hashes of its texts alone, under a key that depends on all names of entries and mailboxes. Look-ups take no memory
+/// An index holds the hashes of its texts alone, under the key that was handed in. Look-ups take no memory
 /// and need about one comparison, whatever the size of the tables; a domain takes as many as the logarithm of their number.
 pub struct Tables {
     local: Local,

@@ -1,6 +1,5 @@
 pub mod Rows
 pub mod ByteTables
-pub mod LineEnds
 pub mod Scans
 pub mod SameBytes
 pub mod KeptWalks

@@ -1,15 +1,18 @@
 -- Where a text is trimmed, and where it's cut into physical lines.
-use Rattle.std.proofs.Common.{◌≡◌, ◌<◌, ◌≤◌, ◌≢◌, ℕ, suc, ◌+◌, ◌-◌, Bool, true, false, not, cond, ◌&&◌, List, [], ◌∷◌, length, take, drop, get_or, map, Some, None, refl, sym, ap, ◌∙◌, arith, eqb}
-use Rattle.std.specs.List.{prefix_len, position_or_len, before_first, onto_first, slice_get, list_all, zip}
+use Rattle.std.proofs.Common.{◌≡◌, ◌<◌, ◌≤◌, ◌≢◌, ℕ, suc, ◌+◌, ◌-◌, Bool, true, false, not, cond, ◌&&◌, List, [], ◌∷◌, length, take, drop, get_or, map, Option, Some, None, refl, sym, ap, ◌∙◌, arith, tests, eqb}
+use Rattle.std.specs.List.{prefix_len, position_or_len, before_first, onto_first, slice_get, list_all, position, zip}
 use Rattle.std.specs.Char.{to_ascii_lowercase}
 use Rattle.std.specs.Str.{bytes_eq}
 use Rattle.std.proofs.lemmas.List.Sums.{position_or_len_is}
 use Rattle.std.proofs.lemmas.Bool.{eq-eqb, ne_eqb}
 use Rattle.std.proofs.lemmas.List.{take_all, drop_all, take-take, length-take, get_or-take}
 use Rattle.bstr.specs.Find.{IsFirstByte}
-use Rattle.relay_text.proofs.LineEnds.{is_line_feed}
 use Rattle.relay_text.specs.Bytes.{is_white, trimmed_start, folded}
 use Rattle.relay_text.specs.Lines.{raw_lines, physical_lines, line_text, without_cr, is_ignored}
+
+-- the end of a line
+abbrev pub is_line_feed : ℕ → Bool
+is_line_feed b = eqb b 10
 
 not_true : (b : Bool) → b ≢ true → b ≡ false
 not_true true h = absurd (h refl)
@@ -20,6 +23,11 @@ place_found test hay k h = position_or_len_is test hay k 0 (omega arith) (λ j l
 
 pub place_missing : (test : ℕ → Bool) (hay : List ℕ) → IsFirstByte test hay None → position_or_len test hay ≡ length hay
 place_missing test hay h = position_or_len_is test hay (length hay) 0 (omega arith) (λ j lt. not_true (test (get_or hay j 0)) (h j (omega arith) lt)) (λ lt. absurd (omega arith))
+
+-- What a search answers is the first place.
+pub position_is : (test : ℕ → Bool) (hay : List ℕ) (r : Option ℕ) → IsFirstByte test hay r → r ≡ position test hay
+position_is test hay None h = let all = place_missing test hay h in grind (arith, tests)
+position_is test hay (Some k) h = let at = place_found test hay k h in let within = h.0.high in grind (arith, tests)
 
 -- A text is its first line, up to its first LF, and the lines of the rest.
 pub raw_lines-found : (bs : List ℕ) → position_or_len is_line_feed bs < length bs → raw_lines bs ≡ take (position_or_len is_line_feed bs + 1) bs ∷ raw_lines (drop (position_or_len is_line_feed bs + 1) bs)

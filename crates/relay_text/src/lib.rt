@@ -13,7 +13,6 @@ mod hashed_text;
 mod inline_bytes;
 mod inside;
 pub mod kept;
-mod line_end;
 pub mod lines;
 mod local;
 pub mod logical;

@@ -2,11 +2,13 @@
 ghost use Rattle.std.specs.Prelude.{◌≡◌, ◌≤◌, ◌==◌, length, position};
 ghost use Rattle.std.specs.List.{position_or_len};
 
+use bstr::ByteSlice;
+
 /// The place of the first such byte.
 pub(crate) fn place_of(byte: u8, text: &[u8]) -> Option<usize>
     ensures { result ≡ position (λ b. b == byte) text.now }
 {
-    text.iter().position(|other| *other == byte)
+    text.find_byte(byte)
 }
 
 /// The same, or the length where there is none.

@@ -3,7 +3,7 @@ ghost use Rattle.std.specs.Prelude.{◌≡◌, ◌<◌, ◌++◌, ◌∷◌, [],
 ghost use Rattle.relay_text.specs.Bytes.{is_white, folded, trimmed, trimmed_start, trimmed_end, begins_with_word};
 ghost use Rattle.relay_text.specs.Lines.{raw_lines, physical_lines, line_text, without_cr, is_ignored};
 
-use crate::line_end::line_feed;
+use bstr::ByteSlice;
 
 /// Puts ASCII capitals into lower case, in place. Other bytes stay, as do those past 127.
 pub fn fold(bytes: &mut [u8])
@@ -72,7 +72,7 @@ pub fn split_line(bytes: &[u8]) -> Option<(&[u8], &[u8])>
     if bytes.is_empty() {
         return None;
     }
-    match line_feed(bytes) {
+    match bytes.find_byte(b'\n') {
         Some(end) => Some(bytes.split_at(end + 1)),
         None => Some(bytes.split_at(bytes.len())),
     }
@@ -82,7 +82,7 @@ pub fn split_line(bytes: &[u8]) -> Option<(&[u8], &[u8])>
 pub fn line_text(raw: &[u8]) -> &[u8]
     ensures { result.now ≡ line_text raw.now }
 {
-    let line = match line_feed(raw) {
+    let line = match raw.find_byte(b'\n') {
         Some(end) => &raw[..end],
         None => raw,
     };
@@ -98,7 +98,7 @@ pub(crate) fn cut_line(bytes: &[u8]) -> Option<(&[u8], &[u8])>
     if bytes.is_empty() {
         return None;
     }
-    match line_feed(bytes) {
+    match bytes.find_byte(b'\n') {
         Some(end) => Some((without_cr(&bytes[..end]), &bytes[end + 1..])),
         None => Some((without_cr(bytes), &bytes[bytes.len()..])),
     }

@@ -76,12 +76,16 @@ fn refuses_fewer<S: Steps, R: Abort + AllocGlobal + Threads + Sync>(
     steps: &S,
     roots: &[Key],
     count: usize,
+    workers: usize,
+    cut: usize,
 )
     requires roots { All (λ key. key < S.key_bound steps.now) roots.now }
     requires count { count ≤ 1000 }
+    requires workers { 1 ≤ workers }
+    requires cut { 1 ≤ cut }
 {
     if count > 0 {
-        let refused = reach_at_last(rt, steps, roots, 7, 3, count - 1).err();
+        let refused = reach_at_last(rt, steps, roots, workers, cut, count - 1).err();
         expect(rt, refused, Some(ReachFault::TooManyPairs));
     }
 }
@@ -102,7 +106,7 @@ fn always_gives<S: Steps, R: Abort + AllocGlobal + Threads + Sync>(
         }
     }
     gives_amply(rt, steps, roots, keys)?;
-    refuses_fewer(rt, steps, roots, keys.len());
+    refuses_fewer(rt, steps, roots, keys.len(), 7, 3);
     Ok(())
 }
 
@@ -110,6 +114,24 @@ fn always_gives<S: Steps, R: Abort + AllocGlobal + Threads + Sync>(
 fn tenths(rt: HostRuntime) -> Result<(), Fail> {
     always_gives(&rt, &Tenths, &[1, 1], &[0, 1, 2, 3, 4, 5, 6, 7, 8, 9])?;
     gives_exactly(&rt, &Tenths, &[], &[], 2, 1)?;
+    Ok(())
+}
+
+#[test]
+fn tenths_at_their_limit(rt: HostRuntime) -> Result<(), Fail> {
+    for workers in [1, 2, 7, 64] {
+        for cut in [1, 3, 1000] {
+            gives_exactly(
+                &rt,
+                &Tenths,
+                &[1, 1],
+                &[0, 1, 2, 3, 4, 5, 6, 7, 8, 9],
+                workers,
+                cut,
+            )?;
+            refuses_fewer(&rt, &Tenths, &[1, 1], 10, workers, cut);
+        }
+    }
     Ok(())
 }
 
@@ -152,14 +174,14 @@ fn keys_past_32_bits(rt: HostRuntime) -> Result<(), Fail> {
     Ok(())
 }
 
-// Whether two workers came through the gate to the keys, piece by piece: where there was no memory, they did not come so far.
+// Sees that two workers come through the gate to the keys, piece by piece.
 fn comes_through<S: Steps, G: Gate, R: Abort + AllocGlobal + Threads + Sync>(
     rt: &R,
     steps: &S,
     roots: &[Key],
     keys: &[Key],
     gate: &G,
-) -> Result<bool, ReachFault>
+) -> Result<(), ReachFault>
     requires roots { All (λ key. key < S.key_bound steps.now) roots.now }
     requires keys { length keys.now ≤ 1000 }
 {
@@ -171,13 +193,9 @@ fn comes_through<S: Steps, G: Gate, R: Abort + AllocGlobal + Threads + Sync>(
         salt: 0,
         gate,
     };
-    match reach(&crew, steps, roots, keys.len()) {
-        Err(ReachFault::Memory) => Ok(false),
-        answer => {
-            expect(rt, answer?.as_slice(), keys);
-            Ok(true)
-        }
-    }
+    let found = reach(&crew, steps, roots, keys.len())?;
+    expect(rt, found.as_slice(), keys);
+    Ok(())
 }
 
 #[test]
@@ -189,9 +207,8 @@ fn enters_each_piece(rt: HostRuntime) -> Result<(), Fail> {
             AtomicUsize::new(0),
         ],
     };
-    if comes_through(&rt, &Thrice, &[0], &[0, 1], &gate)? {
-        expect(&rt, gate.counts(), [2, 1, 1]);
-    }
+    comes_through(&rt, &Thrice, &[0], &[0, 1], &gate)?;
+    expect(&rt, gate.counts(), [2, 1, 1]);
     Ok(())
 }
 
@@ -202,9 +219,8 @@ fn two_threads_meet(rt: HostRuntime) -> Result<(), Fail> {
         third: AtomicBool::new(false),
         late: AtomicBool::new(false),
     };
-    if comes_through(&rt, &Halves, &[0, 1, 2], &[0, 1, 2], &gate)? {
-        assert!(rt; !gate.late.load(Ordering::SeqCst));
-    }
+    comes_through(&rt, &Halves, &[0, 1, 2], &[0, 1, 2], &gate)?;
+    assert!(rt; !gate.late.load(Ordering::SeqCst));
     Ok(())
 }
 

@@ -16,11 +16,12 @@ returns-clause-answered g c = IfOk-weaker c.answer_job-answer.result _ _
       within = h.0;
       plan = h.1.0;
       planned = h.1.1;
-      returns = h.1.3.0;
-      returned = h.1.3.1;
-      written = h.1.3.2;
-      summed = h.1.3.3;
-      fewest = h.1.2;
+      returns = h.1.4.0;
+      returned = h.1.4.1;
+      written = h.1.4.2;
+      summed = h.1.4.3;
+      sound = h.1.2;
+      fewest = h.1.3;
     })
     c.answer_job-answer.ensures.answered
 

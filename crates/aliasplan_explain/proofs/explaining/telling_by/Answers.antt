@@ -1,6 +1,6 @@
 use Rattle.std.proofs.Common.{refl}
 use Rattle.relay_explain.specs.Explanations.{Explanation}
-use Rattle.aliasplan_explain.proofs.AnswerFacts.{answers_are, none_told}
+use Rattle.aliasplan_explain.proofs.AnswerFacts.{answers_are, none_answered, none_told}
 use Rattle.aliasplan_explain.proofs.AskedTargets.{asked_has_target}
 use Rattle.aliasplan_explain.proofs.explaining.telling_by.Goals as goal
 
@@ -30,7 +30,8 @@ returns c =
         stands = question.ensures.stands;
         decision = aim.ensures.decision;
         answers = found.1;
-        unreached = λ none. c.in_ok-unreached.ensures (none_told found.0 c.args.answers found.2 none);
+        unreached = λ none. c.in_ok-unreached.ensures.none (none_told found.0 c.args.answers found.2 none);
+        reached = λ some. c.in_ok-unreached.ensures.some (λ none. some (none_answered found.0 c.args.answers found.2 none));
       },
       record {
         asked = refl;

@@ -7,4 +7,4 @@ returns-in_err-plan-clause-refused g c =
     rw (p.1, p.2) c.in_err-plan.ensures.refused
 
 pub returns-clause-written : goal.returns-clause-written
-returns-clause-written g c = IfOk-weaker c.written_of-written.result _ _ (λ written is. (c.in_ok-plan.plan, c.in_ok-plan.ensures.plan, c.in_ok-plan.ensures.fewest, is)) c.written_of-written.ensures.written
+returns-clause-written g c = IfOk-weaker c.written_of-written.result _ _ (λ written is. (c.in_ok-plan.plan, c.in_ok-plan.ensures.plan, c.in_ok-plan.ensures.sound, c.in_ok-plan.ensures.fewest, is)) c.written_of-written.ensures.written

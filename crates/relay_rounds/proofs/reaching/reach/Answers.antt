@@ -22,25 +22,25 @@ new_here settled offered shown won won_shown a b n = subst (λ (xs : List ℕ). 
 pub settle-requires-clause-below : goal.settle-requires-clause-below
 settle-requires-clause-below g c κs within =
     let settled = c.rounds.settled in
-    let new = c.as_slice-new.result.now in
+    let new = c.deref-in-rounds.result.now in
     let n : AreNewOf settled c.rounds.offered.items new =
-    new_here settled c.rounds.offered.items c.as_slice-in-rounds.result.now c.winners.new.kept.won.items new c.as_slice-in-rounds.ensures.value c.as_slice-new.ensures.value c.in_ok-winners.ensures in
+    new_here settled c.rounds.offered.items c.deref.result.now c.in_ok-new.new.items new c.deref.ensures.value c.deref-in-rounds.ensures.value c.in_ok-new.ensures in
     new_all (λ key. key < g.S.Steps.key_bound c.args.steps.now) settled c.rounds.offered.items new n c.rounds.invariant.below
 
 pub settle-requires-clause-fresh : goal.settle-requires-clause-fresh
 settle-requires-clause-fresh g c κs within =
     let settled = c.rounds.settled in
-    let new = c.as_slice-new.result.now in
+    let new = c.deref-in-rounds.result.now in
     let n : AreNewOf settled c.rounds.offered.items new =
-    new_here settled c.rounds.offered.items c.as_slice-in-rounds.result.now c.winners.new.kept.won.items new c.as_slice-in-rounds.ensures.value c.as_slice-new.ensures.value c.in_ok-winners.ensures in
+    new_here settled c.rounds.offered.items c.deref.result.now c.in_ok-new.new.items new c.deref.ensures.value c.deref-in-rounds.ensures.value c.in_ok-new.ensures in
     λ key on old. ((n.members key).0 on).1 old
 
 pub returns-in_err-settled-2-clause-refused : goal.returns-in_err-settled-2-clause-refused
 returns-in_err-settled-2-clause-refused g c =
     let settled = c.rounds.settled in
-    let new = c.as_slice-new.result.now in
+    let new = c.deref-in-rounds.result.now in
     let n : AreNewOf settled c.rounds.offered.items new =
-    new_here settled c.rounds.offered.items c.as_slice-in-rounds.result.now c.winners.new.kept.won.items new c.as_slice-in-rounds.ensures.value c.as_slice-new.ensures.value c.in_ok-winners.ensures in
+    new_here settled c.rounds.offered.items c.deref.result.now c.in_ok-new.new.items new c.deref.ensures.value c.deref-in-rounds.ensures.value c.in_ok-new.ensures in
     let p = err_from_is_err_and c.from_residual-in_err-settled-2.result c.from_residual-in_err-settled-2.ensures.1 in
     rw (p.1, p.2)
     (λ e. c.in_err-settled-2.ensures.refused (same_fault _ _ e) c.args.roots.now
@@ -49,9 +49,9 @@ returns-in_err-settled-2-clause-refused g c =
 pub rounds-preserved : goal.rounds-preserved
 rounds-preserved g c =
     let settled = c.rounds.settled in
-    let new = c.as_slice-new.result.now in
+    let new = c.deref-in-rounds.result.now in
     let n : AreNewOf settled c.rounds.offered.items new =
-    new_here settled c.rounds.offered.items c.as_slice-in-rounds.result.now c.winners.new.kept.won.items new c.as_slice-in-rounds.ensures.value c.as_slice-new.ensures.value c.in_ok-winners.ensures in
+    new_here settled c.rounds.offered.items c.deref.result.now c.in_ok-new.new.items new c.deref.ensures.value c.deref-in-rounds.ensures.value c.in_ok-new.ensures in
     let e = c.in_ok-settled-2.ensures.settles in
     record {
       search = e.search c.args.roots.now (new_won (g.S.Steps.next_keys c.args.steps.now) c.args.roots.now settled c.rounds.offered.items new n c.rounds.invariant.search);

@@ -1,12 +1,14 @@
-use Rattle.std.proofs.Common.{List, ℕ, ap, sym, ◌∙◌, subst}
-use Rattle.relay_rounds.specs.Searches.{AreNewOf}
-use Rattle.relay_rounds.proofs.Winners.{won_new}
+use Rattle.std.proofs.Common.{ℕ, Bool, not, ap, ◌∙◌}
+use Rattle.std.specs.Prelude.{filter}
+use Rattle.std.proofs.lemmas.Result.{IfOk-weaker}
+use Rattle.relay_rounds.specs.Shards.{is_there}
+use Rattle.relay_rounds.proofs.Winners.{unsettled_are_new}
 use Rattle.relay_rounds.proofs.winning.winners.Goals as goal
 
 pub returns : goal.returns
 returns g c =
-    let opened = c.in_ok-round.ensures in
-    let offers = c.args.offers.now in
-    let worker = c.work_all-worker.result in
-    subst (λ (xs : List ℕ). AreNewOf offers.settled.now offers.keys.now xs) (sym (c.work_all-worker.ensures.kept c.if-refused.false))
-    (won_new c.in_ok-round.seat worker.seat offers.settled.now offers.keys.now (ap (λ s. s.round.keys) opened.seat ∙ opened.round.0) (ap (λ s. s.position) opened.seat) c.work_all-worker.ensures.rest c.end.ensures)
+    let settled = c.args.settled.now in
+    let fresh : ℕ → Bool = λ key. not (is_there settled key) in
+    IfOk-weaker c.unsettled.result _ _
+    (λ new is. unsettled_are_new settled c.args.keys.now c.claim_all.new.kept.won.items new.items c.in_ok-claim_all.ensures (is ∙ ap (filter fresh) c.as_slice.ensures.value))
+    c.unsettled.ensures

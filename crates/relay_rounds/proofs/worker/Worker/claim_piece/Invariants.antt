@@ -8,7 +8,7 @@ invariant-loop-j l = record {
   round : l.self.seat.round ≡ l.fn.self.seat.round;
   position : l.self.seat.position ≡ l.fn.self.seat.position;
   seen : l.self.seat.seen ≡ l.fn.self.seat.seen;
-  claiming : IsClaiming l.offers.settled.now l.offers.keys.now l.j l.end l.self.seat;
-  kept : HasKept l.offers.keys.now l.self.seat l.self.refused l.self.won.items;
+  claiming : IsClaiming l.j l.end l.self.seat;
+  kept : HasKept l.keys l.self.seat l.self.refused l.self.won.items;
   room : l.self.refused ≡ false → vec_len l.self.won + (l.end - l.j) ≤ vec_capacity l.self.won;
 }
