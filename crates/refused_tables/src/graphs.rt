@@ -3,10 +3,9 @@ use crate::inputs::{Message, OWNED, graph, message_to, tables};
 use crate::lending::{built, made, tried, tried_on_both};
 use growth_answers::inputs::is_address;
 use growth_answers::{Answer, Seen, Teller, Unready, case};
-use relay_tables::{Graph, LookedUp, Node, TableCounts, TableFault, Tables, TwoWayGraph};
+use relay_tables::{Graph, Node, TableCounts, TableFault, Tables, TwoWayGraph};
 use relay_text::Address;
 use std::alloc::Global;
-use std::thread::Threads;
 
 fn is_remote(node: &Node, local: &[u8]) -> bool {
     matches!(node, Node::Remote(address) if is_address(address, local, b"example.net"))
@@ -59,21 +58,6 @@ fn is_built(alloc: Global, tables: &Tables, message: &Message) -> Answer {
         Graph::build(alloc, tables, sender, &message.recipients, 6, 1),
         is_whole,
     )
-}
-
-fn is_built_of<R: Threads + Sync>(
-    rt: &R,
-    alloc: Global,
-    tables: &Tables,
-    message: &Message,
-) -> Answer {
-    match LookedUp::of(rt, alloc, 2, tables, &message.recipients) {
-        Ok(looked_up) => built(
-            Graph::of(alloc, looked_up, Some(&message.sender), 6, 1),
-            is_whole,
-        ),
-        Err(_) => Answer::Refused,
-    }
 }
 
 /// Each node's parents beside its children.
@@ -129,21 +113,13 @@ fn tried_of_message<F: Fn(Global, &Tables, &Message) -> Answer>(
     tried_on_both(alloc, tables, message, call)
 }
 
-fn builds_what_is_looked_up<R: Threads + Sync>(rt: &R, alloc: Global) -> Result<Seen, Unready> {
-    tried_of_message(alloc, b"outer", |alloc, tables, message| {
-        is_built_of(rt, alloc, tables, message)
-    })
-}
-
-pub(crate) fn tell<R: Print + AllocGlobal + Threads + Sync>(teller: &mut Teller<'_, R>) {
-    let rt = teller.rt;
-    let alloc = rt.alloc();
+pub(crate) fn tell<R: Print + AllocGlobal>(teller: &mut Teller<'_, R>) {
+    let alloc = teller.rt.alloc();
     case!(
         teller,
         "Graph::build",
         tried_of_message(alloc, b"outer", is_built)
     );
-    case!(teller, "Graph::of", builds_what_is_looked_up(rt, alloc));
     case!(
         teller,
         "Graph::build, too many names",

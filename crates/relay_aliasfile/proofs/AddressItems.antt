@@ -1,5 +1,5 @@
 -- Items that are addresses: what a name's reading and an address's reading say of them.
-use Rattle.std.proofs.Common.{◌≡◌, Bool, true, false, not, ◌||◌, ℕ, List, [], ◌∷◌, refl, sym, ap, ◌∙◌, ◌⊎◌, inl, inr, subst, Some, None, Ok, Err, Result, Option}
+use Rattle.std.proofs.Common.{◌≡◌, ◌≢◌, Bool, true, false, not, ◌||◌, ℕ, List, [], ◌∷◌, refl, sym, ap, ◌∙◌, ◌⊎◌, inl, inr, subst, Some, None, Ok, Err, Result, Option}
 use Rattle.std.specs.Prelude.{option_map}
 use Rattle.std.specs.Result.{result_ok}
 use Rattle.relay_text.specs.AddressParts.{AddressParts}
@@ -81,18 +81,15 @@ address_item-fault text fault other h = at (local_check (local_cut text)) refl w
   at (Ok u) e = ap item_from (spelling-more text e) ∙ faulty _ _ _ fault other (sym (name-more text e) ∙ h)
   at (Err g) e = ap item_from (spelling-fault text g e)
 
+pub address_item-no_name : (text : List ℕ) (fault : TextFault) → name_of text ≢ Err BadDomain → name_of text ≡ Err fault → address_item text ≡ None
+address_item-no_name text fault other h = address_item-fault text fault (λ e. other (h ∙ ap (λ f. Err f) e)) h
+
 -- an address with a domain is a full item, whatever the origin
 pub address_item-address : (origin text : List ℕ) (a : AddressParts) → name_of text ≡ Err BadDomain → address_of origin text ≡ Ok a → address_item text ≡ Some (Full a)
 address_item-address origin text a h g = at (local_check (local_cut text)) refl where
   at : (found : Result (Unit {0}) TextFault) → local_check (local_cut text) ≡ found → address_item text ≡ Some (Full a)
   at (Ok u) e = ap item_from (spelling-more text e) ∙ addressed _ _ _ origin a (sym (name-more text e) ∙ h) (ap (result_map (at_origin origin)) (sym (spelling-more text e)) ∙ g)
   at (Err fault) e = let k = ap (result_map (at_origin origin)) (spelling-fault text fault e) in cc
-
-pub address_item-address_fault : (origin text : List ℕ) (fault : TextFault) → address_of origin text ≡ Err fault → address_item text ≡ None
-address_item-address_fault origin text fault h = at (spelling_of text) h where
-  at : (r : Result Spelled TextFault) → result_map (at_origin origin) r ≡ Err fault → item_from r ≡ None
-  at (Ok s) e = cc
-  at (Err g) e = refl
 
 -- a fault of a name other than that a domain follows
 pub address_item-unnamed : (text : List ℕ) (fault : TextFault) → (fault ≡ Empty) ⊎ ((fault ≡ BadByte) ⊎ ((fault ≡ BadQuote) ⊎ (fault ≡ TooLong))) → Fails fault (name_of text) → None ≡ address_item text

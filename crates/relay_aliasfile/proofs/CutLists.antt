@@ -1,7 +1,7 @@
 -- A list that is cut at a comma which no quote and no backslash stands before.
 use Rattle.std.proofs.Common.{Result, Ok, Err, IfOk, ◌≡◌, ℕ, ◌+◌, ◌<◌, ◌≤◌, Bool, true, false, ◌-◌, ◌&&◌, ◌==◌, cond, List, [], ◌∷◌, ◌++◌, length, take, drop, get_or, map, filter, refl, sym, ap, ◌∙◌, add-one, arith}
-use Rattle.std.specs.Prelude.{filter_map, is_none, Option, Some, None}
-use Rattle.std.specs.List.{onto_first, cons_option}
+use Rattle.std.specs.Prelude.{filter_map, Option, None}
+use Rattle.std.specs.List.{onto_first}
 use Rattle.std.specs.Result.{result_ok}
 use Rattle.std.proofs.Math.Seq.{drop-cons}
 use Rattle.std.proofs.lemmas.Bool.{eqb-true, or_parts}
@@ -10,19 +10,15 @@ use Rattle.std.proofs.lemmas.List.Elements.{All-head, All-tail, All-take, filter
 use Rattle.bstr.proofs.lemmas.ByteLemmas.{is_in-two, IsFirstByte-same}
 use Rattle.bstr.specs.Bytes.{is_in}
 use Rattle.bstr.specs.Find.{IsFirstByte, Passes, Nowhere, is_byte}
-use Rattle.relay_text.specs.Addresses.{is_empty}
 use Rattle.relay_text.specs.Bytes.{trimmed}
 use Rattle.relay_aliasfile.specs.IncludeFiles.{bad_item_faults}
 use Rattle.relay_aliasfile.specs.Items.{is_text, item_texts, item_of, is_bad, good_items, bad_items}
 use Rattle.relay_aliasfile.specs.ListCuts.{is_quote_byte, HasNoQuotes}
-use Rattle.relay_aliasfile.specs.ListParts.{told_faults, AreBoth, IsRead}
-use Rattle.relay_aliasfile.specs.Lists.{items_of, faults_of}
-use Rattle.relay_aliasfile.specs.AliasFiles.{list_faults}
+use Rattle.relay_aliasfile.specs.ListParts.{AreBoth, IsRead}
 use Rattle.relay_aliasfile.specs.MailboxFiles.{fault}
 use Rattle.relay_aliasfile.specs.QuoteStates.{at_start, past}
 use Rattle.relay_aliasfile.specs.declared.fault.LineFault.{LineFault}
-use Rattle.relay_aliasfile.specs.declared.fault.FaultKind.TheVariants.{BadItem, Empty}
-use Rattle.relay_aliasfile.specs.declared.item.Item.{Item}
+use Rattle.relay_aliasfile.specs.declared.fault.FaultKind.TheVariants.{BadItem}
 use Rattle.relay_aliasfile.specs.declared.list_parts.ListPart.{ListPart}
 use Rattle.relay_aliasfile.specs.declared.quotes.QuoteState.{QuoteState}
 use Rattle.relay_halves.proofs.HalvedLines.{onto_first-append}
@@ -144,23 +140,3 @@ parts_both line list front back (Ok first) (Ok second) both texts one two h =
     let i : first.items.items ++ second.items.items ≡ good_items front ++ good_items back = rw (one.items, two.items) refl in
     let f : first.faults.items ++ second.faults.items ≡ bad_item_faults line front ++ bad_item_faults line back = rw (one.faults, two.faults) refl in
     record { items = h.0 ∙ i ∙ sym (items_cut list front back texts); faults = h.1 ∙ f ∙ sym (faults_cut line list front back texts) }
-
--- ---- A list that has neither a good item nor the fault of a bad one has no text.
-told : (line : ℕ) (texts : List (List ℕ)) (items : List Item) (faults : List LineFault) → items ≡ items_of texts → faults ≡ faults_of line texts
-    → cond (is_empty items && is_empty faults) (fault line Empty ∷ []) faults ≡ cond (is_empty texts) (fault line Empty ∷ []) (faults_of line texts)
-told line [] items faults good bad = rw (good, bad) refl
-told line (text ∷ texts) items faults good bad = rw (good, bad) (at (item_of text)) where
-  bad_texts : Option Item → List (List ℕ)
-  bad_texts o = cond (is_none o) (text ∷ filter is_bad texts) (filter is_bad texts)
-
-  some_fault : (t : Bool) (none some : List LineFault) → cond (t && false) none some ≡ some
-  some_fault true none some = refl
-  some_fault false none some = refl
-
-  at : (o : Option Item) → cond (is_empty (cons_option o (items_of texts)) && is_empty (map (λ _. fault line BadItem) (bad_texts o))) (fault line Empty ∷ []) (map (λ _. fault line BadItem) (bad_texts o))
-      ≡ map (λ _. fault line BadItem) (bad_texts o)
-  at None = some_fault (is_empty (items_of texts)) (fault line Empty ∷ []) (fault line BadItem ∷ faults_of line texts)
-  at (Some item) = refl
-
-pub told_read : (line : ℕ) (list : List ℕ) (part : ListPart) → IsRead line list part → told_faults line part ≡ list_faults line list
-told_read line list part read = told line (item_texts list) part.items.items part.faults.items read.items read.faults

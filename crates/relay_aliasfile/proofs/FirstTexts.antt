@@ -68,10 +68,6 @@ pub with_texts-none : (xs : List (List ℕ)) → with_texts [] xs ≡ firsts byt
 with_texts-none xs = with_texts-is [] xs ∙ all_kept (firsts bytes_eq xs)
 
 -- ---- the loop that keeps the texts that stand where they stand first
-or_again : (a b c : Bool) → (a ≡ true → b ≡ true) → (a || (b || c)) ≡ (b || c)
-or_again true true c h = refl
-or_again true false c h = absurd (true≢false (sym (h refl)))
-or_again false b c h = refl
 
 -- what was kept has the texts that it was kept of
 has_text-with_text : (ts : List (List ℕ)) (x q : List ℕ) → has_text (with_text ts x) q ≡ (has_text ts q || (bytes_eq q x || false))

@@ -4,9 +4,9 @@ use Rattle.std.specs.Prelude.{slice_get}
 use Rattle.std.specs.Bool.{if◌then◌else◌}
 use Rattle.std.proofs.lemmas.Bool.{eqb-true, false≢true}
 use Rattle.std.proofs.lemmas.List.{at_drop_more, drop_all}
-use Rattle.std.proofs.lemmas.Option.{get_or_from_slice_get, slice_get_within, slice_get-get_or}
+use Rattle.std.proofs.lemmas.Option.{get_or_from_slice_get, slice_get_within}
 use Rattle.std.specs.Str.{bytes_eq}
-use Rattle.relay_text.specs.Bytes.{begins_with, ends_with, first_of}
+use Rattle.relay_text.specs.Bytes.{ends_with, first_of}
 use Rattle.relay_text.specs.Addresses.{local_cut, local_of}
 use Rattle.relay_text.specs.QuotedStrings.{string_content}
 use Rattle.relay_aliasfile.specs.Items.{item_of, is_well_quoted, is_one_string, content_item}
@@ -17,15 +17,6 @@ and_true : (b : Bool) → b ≡ (b && true)
 and_true true = refl
 and_true false = refl
 
--- whether a text begins with a byte
-pub begins_is : (text : List ℕ) (byte x : ℕ) → Some x ≡ slice_get text 0 → (x == byte) ≡ begins_with (byte ∷ []) text
-begins_is [] byte x h = cc
-begins_is (y ∷ ys) byte x h = let same : x ≡ y = cc in ap (λ b. b == byte) same ∙ and_true (y == byte)
-
-pub begins_none : (text : List ℕ) (byte : ℕ) → None ≡ slice_get text 0 → false ≡ begins_with (byte ∷ []) text
-begins_none [] byte h = refl
-begins_none (y ∷ ys) byte h = cc
-
 -- whether it ends with a byte
 last_alone : (text : List ℕ) → 1 ≤ length text → drop (length text - 1) text ≡ get_or text (length text - 1) 0 ∷ []
 last_alone text some =
@@ -34,15 +25,6 @@ last_alone text some =
 
 pub ends_one : (text : List ℕ) (byte : ℕ) → 1 ≤ length text → (get_or text (length text - 1) 0 == byte) ≡ ends_with (byte ∷ []) text
 ends_one text byte some = and_true (get_or text (length text - 1) 0 == byte) ∙ ap (λ xs. bytes_eq xs (byte ∷ [])) (sym (last_alone text some))
-
-pub ends_is : (text : List ℕ) (byte x : ℕ) → Some x ≡ slice_get text (length text - 1) → (x == byte) ≡ ends_with (byte ∷ []) text
-ends_is text byte x h =
-    let within : length text - 1 < length text = slice_get_within text (length text - 1) x (sym h) in
-    ap (λ b. b == byte) (sym (get_or_from_slice_get text (length text - 1) x 0 (sym h))) ∙ ends_one text byte (omega arith)
-
-pub ends_none : (text : List ℕ) (byte : ℕ) → None ≡ slice_get text (length text - 1) → false ≡ ends_with (byte ∷ []) text
-ends_none [] byte h = refl
-ends_none (y ∷ ys) byte h = let k = slice_get-get_or (y ∷ ys) (length (y ∷ ys) - 1) 0 (omega arith) in cc
 
 -- a `<` before a `>` at the end leaves room between them
 pub bracket_room : (text : List ℕ) (place : ℕ) → slice_get text place ≡ Some 60 → ends_with (62 ∷ []) text ≡ true → place + 1 ≤ length text - 1

@@ -17,4 +17,3 @@ pub mod FileSizes
 pub mod BrokenRules
 pub mod PlacedItems
 pub mod EntryLines
-pub mod SpreadTexts

@@ -1,19 +1,18 @@
 -- Items without quotes in a list, and what they are.
-use Rattle.std.proofs.Common.{◌≡◌, ℕ, suc, ◌+◌, ◌-◌, ◌<◌, ◌≤◌, ◌%◌, Bool, true, false, not, ◌&&◌, ◌||◌, ◌==◌, cond, List, [], ◌∷◌, ◌++◌, length, take, drop, get_or, map, filter, codes, refl, sym, ap, ◌∙◌, arith, inl, inr, Some, None}
+use Rattle.std.proofs.Common.{◌≡◌, ℕ, suc, ◌+◌, ◌-◌, ◌<◌, ◌%◌, Bool, true, false, not, ◌&&◌, ◌||◌, ◌==◌, cond, List, [], ◌∷◌, ◌++◌, length, take, drop, get_or, map, filter, codes, refl, sym, ap, ◌∙◌, arith, inl, inr, Some, None}
 use Rattle.std.specs.Bool.{IsTrue}
 use Rattle.std.specs.Char.{to_ascii_lowercase}
 use Rattle.std.specs.Int.{is_in_range}
 use Rattle.std.specs.List.{list_all, prefix_len, suffix_len, onto_first, count_by}
 use Rattle.std.proofs.lemmas.Bool.{cases_Bool, not-true, and_parts, and_from, or_parts, or_from, or_cases, or_right, eqb-true, both_ways}
 use Rattle.std.proofs.lemmas.Bool.Decides.{nat_tests}
-use Rattle.std.proofs.lemmas.List.{take_all, take_at, append-nil, length-append}
+use Rattle.std.proofs.lemmas.List.{take_all, take_at, append-nil}
 use Rattle.std.proofs.Math.Seq.{drop-append-add}
 use Rattle.std.specs.Prelude.{option_map, option_and_then}
 use Rattle.std.proofs.lemmas.List.Sums.{suffix_len-take_no, sum_by-cons}
 use Rattle.relay_text.specs.Bytes.{is_white, trimmed, trimmed_start, trimmed_end, begins_with, ends_with, begins_with_word}
 use Rattle.relay_text.specs.Addresses.{is_empty, is_atext, is_dot}
-use Rattle.relay_text.specs.PlainTexts.{is_open_byte, is_open_text, plain_front}
-use Rattle.relay_text.proofs.PlainTexts.{front_split}
+use Rattle.relay_text.specs.PlainTexts.{is_open_byte, is_open_text}
 use Rattle.relay_text.proofs.Limits.{plain_quotable}
 use Rattle.relay_text.specs.Quotes.{marks_from, is_quote, quote_count}
 use Rattle.relay_text.specs.QuotedStrings.{string_content}
@@ -137,9 +136,6 @@ item_texts-front text (b ∷ bs) more good h = elim (cases_Bool (b == 44)) [
       ap (λ (c : ℕ). item_texts (text ++ c ∷ bs)) (eqb-true b 44 e) ∙ item_texts-open text bs good ∙ ap (λ m. text ∷ item_texts m) (sym same)
   | inr e ↦ let found : Some more ≡ None = h ∙ rw e refl in cc
 ]
-
-pub front_length : (bytes text : List ℕ) → Some text ≡ plain_front bytes → length text ≤ length bytes
-front_length bytes text h = omega (arith, ap length (front_split bytes text h), length-append text (drop (length text) bytes))
 
 -- ---- the heading of a line on which a colon stands right behind such a text
 first_colon : (text list : List ℕ) → list_all is_open_byte text ≡ true → first_from 58 at_start (text ++ 58 ∷ list) ≡ Some (length text)

@@ -185,9 +185,6 @@ pub places_from-more : (byte : ℕ) (s : QuoteState) (i : ℕ) (text : List ℕ)
     → places_from byte s i (drop i text) ≡ cond ((get_or text i d == byte) && s.outside) (i ∷ places_from byte (past s (get_or text i d)) (i + 1) (drop (i + 1) text)) (places_from byte (past s (get_or text i d)) (i + 1) (drop (i + 1) text))
 places_from-more byte s i text d h = at_drop_more (λ xs. places_from byte s i xs) text i d h
 
-pub state_after-more : (s : QuoteState) (text : List ℕ) (i d : ℕ) → i < length text → state_after s (drop i text) ≡ state_after (past s (get_or text i d)) (drop (i + 1) text)
-state_after-more s text i d h = at_drop_more (λ xs. state_after s xs) text i d h
-
 pub closes-is : (text : List ℕ) → (state_after at_start text).outside ≡ (quote_count text % 2 == 0)
 closes-is text = parity at_start 0 text refl ∙ ap (λ m. m % 2 == 0) (omega arith)
 

@@ -18,5 +18,4 @@ pub mod ListCuts
 pub mod ListParts
 pub mod MailboxLines
 pub mod MailboxParts
-pub mod Spread
 pub mod ItemCounts

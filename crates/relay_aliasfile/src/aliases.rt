@@ -22,7 +22,6 @@ use crate::fault::LineFault;
 use crate::list_readers::{ListReader, OneReader, Readers};
 use crate::paths::add_paths;
 use crate::repeats::repeats_of;
-use crate::spread::are_distinct_by;
 use relay_halves::{about_lines, halves, line_count};
 use relay_text::{LogicalLines, Seq, Text};
 use std::alloc::{AllocError, Global};
@@ -61,9 +60,6 @@ pub fn parse_aliases_by<R: Threads + Sync>(
     ensures { IfOk result (λ file. file ≡ alias_file_of bytes.now) }
 {
     let file = read_file_by(rt, alloc, workers, about_lines(bytes), 0, bytes)?;
-    if are_distinct_by(rt, alloc, workers, file.entries.as_slice())? {
-        return Ok(file);
-    }
     with_duplicates(alloc, bytes, file)
 }
 

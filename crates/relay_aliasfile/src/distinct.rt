@@ -49,7 +49,7 @@ fn first_texts(alloc: Global, texts: Vec<Text>, places: &[usize]) -> Result<Seq<
 }
 
 /// Whether each place is its own, so that no text comes again.
-pub(crate) fn are_own(places: &[usize]) -> bool
+fn are_own(places: &[usize]) -> bool
     ensures { IsTrue result → (k : ℕ) → k < length places.now → slice_index places.now k ≡ k }
 {
     for (index, place) in places.iter().enumerate() {

@@ -1,6 +1,7 @@
 //! Include files.
-ghost use Rattle.std.specs.Prelude.{◌≡◌, ◌++◌, [], IfOk, OnOk};
-ghost use Rattle.relay_aliasfile.specs.IncludeFiles.{include_file_of, bad_item_faults};
+ghost use Rattle.std.specs.Prelude.{◌≡◌, ◌<◌, ◌++◌, [], true, false, length, flat_map, IfOk, OnOk};
+ghost use Rattle.relay_text.specs.KeptLines.{kept_rest};
+ghost use Rattle.relay_aliasfile.specs.IncludeFiles.{include_file_of, items_in, faults_in, bad_item_faults};
 ghost use Rattle.relay_aliasfile.specs.Items.{good_items};
 ghost use Rattle.relay_aliasfile.specs.IncludeNames.{include_names_in};
 
@@ -8,6 +9,7 @@ use crate::distinct::distinct_texts;
 use crate::fault::LineFault;
 use crate::item::Item;
 use crate::item_counts::about_items;
+use crate::item_text::ItemText;
 use crate::item_texts::ItemTexts;
 use crate::lists::read_item;
 use crate::paths::add_paths;
@@ -33,13 +35,36 @@ pub fn parse_include(alloc: Global, bytes: &[u8]) -> Result<IncludeFile, AllocEr
     let mut items = room_for(alloc, about_items(bytes));
     let mut faults: Vec<LineFault> = Vec::new(alloc);
     let mut lines = KeptLines::new(bytes);
-    while let Some(line) = lines.next_line() {
-        read_line_items(alloc, line.number, line.text, &mut items, &mut faults)?;
-    }
+    while read_next(alloc, &mut lines, &mut items, &mut faults)? {}
     Ok(IncludeFile {
         items: Seq::of(items),
         faults: Seq::of(faults),
     })
+}
+
+/// Reads the items of the next line, in place where it is one text without quotes, and says whether there was one.
+fn read_next(
+    alloc: Global,
+    lines: &mut KeptLines<'_>,
+    items: &mut Vec<Item>,
+    faults: &mut Vec<LineFault>,
+) -> Result<bool, AllocError>
+    ensures items { OnOk result (items.new.items ++ flat_map items_in (kept_rest lines.new) ≡ items.old.items ++ flat_map items_in (kept_rest lines.old)) }
+    ensures faults { OnOk result (faults.new.items ++ flat_map faults_in (kept_rest lines.new) ≡ faults.old.items ++ flat_map faults_in (kept_rest lines.old)) }
+    ensures more { IfOk result (λ more. more ≡ true → length (kept_rest lines.new) < length (kept_rest lines.old)) }
+    ensures ended { IfOk result (λ more. more ≡ false → kept_rest lines.new ≡ []) }
+{
+    if let Some(line) = lines.next_plain() {
+        if let Some(item) = read_item(alloc, line.number, ItemText::Plain(line.text), faults)? {
+            items.push(item)?;
+        }
+        return Ok(true);
+    }
+    let Some(line) = lines.next_line() else {
+        return Ok(false);
+    };
+    read_line_items(alloc, line.number, line.text, items, faults)?;
+    Ok(true)
 }
 
 /// Room for so many items, made at once: threads that ask one heap again and again wait for each other. Where it is refused there is none,

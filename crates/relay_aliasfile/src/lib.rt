@@ -30,7 +30,6 @@ pub mod reason;
 pub mod reasons;
 mod repeats;
 mod special;
-mod spread;
 mod twins;
 mod unquoted;
 

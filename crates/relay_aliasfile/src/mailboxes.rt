@@ -7,7 +7,6 @@ ghost use Rattle.relay_aliasfile.specs.MailboxFiles.{mailbox_file_of};
 use crate::distinct::distinct_texts;
 use crate::fault::LineFault;
 use crate::mailbox_lines::MailboxLines;
-use crate::spread::are_distinct_by;
 use relay_halves::{PartRead, about_lines, read_by};
 use relay_text::{Seq, Text};
 use std::alloc::{AllocError, Global};
@@ -41,7 +40,7 @@ pub fn parse_mailboxes_by<R: Threads + Sync>(
     ensures { IfOk result (λ file. file ≡ mailbox_file_of bytes.now) }
 {
     let lines = read_by(rt, alloc, workers, about_lines(bytes), 0, bytes)?;
-    distinct_names_by(rt, alloc, workers, lines)
+    distinct_names(alloc, lines)
 }
 
 /// The file of these lines: each of their names by its first place.
@@ -50,24 +49,6 @@ fn distinct_names(alloc: Global, lines: MailboxLines) -> Result<MailboxFile, All
 {
     Ok(MailboxFile {
         names: distinct_texts(alloc, lines.names)?,
-        faults: Seq::of(lines.faults),
-    })
-}
-
-/// The same by so many threads.
-fn distinct_names_by<R: Threads + Sync>(
-    rt: &R,
-    alloc: Global,
-    workers: usize,
-    lines: MailboxLines,
-) -> Result<MailboxFile, AllocError>
-    ensures { IfOk result (λ file. file ≡ record { names = firsts bytes_eq lines.names.items; faults = lines.faults.items }) }
-{
-    if !are_distinct_by(rt, alloc, workers, lines.names.as_slice())? {
-        return distinct_names(alloc, lines);
-    }
-    Ok(MailboxFile {
-        names: Seq::of(lines.names),
         faults: Seq::of(lines.faults),
     })
 }

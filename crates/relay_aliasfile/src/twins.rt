@@ -11,7 +11,7 @@ const SLOTS_FOR_HASH: usize = 8;
 const MOST_SLOTS: usize = 1 << 32;
 
 /// The slot of a hash among so many.
-pub(crate) fn slot_of(hash: u32, slots: usize) -> usize
+fn slot_of(hash: u32, slots: usize) -> usize
     requires some { 0 < slots }
     requires few { slots ≤ 2 ^ 32 }
     ensures slot { result ≡ slot_under slots hash }

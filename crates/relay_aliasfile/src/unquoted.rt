@@ -1,7 +1,7 @@
 //! What the text of an item without quotes is.
 ghost use Rattle.std.specs.Prelude.{◌≡◌, ◌∷◌, ◌||◌, [], Err, false, IfOk};
 ghost use Rattle.relay_text.specs.Bytes.{begins_with};
-ghost use Rattle.relay_text.specs.Addresses.{Fails, name_of};
+ghost use Rattle.relay_text.specs.Addresses.{name_of};
 ghost use Rattle.relay_text.specs.declared.fault.TextFault.TheVariants.{BadDomain};
 ghost use Rattle.relay_aliasfile.specs.Items.{item_of, address_item};
 
@@ -36,27 +36,13 @@ fn is_special(text: &[u8]) -> bool
 fn address_item(alloc: Global, text: &PlainText<'_>) -> Result<Option<Item>, AllocError>
     ensures { IfOk result (λ item. item ≡ address_item text.now) }
 {
+    if text.has_domain() {
+        return full_item(alloc, text);
+    }
     match text.name(alloc) {
         Ok(local) => Ok(Some(Item::Bare(local))),
-        Err(fault) => unnamed_item(alloc, text, fault),
-    }
-}
-
-/// What a text stands for that spells no name for this fault: an address where a domain follows the name, else nothing.
-fn unnamed_item(
-    alloc: Global,
-    text: &PlainText<'_>,
-    fault: TextFault,
-) -> Result<Option<Item>, AllocError>
-    requires { Fails fault (name_of text.now) }
-    ensures { IfOk result (λ item. item ≡ address_item text.now) }
-{
-    match fault {
-        TextFault::BadDomain => full_item(alloc, text),
-        TextFault::Memory => Err(AllocError),
-        TextFault::Empty | TextFault::BadByte | TextFault::BadQuote | TextFault::TooLong => {
-            Ok(None)
-        }
+        Err(TextFault::Memory) => Err(AllocError),
+        Err(_) => Ok(None),
     }
 }
 

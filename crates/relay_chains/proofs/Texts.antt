@@ -48,9 +48,6 @@ texts-push bytes text start (end ∷ ends) within whole =
     texts-push bytes text end ends (λ number below. within (suc number) (omega arith)) whole in
     cc
 
-pub cut-none : AreCut [] []
-cut-none = record { rising = λ number below. absurd (omega arith); within = λ number below. absurd (omega arith); whole = refl }
-
 pub cut-push : (bytes text ends : List ℕ) → AreCut bytes ends → AreCut (bytes ++ text) (ends ++ length (bytes ++ text) ∷ [])
 cut-push bytes text ends cut =
     let more = length-append bytes text in

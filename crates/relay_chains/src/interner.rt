@@ -124,12 +124,6 @@ impl Interner {
         }
     }
 
-    /// The number of the newest text that has this one's hash, and one more; 0 where there is none. It is what a look-up of the text reads
-    /// first: whether the texts are equal isn't told.
-    pub fn newest(&self, text: &[u8]) -> u32 {
-        self.links.newest(hash_text(self.key, text))
-    }
-
     /// How many texts there are, which is also the number that the next new text gets.
     pub fn len(&self) -> usize
         ensures count { result ≡ length self.now.keys }

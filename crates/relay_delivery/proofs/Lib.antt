@@ -23,7 +23,3 @@ pub mod PathFacts
 pub mod MarkFacts
 pub mod RoomFacts
 pub mod ShareFacts
-pub mod MergeFacts
-pub mod SplitFacts
-pub mod MergedRanks
-pub mod ShareKeys

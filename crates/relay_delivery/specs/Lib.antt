@@ -3,7 +3,6 @@ pub mod Placings
 pub mod WrittenPaths
 pub mod Ranks
 pub mod Orders
-pub mod Merged
 pub mod KeyGroups
 pub mod Keyed
 pub mod Marks

@@ -8,7 +8,6 @@ ghost use Rattle.relay_delivery.specs.WrittenPaths.{paths_of, AreSharedPaths};
 use crate::picks::picked_by_crew;
 use crate::ranks::Ranks;
 use crate::routed::Routed;
-use crate::share_keys::keys_by_shares;
 use crate::shared::{all_given, threads_for};
 use crate::sort_key::SortKey;
 use crate::written_path::split_path;
@@ -108,7 +107,7 @@ fn add_keys<'t>(
 }
 
 /// What recipients are sorted by, from the written paths of so many of them at a time.
-pub(crate) fn recipient_keys<'t>(
+fn recipient_keys<'t>(
     alloc: Global,
     recipients: &[Routed],
     route_places: &[u32],
@@ -148,12 +147,8 @@ fn recipient_ranks<R: Threads + Sync>(
     ensures ranks { IfOk result (λ ranks. AreRanks (map (moved_key route_places.now) recipients.now) ranks.order.items ranks.place_of.items) }
     ensures valid { IfOk result (λ ranks. All (λ r. IsTrue (is_address r.address.now)) recipients.now) }
 {
-    if texts.len() < 2 || recipients.len() > NUMBERS {
-        let keys = recipient_keys(crew.alloc, recipients, route_places, size, texts)?;
-        return Ranks::of(crew, keys);
-    }
-    let shares = keys_by_shares(crew, recipients, route_places, size, texts)?;
-    Ranks::of_shares(crew, &shares, recipients.len())
+    let keys = recipient_keys(crew.alloc, recipients, route_places, size, texts)?;
+    Ranks::of(crew, keys)
 }
 
 /// Gives recipients the new numbers of their routes, by a crew.

@@ -89,16 +89,6 @@ impl<'r> Destinations<'r> {
         Ok(way)
     }
 
-    /// The word of what [`Destinations::find`] reads first for an address, for [`Destinations::read`]. It decides nothing.
-    pub fn newest(&self, address: &Address) -> u32 {
-        self.by_domain.newest(address.domain())
-    }
-
-    /// Reads what `find` reads behind this word, so that it is at hand when it is asked for: a number that means nothing.
-    pub fn read(&self, word: u32) -> usize {
-        self.by_domain.read(word)
-    }
-
     /// The same of a mailbox, as `Router::route_via` gives it.
     pub fn find_mailbox(&mut self, alloc: Global, address: &Address) -> Result<Way, AllocError>
         ensures way { IfOk result (λ way. Means self.new way (route_via_of self.old.routing self.old.via address.now)) }

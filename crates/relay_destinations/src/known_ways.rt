@@ -81,25 +81,6 @@ impl KnownWays {
         Some(self.ways[number as usize])
     }
 
-    /// The word of what a look-up of a text reads first, for [`KnownWays::read`].
-    pub(crate) fn newest(&self, text: &[u8]) -> u32 {
-        self.texts.newest(text)
-    }
-
-    /// Reads what a look-up reads behind this word: a number that means nothing.
-    pub(crate) fn read(&self, word: u32) -> usize {
-        let number = word.saturating_sub(1);
-        let way = match self.ways.get(number as usize) {
-            Some(Way::To(number)) | Some(Way::Nowhere(number)) => *number as usize,
-            None => 0,
-        };
-        let byte = match self.texts.text(number) {
-            Some([first, ..]) => *first as usize,
-            _ => 0,
-        };
-        way.wrapping_add(byte)
-    }
-
     /// Keeps the way of a new text. `Err` where memory runs out, or the numbers of texts do.
     pub(crate) fn keep(&mut self, text: &[u8], way: Way) -> Result<(), AllocError>
         requires { way_in self.old text.now ≡ None }

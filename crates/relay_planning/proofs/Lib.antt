@@ -11,7 +11,6 @@ pub mod ReachFacts
 pub mod EntryFacts
 pub mod FindingFacts
 pub mod KnownFacts
-pub mod WayFacts
 pub mod OutgoingFacts
 pub mod PlanFacts
 pub mod RouteLines

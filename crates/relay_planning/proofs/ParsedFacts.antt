@@ -1,6 +1,6 @@
 -- What was parsed of a job, from its parts.
 use Rattle.std.proofs.Common.{◌≡◌, ◌∙◌, ℕ, List, ap, sym, subst}
-use Rattle.std.specs.Prelude.{Result, Ok, IfOk, OnOk}
+use Rattle.std.specs.Prelude.{Result, Ok, IfOk}
 use Rattle.std.proofs.lemmas.Result.{IfOk-at_ok, IfOk-weaker}
 use Rattle.relay_aliasfile.specs.declared.aliases.AliasFile.{AliasFile}
 use Rattle.relay_aliasfile.specs.declared.mailboxes.MailboxFile.{MailboxFile}
@@ -14,19 +14,10 @@ use Rattle.relay_job.specs.declared.job.Job.{Job}
 use Rattle.relay_planning.specs.declared.parsed.Parsed.{Parsed}
 use Rattle.relay_planning.specs.Parsed.{AreParsed}
 
--- what holds where a part is made holds where the whole is, which is made only with that part
-pub on_ok_with : {T B E : Type 0} (P : Type 0) (whole : Result T E) (second : Result B E) (part : T → B) → IfOk whole (λ t. second ≡ Ok (part t)) → OnOk second P → OnOk whole P
-on_ok_with P whole second part is p = IfOk-weaker whole _ _ (λ t same. IfOk-at_ok (λ x. P) same p) is
-
 -- what one call gave, which is told, and what another gave
 pub both_beside : {A B E : Type 0} (both : Result (A × B) E) (first : A) (second : Result B E) (P : A → Type 0) (Q : B → Type 0) → IfOk both (λ b. (b.0 ≡ first) × (second ≡ Ok b.1)) → P first → IfOk second Q
     → IfOk both (λ b. P b.0 × Q b.1)
 both_beside both first second P Q are p q = IfOk-weaker both _ _ (λ b is. (subst P (sym is.0) p, IfOk-at_ok Q is.1 q)) are
-
--- what two calls gave
-pub both_given : {A B E : Type 0} (both : Result (A × B) E) (first : Result A E) (second : Result B E) (P : A → Type 0) (Q : B → Type 0) → IfOk both (λ b. (first ≡ Ok b.0) × (second ≡ Ok b.1)) → IfOk first P → IfOk second Q
-    → IfOk both (λ b. P b.0 × Q b.1)
-both_given both first second P Q are p q = IfOk-weaker both _ _ (λ b is. (IfOk-at_ok P is.0 p, IfOk-at_ok Q is.1 q)) are
 
 abbrev pub AreFiles : List ℕ → List ℕ → AliasFile × MailboxFile → Type 0
 AreFiles aliases mailboxes files = (files.0 ≡ alias_file_of aliases) × (files.1 ≡ mailbox_file_of mailboxes)

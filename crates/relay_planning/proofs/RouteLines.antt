@@ -1,6 +1,6 @@
 -- The lines of addresses that have no route.
 use Rattle.std.proofs.Common.{◌≡◌, ◌⊎◌, ℕ, Bool, ◌||◌, List, ◌<◌, length, get_or, refl, sym, ap, subst, ◌∙◌, inl, inr}
-use Rattle.std.specs.Prelude.{IsTrue, ◌↔◌, Contains, slice_get, Some, None, Result, Ok, Err, OnOk}
+use Rattle.std.specs.Prelude.{IsTrue, ◌↔◌, Contains, slice_get, Some, None, Result, Ok, Err}
 use Rattle.std.specs.Str.{bytes_eq}
 use Rattle.std.proofs.lemmas.Bool.{or_cases, or_left, or_right}
 use Rattle.std.proofs.lemmas.List.Elements.{All-contains}
@@ -9,8 +9,7 @@ use Rattle.std.proofs.lemmas.Slice.Eq.{bytes_eq-Decides}
 use Rattle.relay_text.specs.AddressParts.{AddressParts}
 use Rattle.relay_routes.specs.declared.route.Route.{Route}
 use Rattle.relay_routes.specs.declared.unrouted.Unrouted.{Unrouted}
-use Rattle.relay_routes.specs.declared.unrouted.Unrouted.TheVariants as causes
-use Rattle.relay_routes.specs.Routes.{Answers, route_of, route_via_of}
+use Rattle.relay_routes.specs.Routes.{route_of, route_via_of}
 use Rattle.relay_tables.specs.declared.node.Node.{Node}
 use Rattle.relay_tables.specs.declared.node.Node.TheVariants as nodes
 use Rattle.relay_tables.specs.GraphParts.{GraphParts}
@@ -45,21 +44,6 @@ unrouted_added cause reason copy address q old new same is e =
         | inr here ↦ inr (here.2 ∙ ap (λ r. finding_text_of (UnroutedFinding address r)) (same_reason here.0 reason (sym here.1 ∙ sym is)) ∙ ap line (sym same))
       ]),
     )
-
--- what is answered is the route, unless memory ran out
-pub answered : (answer route : Result Route Unrouted) → Answers answer route → (answer ≡ Err causes.Memory → ⊥) → answer ≡ route
-answered (Ok q) route h enough = sym h
-answered (Err causes.Memory) route h enough = absurd (enough refl)
-answered (Err causes.Domain) route h enough = sym h
-answered (Err causes.MxSelf) route h enough = sym h
-answered (Err causes.Transport) route h enough = sym h
-answered (Err (causes.Refused text)) route h enough = sym h
-answered (Err causes.NullMx) route h enough = sym h
-
-pub lines_answered : {E : Type 0} (r : Result (Unit {0}) E) (answer route : Result Route Unrouted) (address : AddressParts) (old new : List ℕ → Type 0) → Answers answer route → OnOk r (answer ≡ Err causes.Memory → ⊥)
-    → OnOk r ((q : List ℕ) → new q ↔ (old q ⊎ IsLineAt answer address q)) → OnOk r ((q : List ℕ) → new q ↔ (old q ⊎ IsLineAt route address q))
-lines_answered (Ok u) answer route address old new h enough lines = subst (λ o. (q : List ℕ) → new q ↔ (old q ⊎ IsLineAt o address q)) (answered answer route h enough) lines
-lines_answered (Err e) answer route address old new h enough lines = tt
 
 -- ---- which lines the part of the report has
 module _ (job : Job) where

@@ -11,6 +11,5 @@ pub mod Listing
 pub mod Findings
 pub mod Entries
 pub mod Routes
-pub mod Wayfinding
 pub mod Parsed
 pub mod Readable

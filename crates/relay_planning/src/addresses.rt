@@ -14,8 +14,8 @@ ghost use Rattle.relay_planning.specs.Report.{routes, IsLineOf};
 
 use crate::job_view::JobView;
 use crate::outgoing::{Outgoing, outgoing_of};
-use crate::wayfinder::Wayfinder;
 use relay_delivery::{BatchLimits, Delivery, Routed, transactions};
+use relay_destinations::Destinations;
 use relay_job::Settings;
 use relay_pairs::Reached;
 use relay_routes::Route;
@@ -78,17 +78,18 @@ fn transactions_of<'a, R: Threads + Sync>(
     )
 }
 
-/// The transactions of what the pairs lead to, by what finds routes, and a line for each address that has no route.
-fn outgoing_transactions<'a, R: Threads + Sync, K: KeptFindings>(
+/// The transactions of all addresses that are reached, each once under each of its senders, and a line for each address that has no
+/// route.
+pub(crate) fn plan_addresses<'a, R: Threads + Sync, K: KeptFindings>(
     crew: &Crew<'_, R>,
     job: &JobView<'_>,
-    finder: &mut Wayfinder<'a>,
+    mut destinations: Destinations<'a>,
     graph: &'a Graph,
     pairs: &[Reached],
     lines: &mut FindingLines<K>,
 ) -> Result<Vec<Planned>, AllocError>
-    requires routing { finder.old.routing ≡ routing_of job.now }
-    requires via { finder.old.via ≡ job.now.settings.mailbox_transport }
+    requires routing { destinations.routing ≡ routing_of job.now }
+    requires via { destinations.via ≡ job.now.settings.mailbox_transport }
     requires graph { IsJobPart job.now graph.now }
     requires pairs { AreReachedPairs job.now graph.now pairs.now }
     requires few { length pairs.now ≤ 16777216 }
@@ -97,7 +98,7 @@ fn outgoing_transactions<'a, R: Threads + Sync, K: KeptFindings>(
     ensures fewest { IfOk result (λ transactions. IsFewest job.now transactions.items) }
     ensures lines { OnOk result (Reports lines.old lines.new (IsLineOf job.now routes)) }
 {
-    let outgoing = outgoing_of(crew.alloc, job, graph, finder, pairs, lines)?;
+    let outgoing = outgoing_of(crew.alloc, job, graph, &mut destinations, pairs, lines)?;
     let Outgoing {
         recipients,
         deliveries,
@@ -110,33 +111,8 @@ fn outgoing_transactions<'a, R: Threads + Sync, K: KeptFindings>(
         crew,
         job,
         graph,
-        finder.routes(),
+        destinations.routes(),
         recipients.as_slice(),
         deliveries,
     )
-}
-
-/// The transactions of all addresses that are reached, each once under each of its senders, and a line for each address that has no
-/// route.
-pub(crate) fn plan_addresses<'a, R: Threads + Sync, K: KeptFindings>(
-    crew: &Crew<'_, R>,
-    job: &JobView<'_>,
-    mut finder: Wayfinder<'a>,
-    graph: &'a Graph,
-    pairs: &[Reached],
-    lines: &mut FindingLines<K>,
-) -> Result<Vec<Planned>, AllocError>
-    requires routing { finder.routing ≡ routing_of job.now }
-    requires via { finder.via ≡ job.now.settings.mailbox_transport }
-    requires graph { IsJobPart job.now graph.now }
-    requires pairs { AreReachedPairs job.now graph.now pairs.now }
-    requires few { length pairs.now ≤ 16777216 }
-    ensures transactions { IfOk result (λ transactions. AreTransactionsOf job.now transactions.items) }
-    ensures sound { IfOk result (λ transactions. IsSoundFor job.now transactions.items) }
-    ensures fewest { IfOk result (λ transactions. IsFewest job.now transactions.items) }
-    ensures lines { OnOk result (Reports lines.old lines.new (IsLineOf job.now routes)) }
-{
-    let transactions = outgoing_transactions(crew, job, &mut finder, graph, pairs, lines);
-    drop(finder);
-    transactions
 }

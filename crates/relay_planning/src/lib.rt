@@ -7,7 +7,6 @@
 #![tactic(auto)]
 
 mod addresses;
-mod ahead;
 mod both;
 mod crew;
 mod entries;
@@ -29,7 +28,6 @@ mod summary;
 mod table;
 mod texts;
 mod transacted;
-mod wayfinder;
 mod with_findings;
 mod written;
 

@@ -2,7 +2,6 @@
 //!
 //! A node is looked at once, where the first pair with it comes: its route is found, or the line is added that tells why there is none.
 //! From then on a number says what is known of it, so each further sender of an address costs no look-up.
-use crate::ahead::Ahead;
 use relay_delivery::{Delivery, Routed};
 use relay_tables::Graph;
 
@@ -25,7 +24,6 @@ pub struct Outgoing<'a> {
     pub deliveries: Vec<Delivery>,
     /// By node.
     pub known: Vec<Known>,
-    ahead: Ahead,
 }
 
 ghost use Rattle.std.specs.Prelude.{◌≡◌, ◌≢◌, ◌⊎◌, ◌↔◌, ◌<◌, ◌≤◌, ◌+◌, ◌-◌, ◌^◌, ◌++◌, ◌∷◌, ℕ, List, [], Some, Ok, Err, All, Result, length, slice_get, IfOk, OnOk};
@@ -43,7 +41,6 @@ ghost use Rattle.relay_pairs.specs.declared.reached.Reached as reached;
 
 use crate::findings::reason_for;
 use crate::job_view::JobView;
-use crate::wayfinder::Wayfinder;
 use relay_destinations::{Destinations, Way};
 use relay_pairs::Reached;
 use relay_routes::Unrouted;
@@ -80,7 +77,7 @@ fn add_unrouted<K: KeptFindings>(
 }
 
 /// The recipient that an address is, by what was found for it. The line of an address without a route is added.
-pub(crate) fn recipient_at<'a, K: KeptFindings>(
+fn recipient_at<'a, K: KeptFindings>(
     alloc: Global,
     destinations: &Destinations<'a>,
     way: Way,
@@ -150,7 +147,6 @@ impl<'a> Outgoing<'a> {
             recipients: Vec::with_capacity(alloc, pairs.min(graph.nodes()))?,
             deliveries,
             known,
-            ahead: Ahead::of(pairs),
         })
     }
 
@@ -160,26 +156,26 @@ impl<'a> Outgoing<'a> {
         alloc: Global,
         job: &JobView<'_>,
         node: u32,
-        finder: &mut Wayfinder<'a>,
+        destinations: &mut Destinations<'a>,
         lines: &mut FindingLines<K>,
     ) -> Result<Known, AllocError>
         requires node { node < length self.old.graph.now.nodes }
-        requires routing { finder.old.routing ≡ routing_of job.now }
-        requires via { finder.old.via ≡ job.now.settings.mailbox_transport }
+        requires routing { destinations.old.routing ≡ routing_of job.now }
+        requires via { destinations.old.via ≡ job.now.settings.mailbox_transport }
         requires few { length self.old.recipients.items < 2 ^ 32 }
-        requires known { AreKnown job.now self.old.graph.now finder.old.routes self.old.recipients.items self.old.known.items lines.old }
+        requires known { AreKnown job.now self.old.graph.now destinations.old.routes self.old.recipients.items self.old.known.items lines.old }
         requires unseen { slice_get self.old.known.items node ≡ Some Known.Unseen }
-        ensures known { OnOk result (AreKnown job.now self.new.graph.now finder.new.routes self.new.recipients.items self.new.known.items lines.new) }
+        ensures known { OnOk result (AreKnown job.now self.new.graph.now destinations.new.routes self.new.recipients.items self.new.known.items lines.new) }
         ensures there { IfOk result (λ k. slice_get self.new.known.items node ≡ Some k) }
         ensures seen { IfOk result (λ k. k ≡ Known.Unseen → ⊥) }
         ensures stay { OnOk result (StayKnown self.old.known.items self.new.known.items) }
         ensures lines { OnOk result (Reports lines.old lines.new (λ q. IsLineOfPair job.now self.old.graph.now q (record { sender = 0; node = node }))) }
         ensures few { OnOk result (length self.new.recipients.items ≤ length self.old.recipients.items + 1) }
-        ensures kept { OnOk result (Keeps finder.old finder.new) }
+        ensures kept { OnOk result (Keeps destinations.old destinations.new) }
         ensures same { (self.new.graph.now ≡ self.old.graph.now) × (self.new.deliveries.items ≡ self.old.deliveries.items) }
     {
         let at = self.graph.node(node);
-        let recipient = finder.find_recipient(alloc, job, node, at, lines)?;
+        let recipient = recipient_of(alloc, job, at, destinations, lines)?;
         let known = match recipient {
             Some(routed) => {
                 let number = self.recipients.len() as u32;
@@ -198,25 +194,25 @@ impl<'a> Outgoing<'a> {
         alloc: Global,
         job: &JobView<'_>,
         node: u32,
-        finder: &mut Wayfinder<'a>,
+        destinations: &mut Destinations<'a>,
         lines: &mut FindingLines<K>,
     ) -> Result<Known, AllocError>
         requires node { node < length self.old.graph.now.nodes }
-        requires routing { finder.old.routing ≡ routing_of job.now }
-        requires via { finder.old.via ≡ job.now.settings.mailbox_transport }
+        requires routing { destinations.old.routing ≡ routing_of job.now }
+        requires via { destinations.old.via ≡ job.now.settings.mailbox_transport }
         requires few { length self.old.recipients.items < 2 ^ 32 }
-        requires known { AreKnown job.now self.old.graph.now finder.old.routes self.old.recipients.items self.old.known.items lines.old }
-        ensures known { OnOk result (AreKnown job.now self.new.graph.now finder.new.routes self.new.recipients.items self.new.known.items lines.new) }
+        requires known { AreKnown job.now self.old.graph.now destinations.old.routes self.old.recipients.items self.old.known.items lines.old }
+        ensures known { OnOk result (AreKnown job.now self.new.graph.now destinations.new.routes self.new.recipients.items self.new.known.items lines.new) }
         ensures there { IfOk result (λ k. slice_get self.new.known.items node ≡ Some k) }
         ensures seen { IfOk result (λ k. k ≡ Known.Unseen → ⊥) }
         ensures stay { OnOk result (StayKnown self.old.known.items self.new.known.items) }
         ensures lines { OnOk result (Reports lines.old lines.new (λ q. IsLineOfPair job.now self.old.graph.now q (record { sender = 0; node = node }))) }
         ensures few { OnOk result (length self.new.recipients.items ≤ length self.old.recipients.items + 1) }
-        ensures kept { OnOk result (Keeps finder.old finder.new) }
+        ensures kept { OnOk result (Keeps destinations.old destinations.new) }
         ensures same { (self.new.graph.now ≡ self.old.graph.now) × (self.new.deliveries.items ≡ self.old.deliveries.items) }
     {
         match self.known[node as usize] {
-            Known::Unseen => self.settle(alloc, job, node, finder, lines),
+            Known::Unseen => self.settle(alloc, job, node, destinations, lines),
             known => Ok(known),
         }
     }
@@ -227,23 +223,29 @@ impl<'a> Outgoing<'a> {
         alloc: Global,
         job: &JobView<'_>,
         pair: Reached,
-        finder: &mut Wayfinder<'a>,
+        destinations: &mut Destinations<'a>,
         lines: &mut FindingLines<K>,
     ) -> Result<(), AllocError>
         requires node { pair.node < length self.old.graph.now.nodes }
-        requires routing { finder.old.routing ≡ routing_of job.now }
-        requires via { finder.old.via ≡ job.now.settings.mailbox_transport }
+        requires routing { destinations.old.routing ≡ routing_of job.now }
+        requires via { destinations.old.via ≡ job.now.settings.mailbox_transport }
         requires few { length self.old.recipients.items < 2 ^ 32 }
-        requires known { AreKnown job.now self.old.graph.now finder.old.routes self.old.recipients.items self.old.known.items lines.old }
-        ensures known { OnOk result (AreKnown job.now self.new.graph.now finder.new.routes self.new.recipients.items self.new.known.items lines.new) }
+        requires known { AreKnown job.now self.old.graph.now destinations.old.routes self.old.recipients.items self.old.known.items lines.old }
+        ensures known { OnOk result (AreKnown job.now self.new.graph.now destinations.new.routes self.new.recipients.items self.new.known.items lines.new) }
         ensures outgoing { OnOk result ((pairs : List reached.Reached) → AreOutgoing job.now self.old.graph.now pairs self.old.known.items self.old.deliveries.items → AreOutgoing job.now self.old.graph.now (pairs ++ pair ∷ []) self.new.known.items self.new.deliveries.items) }
         ensures lines { OnOk result (Reports lines.old lines.new (λ q. IsLineOfPair job.now self.old.graph.now q pair)) }
         ensures few_recipients { OnOk result (length self.new.recipients.items ≤ length self.old.recipients.items + 1) }
         ensures few_deliveries { OnOk result (length self.new.deliveries.items ≤ length self.old.deliveries.items + 1) }
-        ensures kept { OnOk result (Keeps finder.old finder.new) }
+        ensures kept { OnOk result (Keeps destinations.old destinations.new) }
         ensures same { self.new.graph.now ≡ self.old.graph.now }
     {
-        if let Known::Recipient(recipient) = self.know(alloc, job, pair.node, finder, lines)? {
+        if let Known::Recipient(recipient) = self.know(
+            alloc,
+            job,
+            pair.node,
+            destinations,
+            lines,
+        )? {
             let sender = pair.sender;
             self.deliveries.push(Delivery { sender, recipient })?;
         }
@@ -256,24 +258,23 @@ impl<'a> Outgoing<'a> {
         alloc: Global,
         job: &JobView<'_>,
         pairs: &[Reached],
-        finder: &mut Wayfinder<'a>,
+        destinations: &mut Destinations<'a>,
         lines: &mut FindingLines<K>,
     ) -> Result<(), AllocError>
         requires in_graph { All (λ p. p.node < length self.old.graph.now.nodes) pairs.now }
         requires few { length pairs.now ≤ 16777216 }
-        requires routing { finder.old.routing ≡ routing_of job.now }
-        requires via { finder.old.via ≡ job.now.settings.mailbox_transport }
+        requires routing { destinations.old.routing ≡ routing_of job.now }
+        requires via { destinations.old.via ≡ job.now.settings.mailbox_transport }
         requires empty { (self.old.recipients.items ≡ []) × (self.old.deliveries.items ≡ []) }
-        requires known { AreKnown job.now self.old.graph.now finder.old.routes self.old.recipients.items self.old.known.items lines.old }
+        requires known { AreKnown job.now self.old.graph.now destinations.old.routes self.old.recipients.items self.old.known.items lines.old }
         requires outgoing { AreOutgoing job.now self.old.graph.now [] self.old.known.items self.old.deliveries.items }
-        ensures known { OnOk result (AreKnown job.now self.old.graph.now finder.new.routes self.new.recipients.items self.new.known.items lines.new) }
+        ensures known { OnOk result (AreKnown job.now self.old.graph.now destinations.new.routes self.new.recipients.items self.new.known.items lines.new) }
         ensures outgoing { OnOk result (AreOutgoing job.now self.old.graph.now pairs.now self.new.known.items self.new.deliveries.items) }
         ensures lines { OnOk result (Reports lines.old lines.new (HaveLine job.now self.old.graph.now pairs.now)) }
         ensures few { OnOk result (length self.new.deliveries.items ≤ length pairs.now) }
     {
-        for (index, pair) in pairs.iter().enumerate() {
-            self.ahead.read(self.graph, finder, pairs, index);
-            self.add(alloc, job, *pair, finder, lines)?;
+        for pair in pairs {
+            self.add(alloc, job, *pair, destinations, lines)?;
         }
         Ok(())
     }
@@ -284,20 +285,20 @@ pub(crate) fn outgoing_of<'a, K: KeptFindings>(
     alloc: Global,
     job: &JobView<'_>,
     graph: &'a Graph,
-    finder: &mut Wayfinder<'a>,
+    destinations: &mut Destinations<'a>,
     pairs: &[Reached],
     lines: &mut FindingLines<K>,
 ) -> Result<Outgoing<'a>, AllocError>
-    requires routing { finder.old.routing ≡ routing_of job.now }
-    requires via { finder.old.via ≡ job.now.settings.mailbox_transport }
+    requires routing { destinations.old.routing ≡ routing_of job.now }
+    requires via { destinations.old.via ≡ job.now.settings.mailbox_transport }
     requires in_graph { All (λ p. p.node < length graph.now.nodes) pairs.now }
     requires few { length pairs.now ≤ 16777216 }
-    ensures known { IfOk result (λ outgoing. AreKnown job.now graph.now finder.new.routes outgoing.recipients.items outgoing.known.items lines.new) }
+    ensures known { IfOk result (λ outgoing. AreKnown job.now graph.now destinations.new.routes outgoing.recipients.items outgoing.known.items lines.new) }
     ensures outgoing { IfOk result (λ outgoing. AreOutgoing job.now graph.now pairs.now outgoing.known.items outgoing.deliveries.items) }
     ensures lines { OnOk result (Reports lines.old lines.new (HaveLine job.now graph.now pairs.now)) }
     ensures few { IfOk result (λ outgoing. length outgoing.deliveries.items ≤ length pairs.now) }
 {
     let mut outgoing = Outgoing::new(alloc, graph, pairs.len())?;
-    outgoing.add_all(alloc, job, pairs, finder, lines)?;
+    outgoing.add_all(alloc, job, pairs, destinations, lines)?;
     Ok(outgoing)
 }

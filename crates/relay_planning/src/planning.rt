@@ -22,13 +22,12 @@ use crate::lookup::Lookup;
 use crate::options::{Limits, Options};
 use crate::reach::Reach;
 use crate::transacted::{Transacted, transactions_by_lookup};
-use crate::wayfinder::Wayfinder;
 use relay_destinations::Destinations;
 use relay_job::{Job, RunFault};
 use relay_loops::on_loops;
 use relay_pairs::{Reached, pairs_are_counted, pairs_by_numbers, reached_nodes, reached_pairs};
 use relay_rounds::{Gate, ReachFault};
-use relay_tables::{Graph, LookedUp, TableFault, Tables};
+use relay_tables::{Graph, TableFault, Tables};
 use relay_text::{Seq, Text};
 use relay_wire::{FindingLines, KeptFindings, Plan, Planned};
 use std::alloc::{AllocError, Global};
@@ -61,15 +60,15 @@ pub fn graph_of<G: Gate, R: Threads + Sync>(
     ensures owners { OnOk result (owned_count job.now ≤ crew.now.limits.owners) }
     ensures refused { IfErr result (IsRefused crew.now.limits job.now) }
 {
-    let Crew {
-        rt,
-        alloc,
-        limits,
-        ..
-    } = *crew;
-    let workers = crew.options.workers;
-    let looked_up = LookedUp::of(rt, alloc, workers, tables, job.recipients())?;
-    match Graph::of(alloc, looked_up, job.sender(), limits.names, limits.owners) {
+    let Limits { names, owners, .. } = crew.limits;
+    match Graph::build(
+        crew.alloc,
+        tables,
+        job.sender(),
+        job.recipients(),
+        names,
+        owners,
+    ) {
         Ok(graph) => Ok(graph),
         Err(fault) => Err(run_fault_of(fault)),
     }
@@ -194,13 +193,13 @@ fn plan_of<R: Threads + Sync>(
 fn plan_pairs<'a, R: Threads + Sync>(
     crew: &relay_sharing::Crew<'_, R>,
     job: &JobView<'_>,
-    finder: Wayfinder<'a>,
+    destinations: Destinations<'a>,
     graph: &'a Graph,
     pairs: &[Reached],
     lines: FindingLines,
 ) -> Result<Plan, AllocError>
-    requires routing { finder.routing ≡ routing_of job.now }
-    requires via { finder.via ≡ job.now.settings.mailbox_transport }
+    requires routing { destinations.routing ≡ routing_of job.now }
+    requires via { destinations.via ≡ job.now.settings.mailbox_transport }
     requires graph { IsJobPart job.now graph.now }
     requires reached { AreReachedPairs job.now graph.now pairs.now }
     requires few { length pairs.now ≤ 16777216 }
@@ -209,7 +208,7 @@ fn plan_pairs<'a, R: Threads + Sync>(
     ensures fewest { IfOk result (λ plan. IsFewest job.now plan.transactions) }
 {
     let mut lines = lines;
-    let transactions = plan_addresses(crew, job, finder, graph, pairs, &mut lines)?;
+    let transactions = plan_addresses(crew, job, destinations, graph, pairs, &mut lines)?;
     plan_of(crew, job, transactions, lines)
 }
 
@@ -237,8 +236,7 @@ pub fn plan_reached<G: Gate, R: Threads + Sync>(
     report_reached(crew, job, &lookup.tables, graph, pairs, &mut lines)?;
     let via = &job.settings().mailbox_transport;
     let destinations = Destinations::new(alloc, &lookup.router, via, lookup.key)?;
-    let finder = Wayfinder::new(alloc, destinations, job.recipients());
-    plan_pairs(&crew.of_shares(), job, finder, graph, pairs, lines)
+    plan_pairs(&crew.of_shares(), job, destinations, graph, pairs, lines)
 }
 
 /// The plan of a job whose files and tables are read. Their lines that are at fault are given.

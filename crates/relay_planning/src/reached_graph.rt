@@ -35,12 +35,7 @@ impl ReachedGraph {
         ensures refused { IfErr result (IsRefused crew.now.limits job.now) }
     {
         let graph = graph_of(crew, job, tables)?;
-        match pairs_of(crew, job, &graph) {
-            Ok(pairs) => Ok(ReachedGraph { graph, pairs }),
-            Err(fault) => {
-                drop(graph);
-                Err(fault)
-            }
-        }
+        let pairs = pairs_of(crew, job, &graph)?;
+        Ok(ReachedGraph { graph, pairs })
     }
 }

@@ -40,6 +40,7 @@ pub(crate) fn report_file<K: KeptFindings>(
 ) -> Result<(), AllocError>
     ensures { OnOk result (ReportsWhere lines.old lines.new (λ q. list_any (λ fault. bytes_eq q (file_line job_file.entry fault)) faults.now)) }
 {
+    lines.reserve(faults.len())?;
     for fault in faults {
         report_file_fault(alloc, job_file, *fault, lines)?;
     }

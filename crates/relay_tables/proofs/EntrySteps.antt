@@ -1,19 +1,15 @@
 -- Lemmas on entries that are numbered one after another.
-use Rattle.std.proofs.Common.{◌≡◌, ℕ, ◌+◌, ◌<◌, Option, Some, None, List, [], ◌∷◌, ◌++◌, length, map, min, take, drop, slice_get, refl, sym, ap, ◌∙◌, subst, arith}
+use Rattle.std.proofs.Common.{◌≡◌, ℕ, ◌+◌, ◌<◌, Option, Some, None, List, [], ◌∷◌, ◌++◌, length, map, take, drop, slice_get, refl, sym, ap, ◌∙◌, arith}
 use Rattle.std.specs.Prelude.{option_map}
 use Rattle.std.specs.List.{flat_map}
-use Rattle.std.proofs.lemmas.List.{append-nil, length-map, map_push, take-append-drop, take_more}
+use Rattle.std.proofs.lemmas.List.{append-nil, map_push, take-append-drop, take_more}
 use Rattle.std.proofs.lemmas.List.Concat.{flat_map-append}
 use Rattle.std.proofs.lemmas.Option.{none-some, same_Some, slice_get_within, slice_get-get_or, get_or_from_slice_get}
-use Rattle.relay_aliasfile.specs.declared.item.Item.{Item}
 use Rattle.relay_tables.specs.declared.node.Node.{Node}
 use Rattle.relay_tables.specs.declared.node.Node.TheVariants.{Alias, Include}
-use Rattle.relay_tables.specs.declared.known_name.KnownName.{KnownName}
 use Rattle.relay_tables.specs.Directory.{Directory}
 use Rattle.relay_tables.specs.Targets.{targets_of}
-use Rattle.relay_tables.specs.Looking.{item_found, found_from, AreFirst}
 use Rattle.relay_tables.specs.Graphs.{entry_nodes}
-use Rattle.relay_tables.proofs.Looks.{first_cut}
 use Rattle.relay_tables.proofs.Numbers.{length-entries, entry_alias, entry_include}
 
 module _ (d : Directory) (k : ℕ) (ts : List Node) (at : option_map (targets_of d) (slice_get (entry_nodes d) k) ≡ Some ts) where
@@ -49,12 +45,6 @@ module _ (d : Directory) (k : ℕ) (ts : List Node) (at : option_map (targets_of
       ap (flat_map (targets_of d)) (sym (take-append-drop (k + 1) (entry_nodes d)))
       ∙ flat_map-append (targets_of d) (take (k + 1) (entry_nodes d)) (drop (k + 1) (entry_nodes d))
       ∙ ap (λ (xs : List Node). xs ++ flat_map (targets_of d) (drop (k + 1) (entry_nodes d))) targets_more
-
--- what is found for the items of an entry is cut behind them
-pub entry_cut : (d : Directory) (key k : ℕ) (parent : Option ℕ) (items : List Item) (rest : List KnownName) (cut : ℕ) → found_from d key k ≡ map (item_found d key parent) items ++ found_from d key (k + 1)
-    → cut ≡ min (length items) (length rest) → AreFirst rest (found_from d key k) → AreFirst (take cut rest) (map (item_found d key parent) items) × AreFirst (drop cut rest) (found_from d key (k + 1))
-entry_cut d key k parent items rest cut more place first =
-    first_cut rest (map (item_found d key parent) items) (found_from d key (k + 1)) cut (omega (arith, length-map items (item_found d key parent))) (subst (AreFirst rest) more first)
 
 -- the entries by their numbers
 pub alias_entry : (d : Directory) (k : ℕ) → k < length d.aliases → slice_get (entry_nodes d) k ≡ Some (Alias k)

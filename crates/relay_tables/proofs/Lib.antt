@@ -21,6 +21,4 @@ pub mod ParsedFiles
 pub mod GraphsFrom
 pub mod Counts
 pub mod Found
-pub mod Looks
 pub mod EntrySteps
-pub mod Awaiting

@@ -20,9 +20,6 @@ still_unmarked marks domain text below unmarked =
       sym (get_or-set_other marks (domain_mark domain) (domain_mark text) true false apart) ∙ unmarked,
     )
 
-pub marks_none : (marks : List Bool) → AreMarksOf [] marks
-marks_none marks = λ text unmarked. refl
-
 -- one more domain
 pub marks_more : (domains : List (List ℕ)) (marks : List Bool) (i : ℕ) (domain : List ℕ) → i < length domains → domain ≡ get_or domains i domain → domain_mark domain < length marks
     → AreMarksOf (take i domains) marks → AreMarksOf (take (i + 1) domains) (set marks (domain_mark domain) true)

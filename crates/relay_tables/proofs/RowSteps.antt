@@ -11,8 +11,8 @@ use Rattle.relay_tables.specs.Numbering.{Numbered, with_nodes, with_all, Numbers
 use Rattle.relay_tables.specs.Rowing.{nodes_in, some_of, LeadTo}
 use Rattle.relay_tables.proofs.Firsts.{with_nodes-none, with_nodes-append, no_fewer, stays}
 
-abbrev with_these : Numbered → List Node → Numbered
-with_these s ns = record { nodes = ns; aliases = s.aliases; includes = s.includes; limit = s.limit; key = s.key }
+abbrev pub with_these : Numbered → List Node → Numbered
+with_these s ns = record { nodes = ns; aliases = s.aliases; includes = s.includes; limit = s.limit }
 
 pub with_all-none : (s : Numbered) → with_all s [] ≡ s
 with_all-none s = ap (with_these s) (with_nodes-none s.nodes)
@@ -93,19 +93,15 @@ passes_at p (x ∷ xs) zero d all below = (and_parts (p x) (list_all p xs) all).
 passes_at p (x ∷ xs) (suc k) d all below = passes_at p xs k d (and_parts (p x) (list_all p xs) all).1 (omega arith)
 
 -- the targets so far and one more, among all
-pub map_split : {X Y : Type 0} (f : X → Y) (xs : List X) (i : ℕ) (d : X) → i < length xs → map f xs ≡ map f (take i xs) ++ (f (get_or xs i d) ∷ []) ++ map f (drop (i + 1) xs)
-map_split {X} {Y} f xs i d below =
-    ap (map f) (sym (take-append-drop (i + 1) xs))
-    ∙ map-append f (take (i + 1) xs) (drop (i + 1) xs)
-    ∙ ap (λ (ys : List Y). ys ++ map f (drop (i + 1) xs)) (map_more f xs i d below)
-
-pub map_split_at : {X Y : Type 0} (f : X → Y) (xs : List X) (i : ℕ) (x : X) → i < length xs → x ≡ get_or xs i x → map f xs ≡ map f (take i xs) ++ (f x ∷ []) ++ map f (drop (i + 1) xs)
-map_split_at {X} {Y} f xs i x below is =
-    map_split f xs i x below ∙ ap (λ (y : X). map f (take i xs) ++ (f y ∷ []) ++ map f (drop (i + 1) xs)) (sym is)
-
 pub map_more_at : {X Y : Type 0} (f : X → Y) (xs : List X) (i : ℕ) (x : X) → i < length xs → x ≡ get_or xs i x → map f (take (i + 1) xs) ≡ map f (take i xs) ++ f x ∷ []
 map_more_at {X} {Y} f xs i x below is =
     map_more f xs i x below ∙ ap (λ (y : X). map f (take i xs) ++ f y ∷ []) (sym is)
+
+pub map_split_at : {X Y : Type 0} (f : X → Y) (xs : List X) (i : ℕ) (x : X) → i < length xs → x ≡ get_or xs i x → map f xs ≡ map f (take i xs) ++ (f x ∷ []) ++ map f (drop (i + 1) xs)
+map_split_at {X} {Y} f xs i x below is =
+    ap (map f) (sym (take-append-drop (i + 1) xs))
+    ∙ map-append f (take (i + 1) xs) (drop (i + 1) xs)
+    ∙ ap (λ (ys : List Y). ys ++ map f (drop (i + 1) xs)) (map_more_at f xs i x below is)
 
 pub same_fault : {A : Type 0} (e f : TableFault) → ◌≡◌ {A = Result A TableFault} (Err e) (Err f) → e ≡ f
 same_fault e f is = cc

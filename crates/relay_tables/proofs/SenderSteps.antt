@@ -78,17 +78,9 @@ sender_new senders keys s p none =
           (any_mapped (bytes_eq (sender_key s)) sender_key senders k d below (bytes_same (sender_key s) (sender_key (get_or senders k d)) (ap sender_key (sym same)))));
     }
 
-pub senders_none : AreSenders [] []
-senders_none = record { keys_are = refl; distinct = λ i j d before below. absurd (omega arith) }
-
 pub none_of : (o : Option ℕ) → is_some o ≡ false → o ≡ None
 none_of None e = refl
 none_of (Some x) e = absurd (true≢false e)
-
--- the one sender there is, after it was numbered
-pub only_one : (s : Sender) (number : ℕ) (new : List Sender) → slice_get new number ≡ Some s → MayAdd [] s new → new ≡ s ∷ []
-only_one s number new at (inl same) = absurd (none-some s (ap (λ (ss : List Sender). slice_get ss number) (sym same) ∙ at))
-only_one s number new at (inr added) = added
 
 module _ (d : Directory) where
   no_entry : (alias : ℕ) → owner_number d alias ≡ None → owner_entry d alias ≡ None

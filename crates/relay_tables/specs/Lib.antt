@@ -9,13 +9,8 @@ pub mod Tables
 pub mod Owning
 pub mod GraphParts
 pub mod Graphs
-pub mod Looking
-pub mod LookedUp
 pub mod Adjacency
 pub mod Transpose
-pub mod Earlier
-pub mod Awaited
-pub mod NodeHashes
 pub mod Numbering
 pub mod Rowing
 pub mod Sending

@@ -14,13 +14,12 @@ use Rattle.relay_tables.specs.declared.lead.Lead.{Lead}
 use Rattle.relay_tables.specs.declared.lead.Lead.TheVariants as lead
 use Rattle.relay_tables.specs.Graphs.{same_node}
 
--- The nodes by their numbers, how many there may be, and the key under which they are found. So many of the aliases stand first, and then so many of the include files.
+-- The nodes by their numbers, and how many there may be. So many of the aliases stand first, and then so many of the include files.
 pub record Numbered : Type 0 where
   pub nodes : List Node
   pub aliases : ℕ
   pub includes : ℕ
   pub limit : ℕ
-  pub key : ℕ
 
 -- the aliases and the include files, each once
 abbrev pub entries_of : ℕ → ℕ → List Node
@@ -35,7 +34,7 @@ with_nodes nodes [] = nodes
 with_nodes nodes (n ∷ more) = with_nodes (with_node nodes n) more
 
 abbrev pub with_all : Numbered → List Node → Numbered
-with_all s ns = record { nodes = with_nodes s.nodes ns; aliases = s.aliases; includes = s.includes; limit = s.limit; key = s.key }
+with_all s ns = record { nodes = with_nodes s.nodes ns; aliases = s.aliases; includes = s.includes; limit = s.limit }
 
 -- What numbering some nodes left: with them, or where there are too many, whatever is left.
 abbrev pub Numbers : {A : Type 0} → Numbered → List Node → Result A TableFault → Numbered → Type 0

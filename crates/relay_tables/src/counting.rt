@@ -5,9 +5,7 @@ ghost use Rattle.relay_tables.specs.Directory.{Directory};
 ghost use Rattle.relay_tables.specs.Graphs.{nodes_of, owner_count, refusal_of, Refuses};
 
 use crate::building::number_all;
-use crate::earlier::Earlier;
 use crate::fault::TableFault;
-use crate::first_found::FirstFound;
 use crate::sending::count_owners;
 use crate::tables::Tables;
 use relay_text::Address;
@@ -60,19 +58,7 @@ fn name_count(alloc: Global, tables: &Tables, names: usize) -> Result<usize, Tab
     ensures owners { result ≡ Err TableFault.TooManyOwners → ⊥ }
 {
     let no_recipients: &[Address] = &[];
-    let found = FirstFound {
-        key: tables.key(),
-        items: &[],
-        recipients: &[],
-    };
-    let rows = number_all(
-        alloc,
-        tables,
-        no_recipients,
-        found,
-        Earlier::none(alloc),
-        names,
-    )?;
+    let rows = number_all(alloc, tables, no_recipients, names)?;
     Ok(rows.nodes.len())
 }
 

@@ -1,5 +1,5 @@
 //! Nodes that are found by what leads to them.
-ghost use Rattle.std.specs.Prelude.{◌≡◌, ◌<◌, false, length, map, slice_get, option_map, Some, None, Ok, IfOk, IfSome, ◌&&◌};
+ghost use Rattle.std.specs.Prelude.{◌≡◌, ◌<◌, false, length, map, slice_get, option_map, Some, None, IfSome, ◌&&◌};
 ghost use Rattle.std.specs.List.{list_any};
 ghost use Rattle.std.specs.Str.{bytes_eq};
 ghost use Rattle.relay_tables.specs.Graphs.{same_address, same_node};
@@ -7,10 +7,8 @@ ghost use Rattle.relay_tables.specs.Numbering.{node_of, node_hash};
 
 use crate::lead::Lead;
 use crate::node::Node;
-use crate::node_hashes::NodeHashes;
-use relay_chains::{TextKey, hash_text};
+use relay_chains::{Links, TextKey, hash_text};
 use relay_text::{Address, one_joined_text, same_bytes};
-use std::alloc::{AllocError, Global};
 
 /// The hash of what a lead leads to.
 #[tactic(auto, unfolding(crate::specs::Numbering::node_hash))]
@@ -64,24 +62,20 @@ fn leads_to(lead: Lead<'_>, node: &Node) -> bool
     }
 }
 
-/// The place of what a lead with this hash leads to, where it's there. `Err` where memory runs out.
-#[inline(always)]
+/// The place of what a lead with this hash leads to, where it's there.
 pub(crate) fn find_node(
-    alloc: Global,
     nodes: &[Node],
-    hashes: &mut NodeHashes,
+    hashes: &Links,
     key: TextKey,
     hash: u32,
     lead: Lead<'_>,
-) -> Result<Option<u32>, AllocError>
-    requires hashed { hashes.old ≡ map (node_hash key) nodes.now }
+) -> Option<u32>
+    requires hashed { hashes.now ≡ map (node_hash key) nodes.now }
     requires hash { hash ≡ node_hash key (node_of lead) }
-    ensures same { hashes.new ≡ hashes.old }
-    ensures found { IfOk result (λ found. IfSome found (λ place. slice_get nodes.now place ≡ Some (node_of lead.entry))) }
-    ensures none { result ≡ Ok None → list_any (same_node (node_of lead.entry)) nodes.now ≡ false }
+    ensures found { IfSome result (λ place. slice_get nodes.now place ≡ Some (node_of lead.entry)) }
+    ensures none { result ≡ None → list_any (same_node (node_of lead.entry)) nodes.now ≡ false }
 {
-    hashes.find(
-        alloc,
+    hashes.find_last(
         hash,
         |number: u32| -> bool
             requires { number < length nodes.now }

@@ -1,11 +1,10 @@
 //! The numbered graph of what leads to what.
-ghost use Rattle.std.specs.Prelude.{◌≡◌, ◌<◌, ◌≤◌, ◌^◌, ◌+◌, ◌++◌, length, slice_get, Some, Err, IfOk, OnOk, option_map, option_copied};
+ghost use Rattle.std.specs.Prelude.{◌≡◌, ◌<◌, ◌≤◌, ◌^◌, ◌+◌, length, slice_get, Some, Err, IfOk, option_map, option_copied};
 ghost use Rattle.relay_tables.specs.Graphs.{IsClosedGraph, IsGraphOf, IsGraphFrom, nodes_of, owner_count, refusal_of, Refuses, child_numbers, sender_number_after};
 
 use crate::adjacency::Adjacency;
-use crate::building::Rows;
+use crate::building::{Rows, number_all};
 use crate::fault::TableFault;
-use crate::looked_up::LookedUp;
 use crate::node::Node;
 use crate::reaching::{Reach, reach_all};
 use crate::sending::{OwnedSenders, count_owners, number_senders};
@@ -74,27 +73,7 @@ impl Graph {
         ensures senders { IfOk result (λ graph. length graph.senders ≤ owner_count tables.now + 1) }
         ensures refusal { Refuses result (refusal_of tables.now recipients.now names owners) }
     {
-        let none = LookedUp::none(alloc, tables, recipients);
-        Graph::of(alloc, none, sender, names, owners)
-    }
-
-    /// The same of tables and recipients whose names may be looked up already, by several threads: the nodes alone are numbered here then.
-    pub fn of(
-        alloc: Global,
-        looked_up: LookedUp<'_>,
-        sender: Option<&Address>,
-        names: usize,
-        owners: usize,
-    ) -> Result<Graph, TableFault>
-        requires names { names ≤ 2 ^ 24 }
-        requires owners { owners ≤ 2 ^ 24 }
-        ensures graph { IfOk result (IsGraphOf looked_up.entry.tables (option_map (λ a. a.now) sender.entry) looked_up.entry.recipients) }
-        ensures nodes { IfOk result (λ graph. length graph.nodes ≤ names) }
-        ensures senders { IfOk result (λ graph. length graph.senders ≤ owner_count looked_up.entry.tables + 1) }
-        ensures refusal { Refuses result (refusal_of looked_up.entry.tables looked_up.entry.recipients names owners) }
-    {
-        let tables = looked_up.tables();
-        let rows = looked_up.into_rows(alloc, names)?;
+        let rows = number_all(alloc, tables, recipients, names)?;
         let owned = count_owners(tables);
         if owned > owners {
             return Err(TableFault::TooManyOwners);

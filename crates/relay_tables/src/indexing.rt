@@ -1,5 +1,5 @@
 //! The indices of tables: the hashes of what is named, and look-ups over them.
-ghost use Rattle.std.specs.Prelude.{◌≡◌, ℕ, ◌<◌, ◌-◌, ◌^◌, length, map, position, slice_get, option_map, Some, IfOk};
+ghost use Rattle.std.specs.Prelude.{◌≡◌, ◌<◌, ◌-◌, ◌^◌, length, map, position, slice_get, option_map, Some, IfOk};
 ghost use Rattle.std.specs.Str.{bytes_eq};
 ghost use Rattle.relay_chains.specs.TextHash.{text_hash};
 ghost use Rattle.relay_tables.specs.Tables.{IsLawful, AreTables};

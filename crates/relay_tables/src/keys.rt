@@ -1,6 +1,5 @@
 //! The texts by which senders are found, and what leads stand for in memory of its own.
-ghost use Rattle.std.specs.Prelude.{◌≡◌, ◌<◌, ◌∷◌, ◌++◌, length, IfOk, OnOk, IsTrue};
-ghost use Rattle.relay_text.specs.Addresses.{is_address};
+ghost use Rattle.std.specs.Prelude.{◌≡◌, ◌<◌, ◌∷◌, ◌++◌, length, IfOk, OnOk};
 ghost use Rattle.relay_tables.specs.Numbering.{node_of, HasGoodAddress};
 
 use crate::lead::Lead;

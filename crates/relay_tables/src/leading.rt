@@ -1,23 +1,46 @@
-//! The nodes that names, addresses and items lead to, by what is found for them.
-//!
-//! What is numbered for each item is one function in the program: a number that is handed on in memory, from one call to the next, is read
-//! there in another width than it was written in, and waited for until all that was written before it is there.
-ghost use Rattle.std.specs.Prelude.{◌≡◌, ◌∷◌, [], true, slice_get, Some, IfOk, IsTrue};
+//! The nodes that names, addresses and items lead to.
+ghost use Rattle.std.specs.Prelude.{◌≡◌, ◌<◌, ◌∷◌, [], length, slice_get, Some, IfOk, IfSome, IsTrue};
 ghost use Rattle.relay_text.specs.Bytes.{folded};
 ghost use Rattle.relay_tables.specs.Parts.{is_local_part, is_good_item};
-ghost use Rattle.relay_tables.specs.Targets.{at_origin, include_target, include_number};
-ghost use Rattle.relay_tables.specs.Looking.{name_node, address_node, item_node, HasHash};
+ghost use Rattle.relay_tables.specs.Targets.{address_target, include_number, include_target, item_target, name_target, node_named, resolved};
 ghost use Rattle.relay_tables.specs.Numbering.{node_of, Numbers, HasGoodAddress};
 
 use crate::fault::TableFault;
-use crate::known_name::KnownName;
+use crate::folded_name::{has_capitals, write_folded};
 use crate::lead::Lead;
-use crate::looking::{has_capitals, write_folded};
 use crate::numbering::Numbering;
 use crate::tables::Tables;
+use crate::target::Target;
 use relay_aliasfile::Item;
 use relay_text::{Address, same_bytes};
-use std::alloc::Global;
+
+// What a folded name leads to in a parent.
+fn lead_named<'a>(tables: &'a Tables, name: &'a [u8], parent: Option<u32>) -> Lead<'a>
+    requires name { folded name.now ≡ name.now }
+    requires local { IsTrue (is_local_part name.now) }
+    requires parent { IfSome parent (λ number. number < length tables.now.aliases) }
+    ensures lead { node_of result ≡ node_named tables.now name.now (resolved tables.now name.now parent) }
+    ensures good { HasGoodAddress (node_of result) }
+{
+    match tables.resolve(name, parent) {
+        Target::Alias(number) => Lead::Alias(number),
+        Target::Mailbox => Lead::Mailbox(name, tables.origin()),
+        Target::Missing => Lead::Missing(name),
+    }
+}
+
+// The same of a local address without capitals. Where it is written as its own mailbox is, it is copied in one piece.
+fn lead_written<'a>(tables: &'a Tables, address: &'a Address, parent: Option<u32>) -> Lead<'a>
+    requires name { folded address.now.local ≡ address.now.local }
+    requires parent { IfSome parent (λ number. number < length tables.now.aliases) }
+    ensures lead { node_of result ≡ node_named tables.now address.now.local (resolved tables.now address.now.local parent) }
+    ensures good { HasGoodAddress (node_of result) }
+{
+    match lead_named(tables, address.local(), parent) {
+        Lead::Mailbox(_, origin) if same_bytes(address.domain(), origin) => Lead::Written(address),
+        lead => lead,
+    }
+}
 
 // What the path of an include item leads to.
 fn lead_included<'a>(tables: &Tables, path: &'a [u8]) -> Lead<'a>
@@ -30,117 +53,68 @@ fn lead_included<'a>(tables: &Tables, path: &'a [u8]) -> Lead<'a>
     }
 }
 
-// Whether an address is written as its own mailbox is: at the origin, and folded. Then it's copied in one piece.
-fn is_mailbox_address(tables: &Tables, address: &Address) -> bool
-    ensures { result ≡ true → at_origin tables.now (folded address.now.local) ≡ address.now }
-{
-    same_bytes(address.domain(), tables.origin()) && !has_capitals(address.local())
-}
-
-// The number of what a folded name leads to, by what is found for it.
-#[inline(always)]
-fn number_folded(
-    alloc: Global,
-    tables: &Tables,
-    name: &[u8],
-    found: KnownName,
-    names: &mut Numbering,
-) -> Result<u32, TableFault>
-    requires local { IsTrue (is_local_part name.now) }
-    requires hash { HasHash names.old.key found (name_node tables.now name.now found) }
-    ensures number { IfOk result (λ number. slice_get names.new.nodes number ≡ Some (name_node tables.now name.now found)) }
-    ensures numbers { Numbers names.old (name_node tables.now name.now found ∷ []) result names.new }
-{
-    match found {
-        KnownName::Alias(number) => names.number(alloc, Lead::Alias(number)),
-        KnownName::Mailbox(hash) => {
-            names.number_hashed(alloc, Lead::Mailbox(name, tables.origin()), hash)
-        }
-        KnownName::Missing(hash) => names.number_hashed(alloc, Lead::Missing(name), hash),
-        KnownName::Remote(_) | KnownName::Unsought => names.number(alloc, Lead::Missing(name)),
-    }
-}
-
-// The number of what a local name leads to, by what is found for it; its folded name goes into `name` where that's another.
-#[inline(always)]
+// The number of what a local name leads to in a parent; its folded name goes into `name` where that's another.
 fn number_name(
-    alloc: Global,
     tables: &Tables,
     local: &[u8],
-    found: KnownName,
+    parent: Option<u32>,
     names: &mut Numbering,
     name: &mut Vec<u8>,
 ) -> Result<u32, TableFault>
     requires local { IsTrue (is_local_part local.now) }
-    requires hash { HasHash names.old.key found (name_node tables.now (folded local.now) found) }
-    ensures number { IfOk result (λ number. slice_get names.new.nodes number ≡ Some (name_node tables.now (folded local.now) found)) }
-    ensures numbers { Numbers names.old (name_node tables.now (folded local.now) found ∷ []) result names.new }
+    requires parent { IfSome parent (λ number. number < length tables.now.aliases) }
+    ensures number { IfOk result (λ number. slice_get names.new.nodes number ≡ Some (name_target tables.now parent local.now)) }
+    ensures numbers { Numbers names.old (name_target tables.now parent local.now ∷ []) result names.new }
 {
-    // An alias has its number, and its name isn't read.
-    if let KnownName::Alias(number) = found {
-        return names.number(alloc, Lead::Alias(number));
-    }
     if !has_capitals(local) {
-        return number_folded(alloc, tables, local, found, names);
+        return names.number(lead_named(tables, local, parent));
     }
     write_folded(local, name)?;
-    number_folded(alloc, tables, name, found, names)
+    names.number(lead_named(tables, name, parent))
 }
 
-/// The number of what an address leads to, by what is found for it.
+/// The number of what an address leads to in a parent.
 #[inline(always)]
 pub(crate) fn number_address(
-    alloc: Global,
     tables: &Tables,
     address: &Address,
-    found: KnownName,
+    parent: Option<u32>,
     names: &mut Numbering,
     name: &mut Vec<u8>,
 ) -> Result<u32, TableFault>
-    requires hash { HasHash names.old.key found (address_node tables.now address.now found) }
-    ensures number { IfOk result (λ number. slice_get names.new.nodes number ≡ Some (address_node tables.now address.now found)) }
-    ensures numbers { Numbers names.old (address_node tables.now address.now found ∷ []) result names.new }
+    requires parent { IfSome parent (λ number. number < length tables.now.aliases) }
+    ensures number { IfOk result (λ number. slice_get names.new.nodes number ≡ Some (address_target tables.now parent address.now)) }
+    ensures numbers { Numbers names.old (address_target tables.now parent address.now ∷ []) result names.new }
 {
     let local = address.local();
-    match found {
-        KnownName::Alias(number) => names.number(alloc, Lead::Alias(number)),
-        KnownName::Mailbox(hash) if is_mailbox_address(tables, address) => {
-            names.number_hashed(alloc, Lead::Written(address), hash)
-        }
-        KnownName::Mailbox(hash) => {
-            number_name(alloc, tables, local, KnownName::Mailbox(hash), names, name)
-        }
-        KnownName::Missing(hash) => {
-            number_name(alloc, tables, local, KnownName::Missing(hash), names, name)
-        }
-        KnownName::Remote(hash) => names.number_hashed(alloc, Lead::Remote(address), hash),
-        KnownName::Unsought => names.number(alloc, Lead::Remote(address)),
+    if !tables.is_local(address) {
+        return names.number(Lead::Remote(address));
     }
+    if !has_capitals(local) {
+        return names.number(lead_written(tables, address, parent));
+    }
+    number_name(tables, local, parent, names, name)
 }
 
-/// The number of what an item leads to, by what is found for it.
+/// The number of what an item leads to in a parent.
 #[inline(always)]
 pub(crate) fn number_item(
-    alloc: Global,
     tables: &Tables,
     item: &Item,
-    found: KnownName,
+    parent: Option<u32>,
     names: &mut Numbering,
     name: &mut Vec<u8>,
 ) -> Result<u32, TableFault>
     requires item { IsTrue (is_good_item item.now) }
-    requires hash { HasHash names.old.key found (item_node tables.now item.now found) }
-    ensures number { IfOk result (λ number. slice_get names.new.nodes number ≡ Some (item_node tables.now item.now found)) }
-    ensures numbers { Numbers names.old (item_node tables.now item.now found ∷ []) result names.new }
+    requires parent { IfSome parent (λ number. number < length tables.now.aliases) }
+    ensures number { IfOk result (λ number. slice_get names.new.nodes number ≡ Some (item_target tables.now parent item.now)) }
+    ensures numbers { Numbers names.old (item_target tables.now parent item.now ∷ []) result names.new }
 {
     match item {
-        Item::Bare(local) => number_name(alloc, tables, local.as_bytes(), found, names, name),
-        Item::Full(address) => number_address(alloc, tables, address, found, names, name),
-        Item::Include(path) => {
-            let lead = lead_included(tables, path.as_bytes());
-            names.number(alloc, lead)
-        }
-        Item::Command(text) => names.number(alloc, Lead::Command(text.as_bytes())),
-        Item::File(path) => names.number(alloc, Lead::File(path.as_bytes())),
+        Item::Bare(local) => number_name(tables, local.as_bytes(), parent, names, name),
+        Item::Full(address) => number_address(tables, address, parent, names, name),
+        Item::Include(path) => names.number(lead_included(tables, path.as_bytes())),
+        Item::Command(text) => names.number(Lead::Command(text.as_bytes())),
+        Item::File(path) => names.number(Lead::File(path.as_bytes())),
     }
 }

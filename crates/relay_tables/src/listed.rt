@@ -1,11 +1,10 @@
 //! What an alias or an include file lists.
-ghost use Rattle.std.specs.Prelude.{◌≡◌, ℕ, ◌<◌, ◌+◌, ◌++◌, length, map, slice_get, option_map, Some, IfSome, IsTrue};
+ghost use Rattle.std.specs.Prelude.{◌≡◌, ◌<◌, ◌+◌, length, map, slice_get, option_map, Some, IfSome, IsTrue};
 ghost use Rattle.std.specs.List.{list_all};
 ghost use Rattle.relay_tables.specs.declared.node.Node.TheVariants.{Alias, Include};
 ghost use Rattle.relay_tables.specs.Parts.{is_good_item};
 ghost use Rattle.relay_tables.specs.Targets.{item_target, targets_of};
 ghost use Rattle.relay_tables.specs.Graphs.{entry_nodes};
-ghost use Rattle.relay_tables.specs.Looking.{item_found, node_found, found_from};
 
 use crate::node::Node;
 use crate::tables::Tables;
@@ -21,7 +20,6 @@ pub(crate) struct Listed<'a> {
 /// The items of an alias or an include file of the tables; nothing else has any.
 pub(crate) fn items_of<'a>(tables: &'a Tables, node: &Node) -> Listed<'a>
     ensures targets { targets_of tables.now node.now ≡ map (item_target tables.now result.parent) result.items.now }
-    ensures found { (key : ℕ) → node_found tables.now key node.now ≡ map (item_found tables.now key result.parent) result.items.now }
     ensures good { IsTrue (list_all is_good_item result.items.now) }
     ensures parent { IfSome result.parent (λ number. number < length tables.now.aliases) }
 {
@@ -38,7 +36,6 @@ pub(crate) fn items_of<'a>(tables: &'a Tables, node: &Node) -> Listed<'a>
 // The items of an alias of the tables.
 fn alias_list(tables: &Tables, number: u32) -> Listed<'_>
     ensures targets { targets_of tables.now (Alias number) ≡ map (item_target tables.now result.parent) result.items.now }
-    ensures found { (key : ℕ) → node_found tables.now key (Alias number) ≡ map (item_found tables.now key result.parent) result.items.now }
     ensures good { IsTrue (list_all is_good_item result.items.now) }
     ensures parent { IfSome result.parent (λ alias. alias < length tables.now.aliases) }
 {
@@ -57,7 +54,6 @@ fn alias_list(tables: &Tables, number: u32) -> Listed<'_>
 // The items of an include file of the tables.
 fn include_list(tables: &Tables, number: u32) -> Listed<'_>
     ensures targets { targets_of tables.now (Include number) ≡ map (item_target tables.now result.parent) result.items.now }
-    ensures found { (key : ℕ) → node_found tables.now key (Include number) ≡ map (item_found tables.now key result.parent) result.items.now }
     ensures good { IsTrue (list_all is_good_item result.items.now) }
     ensures parent { IfSome result.parent (λ alias. alias < length tables.now.aliases) }
 {
@@ -85,7 +81,6 @@ pub(crate) fn list_of(tables: &Tables, number: usize) -> Listed<'_>
     requires { number < length tables.now.aliases + length tables.now.includes }
     ensures targets { option_map (targets_of tables.now) (slice_get (entry_nodes tables.now) number) ≡ Some (map (item_target tables.now result.parent) result.items.now) }
     ensures good { IsTrue (list_all is_good_item result.items.now) }
-    ensures found { (key : ℕ) → found_from tables.now key number ≡ map (item_found tables.now key result.parent) result.items.now ++ found_from tables.now key (number + 1) }
     ensures parent { IfSome result.parent (λ number. number < length tables.now.aliases) }
 {
     let aliases = tables.aliases().len();

@@ -1,16 +1,14 @@
 //! Nodes by their numbers.
 ghost use Rattle.std.specs.Prelude.{◌≡◌, ◌<◌, ◌≤◌, ◌+◌, ◌-◌, ◌^◌, ◌∷◌, ◌++◌, [], length, slice_get, Some, None, IfOk, IfSome, OnOk, OnErr, Err};
 ghost use Rattle.relay_tables.specs.declared.node.Node.TheVariants.{Alias, Include};
-ghost use Rattle.relay_tables.specs.Numbering.{node_of, node_hash, entries_of, with_all, with_nodes, Numbers, HasGoodAddress, IsBehind};
+ghost use Rattle.relay_tables.specs.Numbering.{node_of, entries_of, Numbers, HasGoodAddress, IsBehind};
 
-use crate::earlier::Earlier;
 use crate::fault::TableFault;
 use crate::finding::{find_node, lead_hash};
 use crate::keys::make_node;
 use crate::lead::Lead;
 use crate::node::Node;
-use crate::node_hashes::NodeHashes;
-use relay_chains::TextKey;
+use relay_chains::{Links, TextKey};
 use std::alloc::{AllocError, Global};
 use std::marker::Model;
 
@@ -20,12 +18,19 @@ use std::marker::Model;
 /// An entry that stands in front has its number by its place. Any other node is found by its hash, and what tells it is read in the node.
 #[derive(Drop)]
 pub(crate) struct Numbering {
+    alloc: Global,
     nodes: Vec<Node>,
-    hashes: NodeHashes,
+    hashes: Links,
     key: TextKey,
-    aliases: usize,
-    includes: usize,
+    entries: Entries,
     limit: usize,
+}
+
+/// How many aliases and how many include files stand in front.
+#[derive(Clone, Copy)]
+pub(crate) struct Entries {
+    pub(crate) aliases: usize,
+    pub(crate) includes: usize,
 }
 
 impl Model for Numbering {
@@ -33,9 +38,9 @@ impl Model for Numbering {
 
     ghost Value = { Numbered };
 
-    ghost view = { λ a. record { nodes = a.nodes.items; aliases = a.aliases; includes = a.includes; limit = a.limit; key = a.key } };
+    ghost view = { λ a. record { nodes = a.nodes.items; aliases = a.entries.aliases; includes = a.entries.includes; limit = a.limit } };
 
-    ghost invariant = { λ a. AreNumbered a.nodes.items a.aliases a.includes a.limit a.key a.hashes };
+    ghost invariant = { λ a. AreNumbered a.nodes.items a.entries.aliases a.entries.includes a.limit a.key a.hashes };
 }
 
 impl Numbering {
@@ -44,104 +49,44 @@ impl Numbering {
     pub(crate) fn new(
         alloc: Global,
         key: TextKey,
-        aliases: usize,
-        includes: usize,
+        entries: Entries,
         heads: usize,
         limit: usize,
     ) -> Result<Numbering, TableFault>
         requires heads { 1 ≤ heads }
         requires limit { limit ≤ 2 ^ 24 }
-        ensures made { IfOk result (λ s. s ≡ record { nodes = entries_of aliases includes; aliases = aliases; includes = includes; limit = limit; key = key }) }
-        ensures full { result ≡ Err TableFault.TooManyNames → limit < aliases + includes }
+        ensures made { IfOk result (λ s. s ≡ record { nodes = entries_of entries.aliases entries.includes; aliases = entries.aliases; includes = entries.includes; limit = limit }) }
+        ensures full { result ≡ Err TableFault.TooManyNames → limit < entries.aliases + entries.includes }
         ensures owners { result ≡ Err TableFault.TooManyOwners → ⊥ }
     {
+        let Entries { aliases, includes } = entries;
         if limit < aliases || limit - aliases < includes {
             return Err(TableFault::TooManyNames);
         }
-        let hashes = NodeHashes::linked(alloc, heads)?;
+        let hashes = Links::new(alloc, heads)?;
         let expected = (heads / 2).min(limit - aliases - includes);
         let nodes = nodes_in_front(alloc, aliases, includes, expected)?;
         Ok(Numbering {
+            alloc,
             nodes,
             hashes,
             key,
-            aliases,
-            includes,
-            limit,
-        })
-    }
-
-    /// The same where other nodes are awaited with these hashes, in their order: there is room for as many.
-    pub(crate) fn awaiting(
-        alloc: Global,
-        key: TextKey,
-        aliases: usize,
-        includes: usize,
-        earlier: Earlier,
-        limit: usize,
-    ) -> Result<Numbering, TableFault>
-        requires { limit ≤ 2 ^ 24 }
-        ensures made { IfOk result (λ s. s ≡ record { nodes = entries_of aliases includes; aliases = aliases; includes = includes; limit = limit; key = key }) }
-        ensures full { result ≡ Err TableFault.TooManyNames → limit < aliases + includes }
-        ensures owners { result ≡ Err TableFault.TooManyOwners → ⊥ }
-    {
-        let entries = aliases.saturating_add(includes);
-        if limit < entries {
-            return Err(TableFault::TooManyNames);
-        }
-        let expected = earlier.len().min(limit - entries);
-        let hashes = NodeHashes::awaiting(alloc, earlier)?;
-        let nodes = nodes_in_front(alloc, aliases, includes, expected)?;
-        Ok(Numbering {
-            nodes,
-            hashes,
-            key,
-            aliases,
-            includes,
+            entries,
             limit,
         })
     }
 
     /// The number of a node. A new one gets the next number, where there is room for it.
     #[inline(always)]
-    pub(crate) fn number(&mut self, alloc: Global, lead: Lead<'_>) -> Result<u32, TableFault>
+    pub(crate) fn number(&mut self, lead: Lead<'_>) -> Result<u32, TableFault>
         requires { HasGoodAddress (node_of lead) }
         ensures number { IfOk result (λ number. slice_get self.new.nodes number ≡ Some (node_of lead.entry)) }
         ensures numbers { Numbers self.old (node_of lead.entry ∷ []) result self.new }
     {
         match self.number_in_front(lead) {
             Some(number) => Ok(number),
-            None => {
-                let hash = lead_hash(self.key(), lead);
-                self.number_behind(alloc, lead, hash)
-            }
+            None => self.number_behind(lead),
         }
-    }
-
-    /// The same where its hash is known.
-    #[inline(always)]
-    pub(crate) fn number_hashed(
-        &mut self,
-        alloc: Global,
-        lead: Lead<'_>,
-        hash: u32,
-    ) -> Result<u32, TableFault>
-        requires good { HasGoodAddress (node_of lead) }
-        requires hash { hash ≡ node_hash self.old.key (node_of lead) }
-        ensures number { IfOk result (λ number. slice_get self.new.nodes number ≡ Some (node_of lead.entry)) }
-        ensures numbers { Numbers self.old (node_of lead.entry ∷ []) result self.new }
-    {
-        match self.number_in_front(lead) {
-            Some(number) => Ok(number),
-            None => self.number_behind(alloc, lead, hash),
-        }
-    }
-
-    /// The key under which nodes are found.
-    pub(crate) fn key(&self) -> TextKey
-        ensures { result ≡ self.now.key }
-    {
-        self.key
     }
 
     // The number of an entry that stands in front.
@@ -152,15 +97,15 @@ impl Numbering {
     {
         match lead {
             Lead::Alias(number) => {
-                if (number as usize) < self.aliases {
+                if (number as usize) < self.entries.aliases {
                     Some(number)
                 } else {
                     None
                 }
             }
             Lead::Include(number) => {
-                if (number as usize) < self.includes {
-                    Some(self.aliases as u32 + number)
+                if (number as usize) < self.entries.includes {
+                    Some(self.entries.aliases as u32 + number)
                 } else {
                     None
                 }
@@ -170,36 +115,24 @@ impl Numbering {
     }
 
     // The number of a node that is none of these, by its hash.
-    #[inline(always)]
-    fn number_behind(&mut self, alloc: Global, lead: Lead<'_>, hash: u32) -> Result<u32, TableFault>
+    fn number_behind(&mut self, lead: Lead<'_>) -> Result<u32, TableFault>
         requires good { HasGoodAddress (node_of lead) }
         requires behind { IsBehind self.old (node_of lead) }
-        requires hash { hash ≡ node_hash self.old.key (node_of lead) }
         ensures number { IfOk result (λ number. slice_get self.new.nodes number ≡ Some (node_of lead.entry)) }
         ensures numbers { Numbers self.old (node_of lead.entry ∷ []) result self.new }
     {
-        let entries = self.aliases + self.includes;
+        let hash = lead_hash(self.key, lead);
+        let entries = self.entries.aliases + self.entries.includes;
         let behind = &self.nodes[entries..];
-        let found = find_node(alloc, behind, &mut self.hashes, self.key, hash, lead)?;
-        if let Some(place) = found {
+        if let Some(place) = find_node(behind, &self.hashes, self.key, hash, lead) {
             return Ok(entries as u32 + place);
         }
         let number = self.nodes.len();
         if number == self.limit {
             return Err(TableFault::TooManyNames);
         }
-        push_node(alloc, lead, hash, &mut self.nodes, &mut self.hashes)?;
+        push_node(self.alloc, lead, hash, &mut self.nodes, &mut self.hashes)?;
         Ok(number as u32)
-    }
-
-    /// Are nodes found without a look at the heads of hashes, as they come as they are awaited?
-    pub(crate) fn awaits(&self) -> bool {
-        self.hashes.awaits()
-    }
-
-    /// The word of the newest node behind the entries that has a hash.
-    pub(crate) fn newest(&self, hash: u32) -> u32 {
-        self.hashes.newest(hash)
     }
 
     /// How many nodes there are.
@@ -224,11 +157,11 @@ impl Numbering {
         ensures within { length self.nodes ≤ self.limit }
     {
         let Numbering {
+            alloc: _,
             nodes,
             hashes: _,
             key: _,
-            aliases: _,
-            includes: _,
+            entries: _,
             limit: _,
         } = self;
         nodes
@@ -272,7 +205,7 @@ fn push_node(
     lead: Lead<'_>,
     hash: u32,
     nodes: &mut Vec<Node>,
-    hashes: &mut NodeHashes,
+    hashes: &mut Links,
 ) -> Result<(), AllocError>
     requires good { HasGoodAddress (node_of lead) }
     requires few { length hashes.old < 2 ^ 32 - 2 }
@@ -287,7 +220,7 @@ fn push_node(
         drop(node);
         return Err(AllocError);
     };
-    let Ok(()) = hashes.push(alloc, hash) else {
+    let Ok(()) = hashes.push(hash) else {
         drop(node);
         return Err(AllocError);
     };

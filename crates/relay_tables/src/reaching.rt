@@ -1,9 +1,6 @@
 //! What an envelope reaches, numbered as it's found.
-ghost use Rattle.std.specs.Prelude.{◌≡◌, ◌<◌, ◌≤◌, ◌+◌, ◌-◌, ◌^◌, List, length, map, option_map, IfOk, IfSome, OnOk, IsTrue, Err};
-ghost use Rattle.std.specs.List.{list_all};
+ghost use Rattle.std.specs.Prelude.{◌≡◌, ◌<◌, ◌≤◌, ◌+◌, ◌-◌, ◌^◌, List, length, option_map, IfOk, OnOk, Err};
 ghost use Rattle.relay_text.specs.AddressParts.{AddressParts};
-ghost use Rattle.relay_tables.specs.Parts.{is_good_item};
-ghost use Rattle.relay_tables.specs.Targets.{item_target, targets_of};
 ghost use Rattle.relay_tables.specs.Senders.{Sender};
 ghost use Rattle.relay_tables.specs.Graphs.{nodes_of};
 ghost use Rattle.relay_tables.specs.Sending.{IsOwnedBy};
@@ -13,7 +10,7 @@ use crate::adjacency::Adjacency;
 use crate::fault::TableFault;
 use crate::listed::items_of;
 use crate::node::Node;
-use crate::numbering::Numbering;
+use crate::numbering::{Entries, Numbering};
 use crate::rowing::{Scratch, number_items, number_recipients};
 use crate::sending::{SenderList, number_owner};
 use crate::tables::Tables;
@@ -73,9 +70,13 @@ fn reach_roots(
 {
     let targets = recipients.len().max(FEW);
     let heads = targets.saturating_mul(2);
-    let mut numbering = Numbering::new(alloc, tables.key(), 0, 0, heads, names)?;
-    let mut scratch = Scratch::new(alloc, targets);
-    let roots = number_recipients(alloc, tables, recipients, &[], &mut numbering, &mut scratch)?;
+    let none = Entries {
+        aliases: 0,
+        includes: 0,
+    };
+    let mut numbering = Numbering::new(alloc, tables.key(), none, heads, names)?;
+    let mut scratch = Scratch::new(alloc);
+    let roots = number_recipients(alloc, tables, recipients, &mut numbering, &mut scratch)?;
     let owners = Vec::new(alloc);
     Ok(Reach {
         names: numbering,
@@ -103,14 +104,7 @@ fn reach_more(alloc: Global, tables: &Tables, found: &mut Reach) -> Result<(), T
     let owner = number_sender(alloc, tables, node, &mut found.senders)?;
     found.owners.push(owner)?;
     let list = items_of(tables, node);
-    number_items(
-        alloc,
-        tables,
-        list,
-        &[],
-        &mut found.names,
-        &mut found.scratch,
-    )?;
+    number_items(tables, list, &mut found.names, &mut found.scratch)?;
     found.children.push(&found.scratch.row)?;
     Ok(())
 }

@@ -1,5 +1,5 @@
 //! Senders by their numbers.
-ghost use Rattle.std.specs.Prelude.{◌≡◌, ◌≢◌, ◌⊎◌, AllPairs, ◌<◌, ◌≤◌, ◌+◌, ◌-◌, ◌^◌, ◌∷◌, ◌++◌, [], is_some, length, slice_get, Some, IfOk, OnOk, option_map};
+ghost use Rattle.std.specs.Prelude.{◌≡◌, ◌≢◌, AllPairs, ◌<◌, ◌≤◌, ◌+◌, ◌-◌, ◌^◌, ◌∷◌, [], is_some, length, slice_get, Some, IfOk, OnOk, option_map};
 ghost use Rattle.relay_tables.specs.Senders.{Sender, owner_entry};
 ghost use Rattle.relay_tables.specs.Graphs.{owner_count};
 ghost use Rattle.relay_tables.specs.Sending.{sender_key, IsOwnedBy, AreOwned, MayAdd, MayAddOwner};

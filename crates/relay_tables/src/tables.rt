@@ -196,41 +196,6 @@ impl Tables {
         DomainKind::Remote
     }
 
-    // Whether an address has the mark of a local domain: it's remote where it hasn't.
-    pub(crate) fn may_be_local(&self, address: &Address) -> bool {
-        self.indices.marks[domain_mark(address.domain())]
-    }
-
-    // The word of the newest entry whose name has a hash.
-    pub(crate) fn newest_entry(&self, hash: u32) -> u32 {
-        self.indices.aliases.newest(hash)
-    }
-
-    // The word of the newest mailbox whose name has a hash.
-    pub(crate) fn newest_mailbox(&self, hash: u32) -> u32 {
-        self.indices.mailboxes.newest(hash)
-    }
-
-    // The length of the name of the entry of a word.
-    pub(crate) fn entry_len(&self, word: u32) -> usize {
-        match self.aliases.as_slice().get((word as usize).wrapping_sub(1)) {
-            Some(entry) => entry.name.len(),
-            None => 0,
-        }
-    }
-
-    // The length of the name of the mailbox of a word.
-    pub(crate) fn mailbox_len(&self, word: u32) -> usize {
-        match self
-            .mailboxes
-            .as_slice()
-            .get((word as usize).wrapping_sub(1))
-        {
-            Some(name) => name.len(),
-            None => 0,
-        }
-    }
-
     /// The key of the hashes of names, as it was given.
     pub fn key(&self) -> TextKey {
         self.indices.key

@@ -4,7 +4,7 @@ use Rattle.std.specs.List.{list_all}
 use Rattle.std.specs.Str.{bytes_eq}
 use Rattle.std.proofs.lemmas.Slice.Eq.{bytes_eq-Decides}
 use Rattle.std.proofs.lemmas.List.{take_more, take_all, get_or_at, length-append}
-use Rattle.std.proofs.lemmas.Bool.{false_from_ne_true, or_left, or_right, or_cases, and_parts}
+use Rattle.std.proofs.lemmas.Bool.{false_from_ne_true, or_left, or_cases, and_parts}
 use Rattle.relay_text.specs.Addresses.{inside, is_run_of, is_domain, is_domain_name, is_literal, is_literal_content}
 
 pub is_run_of_some : (test : ℕ → Bool) (xs : List ℕ) → (length xs == 0) ≡ false → is_run_of test xs ≡ list_all test xs
@@ -47,10 +47,6 @@ bytes_eq-not_inside text first last h = false_from_ne_true _ (λ e. h (ends_from
 pub is_domain-from_name : (text : List ℕ) → is_domain_name text ≡ true → is_domain text ≡ true
 unfolding is_domain
 is_domain-from_name text h = or_left (is_domain_name text) (is_literal text) h
-
-pub is_domain-from_literal : (text : List ℕ) → is_literal text ≡ true → is_domain text ≡ true
-unfolding is_domain
-is_domain-from_literal text h = or_right (is_domain_name text) (is_literal text) h
 
 pub is_domain-cases : (text : List ℕ) → is_domain text ≡ true → (is_domain_name text ≡ true) ⊎ (is_literal text ≡ true)
 unfolding is_domain

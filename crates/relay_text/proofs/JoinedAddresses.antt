@@ -1,5 +1,5 @@
 -- Addresses in one row of bytes.
-use Rattle.std.proofs.Common.{◌≡◌, ℕ, ◌+◌, ◌≤◌, Bool, true, false, ◌&&◌, ◌||◌, ◌==◌, not, List, [], ◌∷◌, ◌++◌, codes, length, take, drop, flat_map, Some, refl, sym, ap, ◌∙◌, inl, inr, arith}
+use Rattle.std.proofs.Common.{◌≡◌, ℕ, ◌+◌, ◌≤◌, Bool, true, false, ◌&&◌, ◌||◌, ◌==◌, not, List, [], ◌∷◌, ◌++◌, codes, length, take, drop, flat_map, refl, sym, ap, ◌∙◌, inl, inr, arith}
 use Rattle.std.specs.Bool.{IsTrue}
 use Rattle.std.specs.Char.{is_ascii_alphanumeric, is_ascii_graphic}
 use Rattle.std.specs.List.{list_all, list_any, slice_split}
@@ -7,7 +7,7 @@ use Rattle.std.proofs.lemmas.Bool.{cases_Bool, and_parts, or_from, or_right, eqb
 use Rattle.std.proofs.lemmas.List.{append_assoc, length-append, length-take, length-drop, take_at, drop_at}
 use Rattle.std.proofs.lemmas.List.Folds.{list_any-append}
 use Rattle.relay_text.specs.AddressParts.{AddressParts}
-use Rattle.relay_text.specs.Addresses.{is_address, is_domain, is_domain_name, is_dot, is_dot_string, is_literal, inside, local_text_of, path_text_of, quoted_byte}
+use Rattle.relay_text.specs.Addresses.{is_address, is_domain, is_domain_name, is_dot, is_dot_string, is_literal, inside, local_text_of, quoted_byte}
 use Rattle.relay_text.specs.JoinedAddresses.{joined_text_of, parts_at, address_text_of}
 use Rattle.relay_text.proofs.Domains.{is_domain-cases, is_literal-content}
 use Rattle.relay_text.proofs.Paths.{runs_bytes, run_bytes, split_bytes, GoodParts, good_parts}
@@ -99,9 +99,6 @@ address_text_plain a plain = rw plain refl
 pub address_text_quoted : (a : AddressParts) → is_dot_string a.local ≡ false → address_text_of a ≡ (34 ∷ flat_map quoted_byte a.local ++ 34 ∷ []) ++ 64 ∷ a.domain
 unfolding local_text_of
 address_text_quoted a quoted = rw quoted refl
-
-pub path_text-inner : (a : AddressParts) → path_text_of (Some a) ≡ 60 ∷ (address_text_of a ++ 62 ∷ [])
-path_text-inner a = ap (λ (text : List ℕ). 60 ∷ (text ++ 62 ∷ [])) (append_assoc (local_text_of a.local) (64 ∷ []) a.domain)
 
 pub address_text_length : (a : AddressParts) → length (address_text_of a) ≡ length (local_text_of a.local) + length a.domain + 1
 address_text_length a = omega (arith, length-append (local_text_of a.local) (64 ∷ a.domain))

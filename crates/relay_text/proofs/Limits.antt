@@ -68,9 +68,6 @@ pub good_domain : (given : Option (List ℕ)) (origin : List ℕ) → IsTrue (is
 good_domain None origin o h = (origin_parts origin o).0
 good_domain (Some d) origin o h = not-false _ h
 
-pub domain_stays : (given : Option (List ℕ)) (origin domain : List ℕ) → unwrap_or given origin ≡ folded domain → bytes_eq (folded (unwrap_or given origin)) (unwrap_or given origin) ≡ true
-domain_stays given origin domain h = (bytes_eq-Decides _ _).1 (ap folded h ∙ folded-folded domain ∙ sym h)
-
 -- what passed the checks of a local part
 abbrev pub no_fault : Result (Unit {0}) TextFault
 no_fault = Ok tt

@@ -4,8 +4,8 @@ use Rattle.std.specs.Bool.{IsTrue}
 use Rattle.std.specs.Option.{unwrap_or}
 use Rattle.std.specs.List.{list_all, slice_split}
 use Rattle.std.specs.Char.{is_ascii_alphanumeric}
-use Rattle.std.proofs.lemmas.Bool.{cases_Bool, not-true, and_parts, and_from, or_cases, or_left, or_right, eqb-true}
-use Rattle.std.proofs.lemmas.List.{append-nil, append_assoc, take_all, drop_all, drop_at, drop_more, take-append-drop, take-take, drop-take, length-drop, length-take}
+use Rattle.std.proofs.lemmas.Bool.{cases_Bool, cases_lt, not-true, and_parts, and_from, or_cases, or_left, or_right, eqb-true}
+use Rattle.std.proofs.lemmas.List.{append-nil, append_assoc, take_all, drop_all, drop_at, drop_more, take-append-drop, take-take, drop-take, length-drop, length-take, length-append}
 use Rattle.std.proofs.lemmas.List.Folds.{length-prefix_len, list_all-append}
 use Rattle.std.proofs.lemmas.List.Sums.{prefix_len-le-length}
 use Rattle.std.proofs.Math.Seq.{take-add}
@@ -81,6 +81,12 @@ plain_name-ok n written text good all is short =
     name-ok text (plain_passes n text good) (nothing_left n text good all) (ap is_local_too_long (whole_local n text good all) ∙ local_fits text written is short)
     ∙ ap (λ t. Ok t) (whole_local n text good all)
 
+pub plain_name-other : (n : ℕ) (text : List ℕ) → IsTrue (is_plain_text n text) → length text ≤ n → name_of text ≢ Err BadDomain
+plain_name-other n text good all h = elim (cases_lt 64 (length (local_text_of text))) [
+  | inl long ↦ let k = plain_name-long n _ text good all refl long in cc
+  | inr short ↦ let k = plain_name-ok n _ text good all refl short in cc
+]
+
 good_rest : (rest : List ℕ) → is_plain_rest rest ≡ true → is_bad_domain (spelled_domain rest) ≡ false
 good_rest [] good = refl
 good_rest (b ∷ bs) good = ap not (is_domain-folded bs ∙ is_domain-from_name bs ((and_parts (b == 64) (is_joined Domain bs) good).1))
@@ -111,24 +117,6 @@ front_some bytes n is some = by_length (run_in Local bytes) (omega (arith, is, l
   by_length [] h = absurd (omega arith)
   by_length (x ∷ xs) h = refl
 
-pub front-none : (bytes : List ℕ) → 0 ≡ run_len Local bytes → plain_front bytes ≡ None
-front-none bytes is = let none : run_in Local bytes ≡ [] = ap (λ k. take k bytes) (sym is) in rw none refl
-
--- a local part before nothing, or before another byte than `@`
-pub front-name : (bytes : List ℕ) (n : ℕ) → n ≡ run_len Local bytes → 0 < n → ((rest : List ℕ) → drop n bytes ≡ 64 ∷ rest → ⊥) → plain_front bytes ≡ Some (take n bytes)
-front-name bytes n is some other =
-    rw (front_some bytes n is some) (ap (λ k. front_behind (take k bytes) (drop k bytes)) (sym is) ∙ behind (drop n bytes) refl) where
-      behind : (rest : List ℕ) → drop n bytes ≡ rest → front_behind (take n bytes) rest ≡ Some (take n bytes)
-      behind [] h = refl
-      behind (b ∷ bs) h = elim (cases_Bool (b == 64)) [
-        | inl e ↦ absurd (other bs (h ∙ ap (λ (c : ℕ). c ∷ bs) (eqb-true b 64 e)))
-        | inr e ↦ rw e refl
-      ]
-
-pub front-bad_domain : (bytes rest : List ℕ) (n : ℕ) → n ≡ run_len Local bytes → 0 < n → drop n bytes ≡ 64 ∷ rest → is_joined Domain (run_in Domain rest) ≡ false → plain_front bytes ≡ None
-front-bad_domain bytes rest n is some at bad =
-    rw (front_some bytes n is some) (ap (λ k. front_behind (take k bytes) (drop k bytes)) (sym is) ∙ ap (front_behind (take n bytes)) at ∙ rw bad refl)
-
 -- a local part, `@` and a domain name
 pub front-address : (bytes rest : List ℕ) (n m : ℕ) → n ≡ run_len Local bytes → 0 < n → drop n bytes ≡ 64 ∷ rest → m ≡ run_len Domain rest → is_joined Domain (run_in Domain rest) ≡ true
     → plain_front bytes ≡ Some (take (n + 1 + m) bytes)
@@ -139,19 +127,6 @@ front-address bytes rest n m is some at is_m good =
 -- what stands at a place
 at_sign : (bytes : List ℕ) (n : ℕ) → n < length bytes → get_or bytes n 0 ≡ 64 → drop n bytes ≡ 64 ∷ drop (n + 1) bytes
 at_sign bytes n within at = drop_more bytes n 0 within ∙ ap (λ (b : ℕ). b ∷ drop (n + 1) bytes) at
-
-pub front-name_end : (bytes : List ℕ) (n : ℕ) → n ≡ run_len Local bytes → 0 < n → n ≡ length bytes → plain_front bytes ≡ Some (take n bytes)
-front-name_end bytes n is some all = front-name bytes n is some (λ rest h. let none : [] ≡ 64 ∷ rest = sym (drop_all n bytes (omega arith)) ∙ h in cc)
-
-pub front-name_before : (bytes : List ℕ) (n : ℕ) → n ≡ run_len Local bytes → 0 < n → n < length bytes → get_or bytes n 0 ≢ 64 → plain_front bytes ≡ Some (take n bytes)
-front-name_before bytes n is some within other = front-name bytes n is some (λ rest h.
-    let both : get_or bytes n 0 ∷ drop (n + 1) bytes ≡ 64 ∷ rest = sym (drop_more bytes n 0 within) ∙ h in
-    let first : get_or bytes n 0 ≡ 64 = cc in
-    other first)
-
-pub front-none_at : (bytes : List ℕ) (n : ℕ) → n ≡ run_len Local bytes → 0 < n → n < length bytes → get_or bytes n 0 ≡ 64 → is_joined Domain (run_in Domain (drop (n + 1) bytes)) ≡ false
-    → plain_front bytes ≡ None
-front-none_at bytes n is some within at bad = front-bad_domain bytes (drop (n + 1) bytes) n is some (at_sign bytes n within at) bad
 
 pub front-address_at : (bytes : List ℕ) (n m : ℕ) → n ≡ run_len Local bytes → 0 < n → n < length bytes → get_or bytes n 0 ≡ 64 → m ≡ run_len Domain (drop (n + 1) bytes)
     → is_joined Domain (run_in Domain (drop (n + 1) bytes)) ≡ true → plain_front bytes ≡ Some (take (n + 1 + m) bytes)
@@ -251,6 +226,9 @@ front_split bytes text h = elim (cases_Bool (is_empty (run_in Local bytes))) [
   | inl e ↦ let found : Some text ≡ None = h ∙ rw e refl in cc
   | inr e ↦ split_behind bytes (run_in Local bytes) (drop (run_len Local bytes) bytes) text (sym (take-append-drop (run_len Local bytes) bytes)) (h ∙ rw e refl)
 ]
+
+pub front_length : (bytes text : List ℕ) → Some text ≡ plain_front bytes → length text ≤ length bytes
+front_length bytes text h = omega (arith, ap length (front_split bytes text h), length-append text (drop (length text) bytes))
 
 pub front_whole : (bytes text : List ℕ) → Some text ≡ plain_front bytes → length bytes ≤ length text → text ≡ bytes
 front_whole bytes text h all = sym (append-nil text) ∙ ap (λ (t : List ℕ). text ++ t) (sym (drop_all (length text) bytes all)) ∙ front_split bytes text h

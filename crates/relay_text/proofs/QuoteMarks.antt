@@ -1,5 +1,5 @@
 -- Marks: what the marks of a text say of its bytes, and of what is left of it in a loop.
-use Rattle.std.proofs.Common.{◌≡◌, ℕ, suc, ◌+◌, ◌-◌, ◌<◌, ◌≤◌, Bool, true, false, not, cond, ◌&&◌, ◌||◌, ◌==◌, ltb, List, [], ◌∷◌, ◌++◌, length, take, drop, get_or, filter, refl, sym, ap, ◌∙◌, arith}
+use Rattle.std.proofs.Common.{◌≡◌, ℕ, suc, ◌+◌, ◌-◌, ◌<◌, ◌≤◌, Bool, true, false, not, cond, ◌&&◌, ◌||◌, ◌==◌, ltb, List, [], ◌∷◌, length, take, drop, get_or, filter, refl, sym, ap, ◌∙◌, arith}
 use Rattle.std.specs.List.{list_any, position_or_len}
 use Rattle.std.proofs.lemmas.List.{take-map, drop-map, at_drop_more, take_rest, take_all, drop_all}
 use Rattle.std.proofs.lemmas.Bool.Decides.{nat_tests}
@@ -33,9 +33,6 @@ list_any-place p (x ∷ xs) = any_cond (p x) (list_any p xs) (position_or_len p 
 -- the place of the first unescaped quote in what is left of a text
 abbrev pub quote_place : Bool → List ℕ → ℕ
 quote_place escaped text = position_or_len is_quote (marks_from escaped text)
-
-pub quote_place-more : (escaped : Bool) (text : List ℕ) (i d : ℕ) → i < length text → quote_place escaped (drop i text) ≡ cond (not ((get_or text i d == 34) && not escaped)) (1 + quote_place (not escaped && (get_or text i d == 92)) (drop (i + 1) text)) 0
-quote_place-more escaped text i d h = at_drop_more (λ xs. quote_place escaped xs) text i d h
 
 -- what is left of a quoted string's content without its escapes, after a byte that does or doesn't escape the next
 abbrev pub kept_from : Bool → List ℕ → List ℕ
@@ -88,12 +85,3 @@ quoted_cut-open text place h past within =
     let raw : bytes_of (take (position_or_len is_quote (marks text)) (marks text)) ≡ text = bytes_of-take _ text ∙ take_all _ text (omega (arith, h)) in
     let rest : bytes_of (drop (position_or_len is_quote (marks text) + 1) (marks text)) ≡ take (length text - place) (drop place text) = bytes_of-drop _ text ∙ drop_all _ text (omega (arith, h)) ∙ sym (take_rest text place ∙ drop_all place text past) in
     cc
-
--- whether a text leaves the byte that follows it escaped
-abbrev pub escapes_after : Bool → List ℕ → Bool
-escapes_after escaped [] = escaped
-escapes_after escaped (b ∷ bs) = escapes_after (not escaped && (b == 92)) bs
-
-pub marks_from-append : (escaped : Bool) (xs ys : List ℕ) → marks_from escaped (xs ++ ys) ≡ marks_from escaped xs ++ marks_from (escapes_after escaped xs) ys
-marks_from-append escaped [] ys = refl
-marks_from-append escaped (b ∷ bs) ys = ap (λ ms. record { byte = b; escaped = escaped } ∷ ms) (marks_from-append (not escaped && (b == 92)) bs ys)

@@ -1,5 +1,5 @@
 -- Equal texts, word by word.
-use Rattle.std.proofs.Common.{◌≡◌, ℕ, ◌<◌, Bool, true, false, ◌&&◌, List, [], ◌∷◌, ◌++◌, length, take, drop, get_or, refl, sym, ap, ◌∙◌, inl, inr, eqb, w64, arith}
+use Rattle.std.proofs.Common.{◌≡◌, ℕ, ◌<◌, Bool, true, ◌&&◌, List, [], ◌∷◌, ◌++◌, length, take, drop, get_or, refl, sym, ap, ◌∙◌, inl, inr, eqb, w64, arith}
 use Rattle.std.specs.List.{list_all, zip}
 use Rattle.std.specs.Int.{from_le_bytes, to_le_bytes}
 use Rattle.std.specs.Str.{bytes_eq}
@@ -41,8 +41,3 @@ past_same xs ys a b more rest w same =
     let whole_x : xs ≡ a ++ more = sym (take-append-drop 8 xs) ∙ ap (λ (t : List ℕ). t ++ drop 8 xs) (sym w.is_a) ∙ ap (λ (t : List ℕ). a ++ t) (sym w.is_more) in
     let whole_y : ys ≡ a ++ rest = sym (take-append-drop 8 ys) ∙ ap (λ (t : List ℕ). t ++ drop 8 ys) (sym w.is_b) ∙ ap (λ (t : List ℕ). b ++ t) (sym w.is_rest) ∙ ap (λ (t : List ℕ). t ++ rest) (sym words) in
     ap (λ (t : List ℕ). bytes_eq t ys) whole_x ∙ ap (bytes_eq (a ++ more)) whole_y ∙ same_behind a more rest
-
-pub past_other : (xs ys a b : List ℕ) → a ≡ take 8 xs → b ≡ take 8 ys → bytes_eq a b ≡ false → bytes_eq xs ys ≡ false
-past_other xs ys a b is_a is_b other = false_from_ne_true _ (λ e.
-    let same : xs ≡ ys = (bytes_eq-Decides xs ys).0 e in
-    both_ways (bytes_eq a b) other ((bytes_eq-Decides a b).1 (is_a ∙ ap (take 8) same ∙ sym is_b)))

@@ -5,6 +5,7 @@ use Rattle.relay_text.specs.Lines.{physical_lines, is_ignored}
 use Rattle.relay_text.specs.declared.lines.Line.{Line}
 use Rattle.relay_text.specs.declared.kept.KeptLine.{KeptLine}
 use Rattle.relay_text.specs.declared.kept.KeptLines.{KeptLines}
+use Rattle.relay_text.specs.declared.kept.PlainLine.{PlainLine}
 
 -- the lines of a text that aren't ignored, where the first line has this number
 abbrev pub kept_from : ℕ → List ℕ → List Line
@@ -13,6 +14,10 @@ kept_from first text = filter (λ l. not (is_ignored l.text)) (map (λ p. record
 -- the line that a reader lends
 abbrev pub kept_line : KeptLine → Line
 kept_line line = record { number = line.number; text = line.text.now }
+
+-- the line that is a text without quotes
+abbrev pub plain_line : PlainLine → Line
+plain_line line = record { number = line.number; text = line.text }
 
 -- the lines that a reader has left
 abbrev pub kept_rest : KeptLines → List Line

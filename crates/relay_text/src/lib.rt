@@ -35,7 +35,7 @@ pub use domain::{is_domain, is_domain_name, is_literal_content};
 pub use equality::same_bytes;
 pub use fault::TextFault;
 pub use first_places::FirstPlaces;
-pub use kept::{KeptLine, KeptLines};
+pub use kept::{KeptLine, KeptLines, PlainLine};
 pub use lines::{Line, Lines, logical_lines};
 pub use local::local_text_len;
 pub use logical::{LogicalLine, LogicalLines};

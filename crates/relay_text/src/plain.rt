@@ -30,10 +30,11 @@ impl<'a> Model for PlainText<'a> {
     ghost invariant = { λ p. (p.local_len ≤ length p.text.now) × IsTrue (is_plain_text p.local_len p.text.now) × (p.is_joined ≡ is_dot_string (take p.local_len p.text.now)) };
 }
 
-ghost use Rattle.std.specs.Prelude.{◌≡◌, ◌<◌, ℕ, List, length, IsTrue, unwrap_or, IfOk};
+ghost use Rattle.std.specs.Prelude.{◌≡◌, ◌≢◌, ◌<◌, ℕ, List, length, true, false, Some, Err, IsTrue, unwrap_or, IfOk};
 ghost use Rattle.relay_text.specs.Bytes.{folded};
 ghost use Rattle.relay_text.specs.Addresses.{Answers, is_address, is_origin, address_of, name_of, spelled_domain};
 ghost use Rattle.relay_text.specs.PlainTexts.{HasFault, is_open_text, plain_front};
+ghost use Rattle.relay_text.specs.declared.fault.TextFault.TheVariants.{BadDomain};
 
 impl<'a> PlainText<'a> {
     /// The longest such text at the front of some bytes; `None` where no byte of a local part stands there, or where no domain name
@@ -69,6 +70,14 @@ impl<'a> PlainText<'a> {
         ensures open { IsTrue (is_open_text self.now) }
     {
         self.text
+    }
+
+    /// Whether an `@` and a domain name follow the local part, so that it is an address and no name.
+    pub fn has_domain(&self) -> bool
+        ensures yes { result ≡ true → name_of self.now ≡ Err BadDomain }
+        ensures no { result ≡ false → name_of self.now ≢ Err BadDomain }
+    {
+        self.local_len < self.text.len()
     }
 
     /// The first fault of every longer text with this front, as a name and as an address: behind a domain name stands a byte that it

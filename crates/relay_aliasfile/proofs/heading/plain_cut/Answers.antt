@@ -1,9 +1,9 @@
 use Rattle.std.proofs.Common.{rules, ◌≡◌, ◌≤◌, ◌∷◌, ◌++◌, Some, length, drop, sym, ap, arith, ◌∙◌}
 use Rattle.std.proofs.lemmas.List.{take_rest}
 use Rattle.relay_text.specs.PlainTexts.{plain_front}
-use Rattle.relay_text.proofs.PlainTexts.{front_split}
+use Rattle.relay_text.proofs.PlainTexts.{front_split, front_length}
 use Rattle.relay_aliasfile.specs.AliasFiles.{heading_of}
-use Rattle.relay_aliasfile.proofs.OpenTexts.{front_length, heading_of-open}
+use Rattle.relay_aliasfile.proofs.OpenTexts.{heading_of-open}
 use Rattle.relay_aliasfile.proofs.heading.plain_cut.Goals as goal
 
 pub slice_bounds-behind_colon-count : goal.slice_bounds-behind_colon-count

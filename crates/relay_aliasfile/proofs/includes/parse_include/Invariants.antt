@@ -6,11 +6,11 @@ use Rattle.relay_aliasfile.specs.IncludeFiles.{items_in, faults_in}
 use Rattle.relay_aliasfile.proofs.includes.parse_include.Given as goal
 
 -- what was gathered so far, with what the lines left give, is what all lines give
-abbrev pub invariant-loop-line : goal.invariant-loop-line
-invariant-loop-line l = record {
+abbrev pub invariant-loop-faults : goal.invariant-loop-faults
+invariant-loop-faults l = record {
   items : l.items.items ++ flat_map items_in (kept_rest l.lines) ≡ flat_map items_in (kept_lines l.bytes);
   faults : l.faults.items ++ flat_map faults_in (kept_rest l.lines) ≡ flat_map faults_in (kept_lines l.bytes);
 }
 
-abbrev pub decreases-loop-line : goal.decreases-loop-line
-decreases-loop-line l = length (kept_rest l.lines)
+abbrev pub decreases-loop-faults : goal.decreases-loop-faults
+decreases-loop-faults l = length (kept_rest l.lines)

@@ -1,4 +1,4 @@
-use Rattle.std.proofs.Common.{arith, refl}
+use Rattle.std.proofs.Common.{refl}
 use Rattle.relay_chains.proofs.Texts.{text-found}
 use Rattle.relay_chains.proofs.interner.text_at.Goals as goal
 

@@ -4,7 +4,7 @@ use Rattle.relay_planning.proofs.outgoing.outgoing_of.Goals as goal
 pub add_all-requires-clause-known : goal.add_all-requires-clause-known
 add_all-requires-clause-known g c =
     let h = c.in_ok-outgoing.ensures in
-    rw (h.graph, h.empty.0) (known_first c.args.job.now c.args.graph.now c.args.finder.now.routes c.in_ok-outgoing.outgoing.known.items c.args.lines.now h.unseen.0 h.unseen.1)
+    rw (h.graph, h.empty.0) (known_first c.args.job.now c.args.graph.now c.args.destinations.now.routes c.in_ok-outgoing.outgoing.known.items c.args.lines.now h.unseen.0 h.unseen.1)
 
 pub add_all-requires-clause-outgoing : goal.add_all-requires-clause-outgoing
 add_all-requires-clause-outgoing g c =

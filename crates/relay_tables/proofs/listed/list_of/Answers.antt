@@ -1,33 +1,10 @@
-use Rattle.std.proofs.Common.{arith, ◌≡◌, ℕ, List, ◌++◌, ◌+◌, ◌-◌, ◌<◌, Some, length, slice_get, sym, ap, ◌∙◌}
+use Rattle.std.proofs.Common.{arith, ◌≡◌, ℕ, List, ◌+◌, ◌-◌, ◌<◌, Some, length, slice_get, sym, ap, ◌∙◌}
 use Rattle.std.specs.Prelude.{option_map}
 use Rattle.relay_tables.specs.declared.node.Node.{Node}
-use Rattle.relay_tables.specs.declared.node.Node.TheVariants.{Include}
-use Rattle.relay_tables.specs.declared.known_name.KnownName.{KnownName}
 use Rattle.relay_tables.specs.Targets.{targets_of}
 use Rattle.relay_tables.specs.Graphs.{entry_nodes}
-use Rattle.relay_tables.specs.Looking.{node_found, found_from}
 use Rattle.relay_tables.proofs.EntrySteps.{alias_entry, include_entry}
-use Rattle.relay_tables.proofs.Looks.{alias_found_more, include_found_more}
 use Rattle.relay_tables.proofs.listed.list_of.Goals as goal
-
-pub returns-then-number-aliases-clause-found : goal.returns-then-number-aliases-clause-found
-returns-then-number-aliases-clause-found c key =
-    let d = c.args.tables.now in
-    let n = c.args.number in
-    alias_found_more d key n (omega (arith, ap length c.aliases-aliases.ensures.entries)) ∙ ap (λ (found : List KnownName). found ++ found_from d key (n + 1)) (c.alias_list.ensures.found key)
-
-pub returns-else-number-aliases-clause-found : goal.returns-else-number-aliases-clause-found
-returns-else-number-aliases-clause-found c key =
-    let d = c.args.tables.now in
-    let n = c.args.number in
-    let k = n - length c.aliases-aliases.result.now in
-    let sum : length d.aliases + k ≡ n = omega (arith, ap length c.aliases-aliases.ensures.entries) in
-    let more : length d.aliases + (k + 1) ≡ n + 1 = omega arith in
-    let below : k < length d.includes = omega (arith, c.requires) in
-    ap (found_from d key) (sym sum)
-    ∙ include_found_more d key k below
-    ∙ ap (λ (m : ℕ). node_found d key (Include k) ++ found_from d key m) more
-    ∙ ap (λ (found : List KnownName). found ++ found_from d key (n + 1)) (c.include_list.ensures.found key)
 
 pub returns-then-number-aliases-clause-targets : goal.returns-then-number-aliases-clause-targets
 returns-then-number-aliases-clause-targets c =

@@ -2,10 +2,10 @@ use Rattle.std.proofs.Common.{rules, ◌≡◌, ◌≤◌, List, ℕ, Bor, Some,
 use Rattle.std.specs.Prelude.{option_map}
 use Rattle.std.proofs.lemmas.List.{take_rest}
 use Rattle.relay_text.specs.PlainTexts.{plain_front}
-use Rattle.relay_text.proofs.PlainTexts.{front_split}
+use Rattle.relay_text.proofs.PlainTexts.{front_split, front_length}
 use Rattle.relay_aliasfile.specs.Items.{item_texts}
 use Rattle.relay_aliasfile.specs.ItemTexts.{behind_comma}
-use Rattle.relay_aliasfile.proofs.OpenTexts.{front_length, item_texts-trimmed, item_texts-front}
+use Rattle.relay_aliasfile.proofs.OpenTexts.{item_texts-trimmed, item_texts-front}
 use Rattle.relay_aliasfile.proofs.item_texts.ItemTexts.next_plain.Goals as goal
 
 pub slice_bounds-behind_comma-count : goal.slice_bounds-behind_comma-count

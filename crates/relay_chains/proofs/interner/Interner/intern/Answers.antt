@@ -1,4 +1,4 @@
-use Rattle.std.proofs.Common.{rules, ◌≡◌, ◌^◌, ◌-◌, ◌<◌, None, [], ◌∷◌, ◌++◌, length, map, sym, ◌∙◌, arith}
+use Rattle.std.proofs.Common.{rules, ◌≡◌, None, ◌++◌, length, sym, ◌∙◌, arith}
 use Rattle.std.specs.Str.{bytes_eq}
 use Rattle.std.proofs.lemmas.List.{length-map}
 use Rattle.relay_chains.specs.Interner.{texts_from}

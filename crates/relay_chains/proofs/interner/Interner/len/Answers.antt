@@ -1,4 +1,4 @@
-use Rattle.std.proofs.Common.{◌≡◌, ℕ, ◌≤◌, length, arith}
+use Rattle.std.proofs.Common.{arith}
 use Rattle.relay_chains.proofs.Texts.{length-texts}
 use Rattle.relay_chains.proofs.interner.Interner.len.Goals as goal
 

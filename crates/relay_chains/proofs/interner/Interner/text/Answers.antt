@@ -1,4 +1,4 @@
-use Rattle.std.proofs.Common.{◌≡◌, ◌≤◌, length, sym, arith}
+use Rattle.std.proofs.Common.{◌≤◌, length, sym, arith}
 use Rattle.std.proofs.lemmas.Option.{slice_get_past}
 use Rattle.relay_chains.specs.Interner.{texts_from}
 use Rattle.relay_chains.proofs.Texts.{length-texts}

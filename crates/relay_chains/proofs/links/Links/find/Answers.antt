@@ -1,7 +1,6 @@
-use Rattle.std.proofs.Common.{◌≡◌, ℕ, ◌<◌, ◌≤◌, false, true, Some, None, length, get_or, IfSome, sym, ⊎_elim, arith}
+use Rattle.std.proofs.Common.{◌≡◌, ℕ, ◌<◌, ◌≤◌, false, true, Some, None, length, get_or, IfSome, ⊎_elim, arith}
 use Rattle.std.specs.Prelude.{unwrap_or, Option}
 use Rattle.std.proofs.lemmas.Bool.{cases_lt}
-use Rattle.relay_chains.specs.Links.{last_under}
 use Rattle.relay_chains.proofs.Under.{last_under_le, last_under-last_under, after_last_under}
 use Rattle.relay_chains.proofs.links.Links.find.Goals as goal
 

@@ -1,7 +1,6 @@
-use Rattle.std.proofs.Common.{◌≡◌, ℕ, ◌-◌, ◌<◌, ◌≤◌, suc, true, false, length, get_or, sym, ap, ◌∙◌, subst, ⊎_elim, arith}
-use Rattle.std.specs.Prelude.{unwrap_or, Bool}
+use Rattle.std.proofs.Common.{◌≡◌, ℕ, ◌-◌, ◌<◌, ◌≤◌, suc, false, get_or, sym, subst, ⊎_elim, arith}
+use Rattle.std.specs.Prelude.{Bool}
 use Rattle.std.proofs.lemmas.Bool.{cases_order}
-use Rattle.relay_chains.specs.Links.{last_under}
 use Rattle.relay_chains.proofs.Under.{hash_of_last, last_under_le, last_under-last_under, after_last_under}
 use Rattle.relay_chains.proofs.links.Links.find_from.Goals as goal
 use Rattle.relay_chains.proofs.links.Links.find_from.Goals.{then-is_sought, else-is_sought}

@@ -1,4 +1,4 @@
-use Rattle.std.proofs.Common.{◌≡◌, ℕ, ◌<◌, ◌≤◌, true, false, length, get_or, IfSome}
+use Rattle.std.proofs.Common.{◌≡◌, ℕ, ◌<◌, ◌≤◌, true, false, get_or, IfSome}
 use Rattle.std.specs.Prelude.{unwrap_or}
 use Rattle.relay_chains.specs.Links.{last_under}
 use Rattle.relay_chains.proofs.links.Links.find_from.Given as goal

@@ -1,4 +1,4 @@
-use Rattle.std.proofs.Common.{◌≡◌, ℕ, ◌-◌, ◌^◌, ◌<◌, ◌≤◌, List, length, get_or, sym, ap, ◌∙◌, arith}
+use Rattle.std.proofs.Common.{◌≡◌, ℕ, ◌-◌, ◌^◌, ◌<◌, List, length, get_or, sym, ap, ◌∙◌, arith}
 use Rattle.relay_chains.specs.Links.{hashes_of, links_of, AreHashed}
 use Rattle.relay_chains.specs.declared.links.LinkNode.{LinkNode}
 use Rattle.relay_chains.proofs.LinkNodes.{link_at, length-hashes_of}

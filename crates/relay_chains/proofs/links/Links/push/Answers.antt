@@ -1,4 +1,4 @@
-use Rattle.std.proofs.Common.{rules, ◌≡◌, ◌+◌, length, get_or}
+use Rattle.std.proofs.Common.{rules, ◌≡◌, ◌+◌, length}
 use Rattle.std.proofs.lemmas.List.{get_or_read}
 use Rattle.relay_chains.specs.Links.{bucket_under}
 use Rattle.relay_chains.proofs.LinkNodes.{hashed-push}

@@ -1,4 +1,4 @@
-use Rattle.std.proofs.Common.{◌≡◌, ◌<◌, length, subst, arith}
+use Rattle.std.proofs.Common.{◌≡◌, ◌<◌, [], ◌∷◌, ◌++◌, length, subst, arith}
 use Rattle.relay_delivery.specs.declared.routed.Routed.{Routed}
 use Rattle.relay_planning.specs.declared.outgoing.Known.TheVariants.{Unrouted as NoRoute, Recipient}
 use Rattle.relay_planning.specs.Routes.{IsRecipientIfAny}
@@ -11,7 +11,7 @@ returns-clause-known g c =
     let job = c.args.job.now in
     let old = c.args.self.now in
     let g = old.graph.now in
-    let found = c.find_recipient.new.self in
+    let found = c.recipient_of.new.destinations in
     let more = c.in_ok-recipient.ensures.kept.routes in
     let within : c.args.node < length old.known.items = omega (arith, c.requires.known.len, c.requires.node) in
     let is : IsRecipientIfAny job found.routes c.node-at.result.now c.in_ok-recipient.recipient = c.in_ok-recipient.ensures.recipient in
@@ -21,15 +21,15 @@ returns-clause-known g c =
           let number : w.len-number.result ≡ length old.recipients.items = omega (arith, w.len-number.ensures) in
           let routed = subst (λ o. IsRecipientIfAny job found.routes c.node-at.result.now o) w.in-Some.is is in
           rw (w.self-is, w.known-is, w.in_ok-push-in-Some.ensures.items)
-          (known_after job g c.args.finder.now.routes found.routes old.recipients.items _ old.known.items c.args.lines.now c.find_recipient.new.lines c.args.node c.node-at.result.now (Recipient w.len-number.result)
-          c.requires.known more (grows_push old.recipients.items r) (routed_push job g c.args.finder.now.routes found.routes old.recipients.items c.node-at.result.now r more c.requires.known.in_routes routed)
+          (known_after job g c.args.destinations.now.routes found.routes old.recipients.items (old.recipients.items ++ r ∷ []) old.known.items c.args.lines.now c.recipient_of.new.lines c.args.node c.node-at.result.now (Recipient w.len-number.result)
+          c.requires.known more (grows_push old.recipients.items r) (routed_push job g c.args.destinations.now.routes found.routes old.recipients.items c.node-at.result.now r more c.requires.known.in_routes routed)
           c.in_ok-recipient.ensures.lines c.node-at.ensures within
           (recipient_pushed job g found.routes old.recipients.items c.node-at.result.now r w.len-number.result number routed))
       | in-None w ↦
           let none = subst (λ o. IsRecipientIfAny job found.routes c.node-at.result.now o) w.in-None.is is in
           rw (w.self-is, w.known-is)
-          (known_after job g c.args.finder.now.routes found.routes old.recipients.items old.recipients.items old.known.items c.args.lines.now c.find_recipient.new.lines c.args.node c.node-at.result.now NoRoute
-          c.requires.known more (grows_itself old.recipients.items) (routed_inside job g c.args.finder.now.routes found.routes old.recipients.items more c.requires.known.in_routes)
+          (known_after job g c.args.destinations.now.routes found.routes old.recipients.items old.recipients.items old.known.items c.args.lines.now c.recipient_of.new.lines c.args.node c.node-at.result.now NoRoute
+          c.requires.known more (grows_itself old.recipients.items) (routed_inside job g c.args.destinations.now.routes found.routes old.recipients.items more c.requires.known.in_routes)
           c.in_ok-recipient.ensures.lines c.node-at.ensures within none)
     ]
 
