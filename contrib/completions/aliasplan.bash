@@ -1,0 +1,37 @@
+# Completions of aliasplan for bash. `install` puts them where bash-completion finds them; `source` takes them without it.
+# tests/completions compares what is offered with the program's help.
+
+_aliasplan() {
+  local current=${COMP_WORDS[COMP_CWORD]} command= option= word
+  local -i at operands=0
+  for word in "${COMP_WORDS[@]:1:COMP_CWORD-1}"; do
+    if [[ -n $option ]]; then
+      # bash cuts --form=wire into three words
+      [[ $word == = ]] || option=
+    else
+      case $word in
+        --workers | --cut | --form | --tables | --settings | --aliases | --mailboxes | --transport | --mx | --envelope) option=$word ;;
+        -?*) ;;
+        *) if [[ -z $command ]]; then command=$word; else operands+=1; fi ;;
+      esac
+    fi
+  done
+  [[ $current != = ]] || current=
+
+  local words=
+  case $option:$command:$operands:$current in
+    --form:*) words='plan wire json' ;;
+    --workers:* | --cut:*) ;;
+    --*:*) compopt -o default ;;
+    :plan:*:-*) words='--workers --cut --form --returns --each --tables --verbose -v --help -h' ;;
+    :explain:*:-* | :domains:*:-*) words='--workers --cut --verbose -v --help -h' ;;
+    :check:*:-*) words='--all --workers --cut --verbose -v --help -h' ;;
+    :gather:*:-*) words='--settings --aliases --mailboxes --transport --mx --envelope --verbose -v --help -h' ;;
+    ::*:-*) words='--help -h --version -V' ;;
+    ::* | :help:0:*) words='plan explain check domains gather help' ;;
+    :plan:0:* | :check:0:* | :domains:0:* | :explain:1:*) compopt -o default ;;
+  esac
+  mapfile -t COMPREPLY < <(compgen -W "$words" -- "$current")
+}
+
+complete -F _aliasplan aliasplan
