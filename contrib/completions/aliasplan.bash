@@ -10,7 +10,7 @@ _aliasplan() {
       [[ $word == = ]] || option=
     else
       case $word in
-        --workers | --cut | --form | --tables | --settings | --aliases | --mailboxes | --transport | --mx | --envelope) option=$word ;;
+        --workers | --cut | --max-* | --form | --tables | --settings | --aliases | --mailboxes | --transport | --mx | --envelope) option=$word ;;
         -?*) ;;
         *) if [[ -z $command ]]; then command=$word; else operands+=1; fi ;;
       esac
@@ -21,11 +21,11 @@ _aliasplan() {
   local words=
   case $option:$command:$operands:$current in
     --form:*) words='plan wire json' ;;
-    --workers:* | --cut:*) ;;
+    --workers:* | --cut:* | --max-*) ;;
     --*:*) compopt -o default ;;
-    :plan:*:-*) words='--workers --cut --form --returns --each --tables --verbose -v --help -h' ;;
-    :explain:*:-* | :domains:*:-*) words='--workers --cut --verbose -v --help -h' ;;
-    :check:*:-*) words='--all --workers --cut --verbose -v --help -h' ;;
+    :plan:*:-*) words='--workers --cut --max-bytes --max-names --max-owners --max-pairs --form --returns --each --tables --verbose -v --help -h' ;;
+    :explain:*:-* | :domains:*:-*) words='--workers --cut --max-bytes --max-names --max-owners --max-pairs --verbose -v --help -h' ;;
+    :check:*:-*) words='--all --workers --cut --max-bytes --max-names --max-owners --max-pairs --verbose -v --help -h' ;;
     :gather:*:-*) words='--settings --aliases --mailboxes --transport --mx --envelope --verbose -v --help -h' ;;
     ::*:-*) words='--help -h --version -V' ;;
     ::* | :help:0:*) words='plan explain check domains gather help' ;;

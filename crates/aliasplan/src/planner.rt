@@ -160,6 +160,25 @@ impl TablesRead {
             Err(_) => Err(RunFault::Memory),
         }
     }
+
+    /// The same by a crew, within its limits.
+    fn by_crew<G: Gate, R: Threads + Sync>(
+        crew: &Crew<G, R>,
+        job: &Job,
+    ) -> Result<TablesRead, RunFault>
+        requires tables { AreTablesWithin crew.now.limits.bytes job.now }
+        ensures read { IfOk result (λ read. AreRead (without_envelope job.now) read.lookup read.counts) }
+        ensures findings { IfOk result (λ read. AreLines (IsLineOf (without_envelope job.now) texts) read.findings) }
+        ensures within { OnOk result (AreTableCountsWithin crew.now.limits job.now) }
+        ensures refused { IfErr result (HasRefusedTables crew.now.limits job.now) }
+    {
+        parsed_is_readable();
+        let mut lines = FindingLines::new(crew.alloc);
+        match Lookup::read_by(crew, job, &mut lines) {
+            Ok(lookup) => TablesRead::of_lookup(crew.alloc, job, lookup, lines, crew.limits),
+            Err(_) => Err(RunFault::Memory),
+        }
+    }
 }
 
 impl Planner {
@@ -181,6 +200,26 @@ impl Planner {
     {
         parsed_tables();
         match TablesRead::of(alloc, key, &tables, limits) {
+            Ok(read) => Ok(Planner { tables, read }),
+            Err(fault) => {
+                drop(tables);
+                Err(fault)
+            }
+        }
+    }
+
+    /// The same by a crew, which shares the work where files and tables are long; key and limits are the crew's.
+    pub fn by_crew<G: Gate, R: Threads + Sync>(
+        crew: &Crew<G, R>,
+        tables: Job,
+    ) -> Result<Planner, RunFault>
+        requires tables { AreTablesWithin crew.now.limits.bytes tables }
+        ensures tables { IfOk result (λ planner. planner ≡ without_envelope tables) }
+        ensures within { OnOk result (AreTableCountsWithin crew.now.limits tables) }
+        ensures refused { IfErr result (HasRefusedTables crew.now.limits tables) }
+    {
+        parsed_tables();
+        match TablesRead::by_crew(crew, &tables) {
             Ok(read) => Ok(Planner { tables, read }),
             Err(fault) => {
                 drop(tables);

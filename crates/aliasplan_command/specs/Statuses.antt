@@ -31,11 +31,11 @@ code_after CommandLine = 5
 
 -- the command line is at fault where it asks for nothing that there is, and only there; only a plan and a check have findings, and only an explanation is of an address that isn't in the plan
 abbrev pub IsStatusOf : Request → Status → Type 0
-IsStatusOf (Plan options output path detail) status = status ≢ CommandLine
-IsStatusOf (Each options tables path detail) status = status ≢ CommandLine
-IsStatusOf (Domains options path detail) status = (status ≢ Found) × (status ≢ CommandLine)
-IsStatusOf (Check options scope path detail) status = status ≢ CommandLine
-IsStatusOf (Explain options asked path detail) status = status ≢ CommandLine
+IsStatusOf (Plan work output path detail) status = status ≢ CommandLine
+IsStatusOf (Each work tables path detail) status = status ≢ CommandLine
+IsStatusOf (Domains work path detail) status = (status ≢ Found) × (status ≢ CommandLine)
+IsStatusOf (Check work scope path detail) status = status ≢ CommandLine
+IsStatusOf (Explain work asked path detail) status = status ≢ CommandLine
 IsStatusOf (Gather paths detail) status = (status ≢ Found) × (status ≢ CommandLine)
 IsStatusOf Help status = status ≡ Done
 IsStatusOf Unknown status = status ≡ CommandLine

@@ -1,7 +1,6 @@
 //! The answer to what a command line asks for.
 ghost use Rattle.std.specs.Prelude.{◌≡◌, ◌≢◌, true, false, IfOk, IfErr};
-ghost use Rattle.relay_planning.specs.Limits.{AreOptions};
-ghost use Rattle.aliasplan_words.specs.Requests.{IsRequest};
+ghost use Rattle.aliasplan_words.specs.Requests.{IsRequest, IsWork};
 ghost use Rattle.aliasplan_command.specs.Statuses.{code_of, code_after, IsStatusOf};
 
 use crate::check_run::run_check;
@@ -14,11 +13,11 @@ use crate::json_run::run_as_json;
 use crate::standard_input::StandardInput;
 use crate::status::Status;
 use aliasplan::{
-    Crew, Device, Feed, Gate, Limits, NoGate, Options, Paths, RunFault, Sink, SourceFault, gather,
-    run, run_domains, run_returns,
+    Crew, Device, Feed, Gate, Limits, NoGate, Paths, RunFault, Sink, SourceFault, gather, run,
+    run_domains, run_returns,
 };
 use aliasplan_explain::run_explain;
-use aliasplan_words::{Detail, Output, Request};
+use aliasplan_words::{Detail, Output, Request, Work};
 use relay_explain::Asked;
 use relay_text::Text;
 use std::io;
@@ -107,10 +106,10 @@ fn written<G: Gate, R: AllocGlobal + Threads + Sync, F: Feed, S: Sink>(
 fn planned<R: Print + Eprint + AllocGlobal + Threads + Sync, J: Read + Drop>(
     rt: &R,
     job: J,
-    options: Options,
+    work: Work,
     output: Output<'_>,
 ) -> Result<Status, RunFault>
-    requires { AreOptions options }
+    requires { IsWork work }
     ensures asked { IfOk result (λ status. status ≢ Status.CommandLine) }
     ensures domains { output.entry ≡ Output.Domains → IfOk result (λ status. status ≢ Status.Found) }
 {
@@ -119,8 +118,8 @@ fn planned<R: Print + Eprint + AllocGlobal + Threads + Sync, J: Read + Drop>(
     let crew = Crew {
         rt,
         alloc: rt.alloc(),
-        options,
-        limits: Limits::default(),
+        options: work.options,
+        limits: work.limits,
         gate: &NoGate,
     };
     written(&crew, &mut reader, &mut writer, output)
@@ -130,14 +129,14 @@ fn planned<R: Print + Eprint + AllocGlobal + Threads + Sync, J: Read + Drop>(
 fn plan<R: Print + Eprint + AllocGlobal + Threads + Sync, J: Read + Drop>(
     rt: &R,
     job: J,
-    options: Options,
+    work: Work,
     output: Output<'_>,
 ) -> Status
-    requires { AreOptions options }
+    requires { IsWork work }
     ensures asked { result ≢ Status.CommandLine }
     ensures domains { output.entry ≡ Output.Domains → result ≢ Status.Found }
 {
-    match planned(rt, job, options, output) {
+    match planned(rt, job, work, output) {
         Ok(status) => status,
         Err(fault) => refused(rt, fault),
     }
@@ -167,14 +166,14 @@ fn read_whole<R: Eprint + AllocGlobal, J: Read + Drop>(
 fn plan_bytes<R: Print + Eprint + AllocGlobal + Threads + Sync>(
     rt: &R,
     bytes: &[u8],
-    options: Options,
+    work: Work,
     output: Output<'_>,
 ) -> Status
-    requires { AreOptions options }
+    requires { IsWork work }
     ensures asked { result ≢ Status.CommandLine }
     ensures domains { output.entry ≡ Output.Domains → result ≢ Status.Found }
 {
-    match planned(rt, bytes, options, output) {
+    match planned(rt, bytes, work, output) {
         Ok(status) => {
             if status == Status::Found && !matches!(output, Output::Explain(_)) {
                 explain_items(rt, bytes);
@@ -195,15 +194,15 @@ fn plan_verbosely<R: Print + Eprint + AllocGlobal + Threads + Sync, J: Read + Dr
     rt: &R,
     job: J,
     name: &str,
-    options: Options,
+    work: Work,
     output: Output<'_>,
 ) -> Status
-    requires { AreOptions options }
+    requires { IsWork work }
     ensures asked { result ≢ Status.CommandLine }
     ensures domains { output.entry ≡ Output.Domains → result ≢ Status.Found }
 {
     match read_whole(rt, job, name) {
-        Ok(bytes) => plan_bytes(rt, bytes.as_slice(), options, output),
+        Ok(bytes) => plan_bytes(rt, bytes.as_slice(), work, output),
         Err(status) => status,
     }
 }
@@ -211,18 +210,18 @@ fn plan_verbosely<R: Print + Eprint + AllocGlobal + Threads + Sync, J: Read + Dr
 /// Answers to the job on standard input.
 fn plan_input<R: Input + Print + Eprint + AllocGlobal + Threads + Sync>(
     rt: &R,
-    options: Options,
+    work: Work,
     output: Output<'_>,
     detail: Detail,
 ) -> Status
-    requires { AreOptions options }
+    requires { IsWork work }
     ensures asked { result ≢ Status.CommandLine }
     ensures domains { output.entry ≡ Output.Domains → result ≢ Status.Found }
 {
     let input = StandardInput::new(rt.reader());
     match detail {
-        Detail::Line => plan(rt, input, options, output),
-        Detail::Culprit => plan_verbosely(rt, input, "standard input", options, output),
+        Detail::Line => plan(rt, input, work, output),
+        Detail::Culprit => plan_verbosely(rt, input, "standard input", work, output),
     }
 }
 
@@ -230,18 +229,18 @@ fn plan_input<R: Input + Print + Eprint + AllocGlobal + Threads + Sync>(
 fn plan_file<R: Files + Print + Eprint + AllocGlobal + Threads + Sync>(
     rt: &R,
     path: &Text,
-    options: Options,
+    work: Work,
     output: Output<'_>,
     detail: Detail,
 ) -> Status
-    requires { AreOptions options }
+    requires { IsWork work }
     ensures asked { result ≢ Status.CommandLine }
     ensures domains { output.entry ≡ Output.Domains → result ≢ Status.Found }
 {
     match file_source::open(rt, path.as_bytes()) {
         Ok(file) => match detail {
-            Detail::Line => plan(rt, file, options, output),
-            Detail::Culprit => plan_verbosely(rt, file, shown(path.as_bytes()), options, output),
+            Detail::Line => plan(rt, file, work, output),
+            Detail::Culprit => plan_verbosely(rt, file, shown(path.as_bytes()), work, output),
         },
         Err(SourceFault::Memory) => refused(rt, RunFault::Memory),
         Err(_) => {
@@ -258,17 +257,17 @@ fn plan_file<R: Files + Print + Eprint + AllocGlobal + Threads + Sync>(
 fn plan_named<R: Input + Files + Print + Eprint + AllocGlobal + Threads + Sync>(
     rt: &R,
     path: Option<&Text>,
-    options: Options,
+    work: Work,
     output: Output<'_>,
     detail: Detail,
 ) -> Status
-    requires { AreOptions options }
+    requires { IsWork work }
     ensures asked { result ≢ Status.CommandLine }
     ensures domains { output.entry ≡ Output.Domains → result ≢ Status.Found }
 {
     match path {
-        None => plan_input(rt, options, output, detail),
-        Some(path) => plan_file(rt, path, options, output, detail),
+        None => plan_input(rt, work, output, detail),
+        Some(path) => plan_file(rt, path, work, output, detail),
     }
 }
 
@@ -276,15 +275,15 @@ fn plan_named<R: Input + Files + Print + Eprint + AllocGlobal + Threads + Sync>(
 fn answer_each_in<R: Files + Print + Eprint + AllocGlobal + Threads + Sync>(
     rt: &R,
     path: &Text,
-    options: Options,
+    work: Work,
     tables: Option<&Text>,
     detail: Detail,
 ) -> Status
-    requires { AreOptions options }
+    requires { IsWork work }
     ensures { result ≢ Status.CommandLine }
 {
     match file_source::open(rt, path.as_bytes()) {
-        Ok(file) => answer_each(rt, options, tables, file),
+        Ok(file) => answer_each(rt, work, tables, file),
         Err(SourceFault::Memory) => refused(rt, RunFault::Memory),
         Err(_) => {
             let status = refused(rt, RunFault::Read);
@@ -300,16 +299,16 @@ fn answer_each_in<R: Files + Print + Eprint + AllocGlobal + Threads + Sync>(
 fn answer_each_named<R: Input + Files + Print + Eprint + AllocGlobal + Threads + Sync>(
     rt: &R,
     path: Option<&Text>,
-    options: Options,
+    work: Work,
     tables: Option<&Text>,
     detail: Detail,
 ) -> Status
-    requires { AreOptions options }
+    requires { IsWork work }
     ensures { result ≢ Status.CommandLine }
 {
     match path {
-        None => answer_each(rt, options, tables, StandardInput::new(rt.reader())),
-        Some(path) => answer_each_in(rt, path, options, tables, detail),
+        None => answer_each(rt, work, tables, StandardInput::new(rt.reader())),
+        Some(path) => answer_each_in(rt, path, work, tables, detail),
     }
 }
 
@@ -344,20 +343,20 @@ pub fn answer<R: Input + Files + Print + Eprint + AllocGlobal + Threads + Sync>(
     ensures { IsStatusOf request.now result }
 {
     match request {
-        Request::Plan(options, output, path, detail) => {
-            plan_named(rt, path.as_ref(), *options, *output, *detail)
+        Request::Plan(work, output, path, detail) => {
+            plan_named(rt, path.as_ref(), *work, *output, *detail)
         }
-        Request::Each(options, tables, path, detail) => {
-            answer_each_named(rt, path.as_ref(), *options, tables.as_ref(), *detail)
+        Request::Each(work, tables, path, detail) => {
+            answer_each_named(rt, path.as_ref(), *work, tables.as_ref(), *detail)
         }
-        Request::Domains(options, path, detail) => {
-            plan_named(rt, path.as_ref(), *options, Output::Domains, *detail)
+        Request::Domains(work, path, detail) => {
+            plan_named(rt, path.as_ref(), *work, Output::Domains, *detail)
         }
-        Request::Check(options, scope, path, detail) => {
-            plan_named(rt, path.as_ref(), *options, Output::Check(*scope), *detail)
+        Request::Check(work, scope, path, detail) => {
+            plan_named(rt, path.as_ref(), *work, Output::Check(*scope), *detail)
         }
-        Request::Explain(options, asked, path, detail) => {
-            plan_named(rt, path.as_ref(), *options, Output::Explain(asked), *detail)
+        Request::Explain(work, asked, path, detail) => {
+            plan_named(rt, path.as_ref(), *work, Output::Explain(asked), *detail)
         }
         Request::Gather(paths, detail) => gather_job(rt, paths, *detail),
         Request::Help => Status::Done,

@@ -1,18 +1,18 @@
 //! Plans of many envelopes: by a text that has their tables too, or by the tables of a file.
-ghost use Rattle.std.specs.Prelude.{◌≡◌, ◌≢◌, true, false, IfOk};
+ghost use Rattle.std.specs.Prelude.{◌≡◌, ◌≢◌, ◌≤◌, true, false, IfOk};
 ghost use Rattle.relay_job.specs.Tables.{AreTablesWithin};
-ghost use Rattle.relay_planning.specs.Limits.{AreOptions};
+ghost use Rattle.aliasplan_words.specs.Requests.{IsWork};
 ghost use Rattle.aliasplan_command.specs.Each.{is_clean};
 
 use crate::answering::refused;
 use crate::explaining::shown;
 use crate::file_source;
 use crate::status::Status;
-use aliasplan::{
-    Crew, Device, Job, Limits, NoGate, Options, RunFault, SourceFault, parse_tables, read_job,
-};
-use aliasplan_each::{EachSummary, run_beside, run_each};
+use aliasplan::{Crew, Device, Job, NoGate, RunFault, SourceFault, parse_tables, read_job};
+use aliasplan_each::{EachSummary, TablesSource, run_beside, run_each};
+use aliasplan_words::Work;
 use relay_text::Text;
+use std::alloc::Global;
 use std::io;
 use std::io::Read;
 use std::rt::Files;
@@ -37,55 +37,78 @@ fn status_after(summary: &EachSummary) -> Status
     }
 }
 
-/// The settings, files and tables in the file of a path.
-fn tables_in<R: Files + AllocGlobal>(rt: &R, path: &Text) -> Result<Job, RunFault>
-    ensures { IfOk result (AreTablesWithin 67108864) }
-{
-    let file = match file_source::open(rt, path.as_bytes()) {
-        Ok(file) => file,
-        Err(SourceFault::Memory) => return Err(RunFault::Memory),
-        Err(_) => return Err(RunFault::Read),
-    };
-    let most = Limits::default().bytes;
-    let text = read_job(rt.alloc(), &mut Device::new(file), most)?;
-    parse_tables(rt.alloc(), text.as_bytes())
+/// The text of the file of a path, as it is each time.
+#[derive(Drop)]
+struct FileTables<'a, R> {
+    rt: &'a R,
+    path: &'a Text,
 }
 
-/// Answers the envelopes that a reader gives, each when it has ended, by tables that were read before.
-fn answer_beside<R: Print + Eprint + AllocGlobal + Threads + Sync, J: Read + Drop>(
+impl<R: Files> TablesSource for FileTables<'_, R> {
+    ghost use Rattle.aliasplan_each.specs.Given.{unknown};
+
+    // A file may change at any time, so nothing is told of it.
+    ghost coming = { λ source k. unknown };
+
+    fn fetch(&mut self, alloc: Global, max: usize) -> Result<Text, RunFault> {
+        match file_source::open(self.rt, self.path.as_bytes()) {
+            Ok(file) => read_job(alloc, &mut Device::new(file), max),
+            Err(SourceFault::Memory) => Err(RunFault::Memory),
+            Err(_) => Err(RunFault::Read),
+        }
+    }
+}
+
+/// The settings, files and tables that a source gives first, of at most so many bytes.
+fn first_tables<T: TablesSource>(
+    alloc: Global,
+    source: &mut T,
+    most: usize,
+) -> Result<Job, RunFault>
+    requires { most ≤ 67108864 }
+    ensures { IfOk result (AreTablesWithin most) }
+{
+    let text = source.fetch(alloc, most)?;
+    parse_tables(alloc, text.as_bytes())
+}
+
+/// Answers the envelopes that a reader gives, each when it has ended, by tables that were read before, and are read anew where that is
+/// asked for.
+fn answer_beside<R: Print + Eprint + AllocGlobal + Threads + Sync, T: TablesSource, J: Read + Drop>(
     rt: &R,
-    options: Options,
+    work: Work,
     tables: Job,
+    source: &mut T,
     envelopes: J,
 ) -> Result<EachSummary, RunFault>
-    requires options { AreOptions options }
-    requires tables { AreTablesWithin 67108864 tables }
+    requires work { IsWork work }
+    requires tables { AreTablesWithin work.limits.bytes tables }
 {
     let crew = Crew {
         rt,
         alloc: rt.alloc(),
-        options,
-        limits: Limits::default(),
+        options: work.options,
+        limits: work.limits,
         gate: &NoGate,
     };
     let mut reader = Device::new(envelopes);
     let mut writer = Device::new(io::writer(rt));
-    run_beside(&crew, tables, &mut reader, &mut writer)
+    run_beside(&crew, tables, source, &mut reader, &mut writer)
 }
 
 /// Answers the envelopes of a text that has their tables in front.
 fn answer_whole<R: Print + Eprint + AllocGlobal + Threads + Sync, J: Read + Drop>(
     rt: &R,
-    options: Options,
+    work: Work,
     text: J,
 ) -> Result<EachSummary, RunFault>
-    requires { AreOptions options }
+    requires { IsWork work }
 {
     let crew = Crew {
         rt,
         alloc: rt.alloc(),
-        options,
-        limits: Limits::default(),
+        options: work.options,
+        limits: work.limits,
         gate: &NoGate,
     };
     let mut reader = Device::new(text);
@@ -106,19 +129,22 @@ fn refused_tables<R: Eprint>(rt: &R, path: &Text, fault: RunFault) -> Status
 /// it can't.
 pub(crate) fn answer_each<R: Files + Print + Eprint + AllocGlobal + Threads + Sync, J: Read + Drop>(
     rt: &R,
-    options: Options,
+    work: Work,
     tables: Option<&Text>,
     envelopes: J,
 ) -> Status
-    requires { AreOptions options }
+    requires { IsWork work }
     ensures { result ≢ Status.CommandLine }
 {
     let answer = match tables {
-        None => answer_whole(rt, options, envelopes),
-        Some(path) => match tables_in(rt, path) {
-            Ok(tables) => answer_beside(rt, options, tables, envelopes),
-            Err(fault) => return refused_tables(rt, path, fault),
-        },
+        None => answer_whole(rt, work, envelopes),
+        Some(path) => {
+            let mut source = FileTables { rt, path };
+            match first_tables(rt.alloc(), &mut source, work.limits.bytes) {
+                Ok(tables) => answer_beside(rt, work, tables, &mut source, envelopes),
+                Err(fault) => return refused_tables(rt, path, fault),
+            }
+        }
     };
     match answer {
         Ok(summary) => status_after(&summary),

@@ -2,7 +2,7 @@
 use Rattle.std.proofs.Common.{◌≡◌, ℕ, zero, suc, ◌+◌, List, [], ◌∷◌, ◌++◌, length, take, Option, Some, None, Ok, Err, refl, sym, ap, ◌∙◌, arith, append_assoc}
 use Rattle.std.specs.List.{slice_get}
 use Rattle.std.specs.Option.{option_map, IfSome}
-use Rattle.std.specs.Result.{IfErr}
+use Rattle.std.specs.Result.{IfErr, OnOk}
 use Rattle.std.specs.declared.result.Result.{Result}
 use Rattle.std.specs.Io.KnownBytes.{Appends}
 use Rattle.std.proofs.KnownBytes.{Appends-nil, Appends-trans}
@@ -19,11 +19,13 @@ use Rattle.relay_envelopes.specs.Sections.{Section, envelopes_of}
 use Rattle.relay_planning.specs.declared.options.Form.{Form}
 use Rattle.relay_planning.specs.declared.options.Limits.{Limits}
 use Rattle.aliasplan.specs.Transfers.{Fronts}
-use Rattle.aliasplan_each.specs.Blocks.{Block, texts_of, counts_of, with_outcome, no_counts, IsBlock, AreBlocks, Grows}
-use Rattle.aliasplan_each.specs.Feeding.{sections_from, Leads, LeadsKnown, RefusesLines, known_lines}
-use Rattle.aliasplan_each.specs.Beside.{sections_in, RefusesBeside}
-use Rattle.aliasplan_each.specs.BesideSteps.{WritesBlock, FrontsBlocks, WritesBlocks}
-use Rattle.aliasplan_each.proofs.FeedingFacts.{Leads-more, LeadsKnown-start, bad-is}
+use Rattle.aliasplan_each.specs.Blocks.{Block, texts_of, with_outcome, IsBlock, AreBlocks, Grows}
+use Rattle.aliasplan_each.specs.Feeding.{sections_from, Leads, LeadsKnown, RefusesLines, numbered}
+use Rattle.aliasplan_each.specs.Beside.{sections_in}
+use Rattle.aliasplan_each.specs.BesideSteps.{counts_from, WritesBlock, FrontsBlocks, WritesBlocks}
+use Rattle.aliasplan_each.specs.ReplySteps.{RefusesSoFar}
+use Rattle.aliasplan_each.specs.ReplySteps.RefusesSoFar.{reads}
+use Rattle.aliasplan_each.proofs.FeedingFacts.{Leads-more, LeadsKnown-start, refused-before, bad-is}
 
 -- the blocks of sections, and those of more
 module _ (limits : Limits) (form : Form) (tables : Job) (more : List Section) (added : List Block) (last : AreBlocks limits form tables more added) where
@@ -36,13 +38,13 @@ module _ (limits : Limits) (form : Form) (tables : Job) (more : List Section) (a
   each-more [] (y ∷ ys) e each k section block f g = absurd (omega arith)
   each-more (x ∷ xs) [] e each k section block f g = absurd (omega arith)
 
-  AreBlocks-more : (sections : List Section) (blocks : List Block) → AreBlocks limits form tables sections blocks → AreBlocks limits form tables (sections ++ more) (blocks ++ added)
+  pub AreBlocks-more : (sections : List Section) (blocks : List Block) → AreBlocks limits form tables sections blocks → AreBlocks limits form tables (sections ++ more) (blocks ++ added)
   AreBlocks-more sections blocks h = record {
     len = omega (arith, length-append sections more, length-append blocks added, h.len, last.len);
     each = each-more sections blocks h.len h.each;
   }
 
-AreBlocks-one : (limits : Limits) (form : Form) (tables : Job) (s : Section) (b : Block) → IsBlock limits form tables s b → AreBlocks limits form tables (s ∷ []) (b ∷ [])
+pub AreBlocks-one : (limits : Limits) (form : Form) (tables : Job) (s : Section) (b : Block) → IsBlock limits form tables s b → AreBlocks limits form tables (s ∷ []) (b ∷ [])
 AreBlocks-one limits form tables s b is = record { len = refl; each = each } where
   each : (k : ℕ) (section : Section) (block : Block) → slice_get (s ∷ []) k ≡ Some section → slice_get (b ∷ []) k ≡ Some block → IsBlock limits form tables section block
   each zero section block f g = let same : s ≡ section = cc in let alike : b ≡ block = cc in rw (← same, ← alike) is
@@ -54,23 +56,23 @@ AreBlocks-none limits form tables = record { len = refl; each = λ k section blo
 texts-more : (blocks : List Block) (b : Block) → texts_of (blocks ++ b ∷ []) ≡ texts_of blocks ++ b.text
 texts-more blocks b = flat_map-append (λ (b : Block). b.text) blocks (b ∷ []) ∙ ap (λ l. texts_of blocks ++ l) (append-nil b.text)
 
-counts-more : (blocks : List Block) (b : Block) → counts_of (blocks ++ b ∷ []) ≡ with_outcome (counts_of blocks) b.outcome
-counts-more blocks b = fold-append (λ (counts : EnvelopeCounts) (block : Block). with_outcome counts block.outcome) no_counts blocks (b ∷ [])
+counts-more : (before : EnvelopeCounts) (blocks : List Block) (b : Block) → counts_from before (blocks ++ b ∷ []) ≡ with_outcome (counts_from before blocks) b.outcome
+counts-more before blocks b = fold-append (λ (counts : EnvelopeCounts) (block : Block). with_outcome counts block.outcome) before blocks (b ∷ [])
 
 -- The lines of all that is to be read, where that is known.
 abbrev pub all_lines : Option (List ℕ) → Option (List JobLine)
 all_lines remaining = option_map job_lines remaining
 
 -- The blocks of the sections that have come are written.
-pub record HasAnswered (limits : Limits) (form : Form) (tables : Job) (remaining : Option (List ℕ)) (begun : Option Section) (left : Option (List JobLine)) (old now : Option (List ℕ)) (counts : EnvelopeCounts) : Type 0 where
+pub record HasAnswered (limits : Limits) (form : Form) (tables : Job) (remaining : Option (List ℕ)) (begun : Option Section) (left : Option (List JobLine)) (old now : Option (List ℕ)) (before counts : EnvelopeCounts) : Type 0 where
   pub came : List Section
   pub leads : LeadsKnown limits.bytes None (all_lines remaining) came begun left
   pub blocks : List Block
   pub are_blocks : AreBlocks limits form tables came blocks
   pub written : Appends old now (texts_of blocks)
-  pub counted : counts ≡ counts_of blocks
+  pub counted : counts ≡ counts_from before blocks
 
-all-known : (remaining : Option (List ℕ)) → known_lines 0 [] remaining ≡ all_lines remaining
+all-known : (input : Option (List ℕ)) → numbered 0 input ≡ all_lines input
 all-known None = refl
 all-known (Some xs) = refl
 
@@ -78,27 +80,15 @@ none_left : sections_from None [] ≡ []
 unfolding envelopes_of
 none_left = refl
 
-refused-beside : (limits : Limits) (tables : Job) (input : List ℕ) (left : List JobLine) (came : List Section) (begun : Option Section) (fault : RunFault) → Leads limits.bytes None (job_lines input) came begun left → RefusesLines limits.bytes begun left fault → RefusesBeside limits tables input fault
-refused-beside limits tables input left came begun Read h r = tt
-refused-beside limits tables input left came begun TooLong h r = h.long r
-refused-beside limits tables input left came begun (BadJob number) h r = bad-is (job_lines input) ∙ h.bad ∙ r
-refused-beside limits tables input left came begun (BadSetting number) h r = absurd r
-refused-beside limits tables input left came begun (BadEnvelope number) h r = absurd r
-refused-beside limits tables input left came begun TooManyNames h r = absurd r
-refused-beside limits tables input left came begun TooManyOwners h r = absurd r
-refused-beside limits tables input left came begun TooManyPairs h r = absurd r
-refused-beside limits tables input left came begun Write h r = absurd r
-refused-beside limits tables input left came begun Memory h r = tt
-
 module _ (limits : Limits) (form : Form) (tables : Job) (remaining : Option (List ℕ)) where
-  pub HasAnswered-start : (number : ℕ) (pending : List ℕ) (begun : Option Section) (old : Option (List ℕ)) (counts : EnvelopeCounts) → number ≡ 0 → pending ≡ [] → begun ≡ None → counts ≡ no_counts → HasAnswered limits form tables remaining begun (known_lines number pending remaining) old old counts
-  HasAnswered-start number pending begun old counts e f g h = rw (e, f, g) (record {
+  pub HasAnswered-start : (number : ℕ) (begun : Option Section) (old : Option (List ℕ)) (counts : EnvelopeCounts) → number ≡ 0 → begun ≡ None → HasAnswered limits form tables remaining begun (numbered number remaining) old old counts counts
+  HasAnswered-start number begun old counts e g = rw (e, g) (record {
     came = [];
     leads = rw (all-known remaining) (LeadsKnown-start limits.bytes None (all_lines remaining));
     blocks = [];
     are_blocks = AreBlocks-none limits form tables;
     written = Appends-nil old;
-    counted = h;
+    counted = refl;
   })
 
   more-known : (lines : Option (List JobLine)) (came more : List Section) (begun after : Option Section) (left rest : Option (List JobLine)) → LeadsKnown limits.bytes None lines came begun left → LeadsKnown limits.bytes begun left more after rest → LeadsKnown limits.bytes None lines (came ++ more) after rest
@@ -108,20 +98,20 @@ module _ (limits : Limits) (form : Form) (tables : Job) (remaining : Option (Lis
   more-known (Some lines) came more begun after (Some left) (Some rest) h k = Leads-more limits.bytes None begun after lines left rest came more h k
 
   -- the next section has come, and its block is written
-  pub HasAnswered-more : (begun after : Option Section) (left rest : Option (List JobLine)) (old now new : Option (List ℕ)) (before counts : EnvelopeCounts) (s : Section) → HasAnswered limits form tables remaining begun left old now before → LeadsKnown limits.bytes begun left (s ∷ []) after rest → WritesBlock limits form tables s now new before counts → HasAnswered limits form tables remaining after rest old new counts
-  HasAnswered-more begun after left rest old now new before counts s h k w = record {
+  pub HasAnswered-more : (begun after : Option Section) (left rest : Option (List JobLine)) (old now new : Option (List ℕ)) (first before counts : EnvelopeCounts) (s : Section) → HasAnswered limits form tables remaining begun left old now first before → LeadsKnown limits.bytes begun left (s ∷ []) after rest → WritesBlock limits form tables s now new before counts → HasAnswered limits form tables remaining after rest old new first counts
+  HasAnswered-more begun after left rest old now new first before counts s h k w = record {
     came = h.came ++ s ∷ [];
     leads = more-known (all_lines remaining) h.came (s ∷ []) begun after left rest h.leads k;
     blocks = h.blocks ++ w.block ∷ [];
     are_blocks = AreBlocks-more limits form tables (s ∷ []) (w.block ∷ []) (AreBlocks-one limits form tables s w.block w.is) h.came h.blocks h.are_blocks;
     written = rw (texts-more h.blocks w.block) (Appends-trans old now new (texts_of h.blocks) w.block.text h.written w.written);
-    counted = w.counted ∙ ap (λ (c : EnvelopeCounts). with_outcome c w.block.outcome) h.counted ∙ sym (counts-more h.blocks w.block);
+    counted = w.counted ∙ ap (λ (c : EnvelopeCounts). with_outcome c w.block.outcome) h.counted ∙ sym (counts-more first h.blocks w.block);
   }
 
   -- none is to come
-  pub HasAnswered-end : (begun after : Option Section) (left rest : Option (List JobLine)) (old now : Option (List ℕ)) (counts : EnvelopeCounts) → HasAnswered limits form tables remaining begun left old now counts → LeadsKnown limits.bytes begun left [] after rest → after ≡ None → IfSome rest (λ lines. lines ≡ []) → IfSome remaining (λ input. WritesBlocks limits form tables input old now counts)
-  HasAnswered-end begun after left rest old now counts h k none end = at remaining rest (rw (append-nil h.came) at (more-known (all_lines remaining) h.came [] begun after left rest h.leads k)) end where
-    at : (remaining : Option (List ℕ)) (rest : Option (List JobLine)) → LeadsKnown limits.bytes None (all_lines remaining) h.came after rest → IfSome rest (λ lines. lines ≡ []) → IfSome remaining (λ input. WritesBlocks limits form tables input old now counts)
+  pub HasAnswered-end : (begun after : Option Section) (left rest : Option (List JobLine)) (old now : Option (List ℕ)) (before counts : EnvelopeCounts) → HasAnswered limits form tables remaining begun left old now before counts → LeadsKnown limits.bytes begun left [] after rest → after ≡ None → IfSome rest (λ lines. lines ≡ []) → IfSome remaining (λ input. WritesBlocks limits form tables input old now before counts)
+  HasAnswered-end begun after left rest old now before counts h k none end = at remaining rest (rw (append-nil h.came) at (more-known (all_lines remaining) h.came [] begun after left rest h.leads k)) end where
+    at : (remaining : Option (List ℕ)) (rest : Option (List JobLine)) → LeadsKnown limits.bytes None (all_lines remaining) h.came after rest → IfSome rest (λ lines. lines ≡ []) → IfSome remaining (λ input. WritesBlocks limits form tables input old now before counts)
     at None rest l end = tt
     at (Some input) None l end = absurd l
     at (Some input) (Some lines) l end =
@@ -136,16 +126,16 @@ module _ (limits : Limits) (form : Form) (tables : Job) (remaining : Option (Lis
         }
 
   -- the lines that are left are refused
-  pub HasAnswered-refused : (begun : Option Section) (left : Option (List JobLine)) (old now : Option (List ℕ)) (counts : EnvelopeCounts) (fault : RunFault) → HasAnswered limits form tables remaining begun left old now counts → IfSome left (λ lines. RefusesLines limits.bytes begun lines fault) → IfSome remaining (λ input. RefusesBeside limits tables input fault)
-  HasAnswered-refused begun left old now counts fault h r = at remaining left h.leads r where
-    at : (remaining : Option (List ℕ)) (left : Option (List JobLine)) → LeadsKnown limits.bytes None (all_lines remaining) h.came begun left → IfSome left (λ lines. RefusesLines limits.bytes begun lines fault) → IfSome remaining (λ input. RefusesBeside limits tables input fault)
+  pub HasAnswered-refused : (begun : Option Section) (left : Option (List JobLine)) (old now : Option (List ℕ)) (before counts : EnvelopeCounts) (fault : RunFault) → HasAnswered limits form tables remaining begun left old now before counts → IfSome left (λ lines. RefusesLines limits.bytes begun lines fault) → IfSome remaining (λ input. RefusesSoFar limits input fault)
+  HasAnswered-refused begun left old now before counts fault h r = at remaining left h.leads r where
+    at : (remaining : Option (List ℕ)) (left : Option (List JobLine)) → LeadsKnown limits.bytes None (all_lines remaining) h.came begun left → IfSome left (λ lines. RefusesLines limits.bytes begun lines fault) → IfSome remaining (λ input. RefusesSoFar limits input fault)
     at None left l r = tt
     at (Some input) None l r = absurd l
-    at (Some input) (Some lines) l r = refused-beside limits tables input lines h.came begun fault l r
+    at (Some input) (Some lines) l r = reads (refused-before limits.bytes None begun (job_lines input) lines h.came fault l r)
 
   -- what was written so far
-  pub HasAnswered-front : (begun : Option Section) (left : Option (List JobLine)) (old now : Option (List ℕ)) (counts : EnvelopeCounts) → HasAnswered limits form tables remaining begun left old now counts → IfSome remaining (λ input. FrontsBlocks limits form tables (sections_in input) old now)
-  HasAnswered-front begun left old now counts h = at remaining left h.leads where
+  pub HasAnswered-front : (begun : Option Section) (left : Option (List JobLine)) (old now : Option (List ℕ)) (before counts : EnvelopeCounts) → HasAnswered limits form tables remaining begun left old now before counts → IfSome remaining (λ input. FrontsBlocks limits form tables (sections_in input) old now)
+  HasAnswered-front begun left old now before counts h = at remaining left h.leads where
     at : (remaining : Option (List ℕ)) (left : Option (List JobLine)) → LeadsKnown limits.bytes None (all_lines remaining) h.came begun left → IfSome remaining (λ input. FrontsBlocks limits form tables (sections_in input) old now)
     at None left l = tt
     at (Some input) None l = absurd l
@@ -158,8 +148,8 @@ module _ (limits : Limits) (form : Form) (tables : Job) (remaining : Option (Lis
     }
 
   -- a write of the next block has failed
-  pub HasAnswered-stopped : (begun after : Option Section) (left rest : Option (List JobLine)) (old now new : Option (List ℕ)) (counts : EnvelopeCounts) (s : Section) → HasAnswered limits form tables remaining begun left old now counts → LeadsKnown limits.bytes begun left (s ∷ []) after rest → FrontsBlocks limits form tables (s ∷ []) now new → IfSome remaining (λ input. FrontsBlocks limits form tables (sections_in input) old new)
-  HasAnswered-stopped begun after left rest old now new counts s h k w = at remaining left rest h.leads k where
+  pub HasAnswered-stopped : (begun after : Option Section) (left rest : Option (List JobLine)) (old now new : Option (List ℕ)) (before counts : EnvelopeCounts) (s : Section) → HasAnswered limits form tables remaining begun left old now before counts → LeadsKnown limits.bytes begun left (s ∷ []) after rest → FrontsBlocks limits form tables (s ∷ []) now new → IfSome remaining (λ input. FrontsBlocks limits form tables (sections_in input) old new)
+  HasAnswered-stopped begun after left rest old now new before counts s h k w = at remaining left rest h.leads k where
     front : Appends old new (take (length (texts_of h.blocks) + w.count) (texts_of (h.blocks ++ w.blocks)))
     front =
         let joined : take (length (texts_of h.blocks) + w.count) (texts_of (h.blocks ++ w.blocks)) ≡ texts_of h.blocks ++ take w.count (texts_of w.blocks) = ap (take (length (texts_of h.blocks) + w.count)) (flat_map-append (λ (b : Block). b.text) h.blocks w.blocks) ∙ take-append-add (texts_of h.blocks) (texts_of w.blocks) w.count in
@@ -185,6 +175,10 @@ module _ (limits : Limits) (form : Form) (tables : Job) (remaining : Option (Lis
 pub on_err : {T E X : Type 0} (r : Result T E) → X → IfErr r (λ _. X)
 on_err (Ok x) h = tt
 on_err (Err e) h = h
+
+pub on_ok_both : {T E X Y : Type 0} (r : Result T E) → OnOk r X → (X → Y) → OnOk r Y
+on_ok_both (Ok x) h f = f h
+on_ok_both (Err e) h f = tt
 
 pub on_err_both : {T E X Y : Type 0} (r : Result T E) → IfErr r (λ _. X) → (X → Y) → IfErr r (λ _. Y)
 on_err_both (Ok x) h f = tt

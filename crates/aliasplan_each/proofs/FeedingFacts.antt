@@ -6,20 +6,21 @@ use Rattle.std.specs.Io.KnownBytes.{Keeps, IsAtEnd}
 use Rattle.std.proofs.lemmas.Bool.{lt-ltb}
 use Rattle.std.proofs.lemmas.List.{append-nil}
 use Rattle.std.proofs.lemmas.List.Folds.{list_any-append}
+use Rattle.std.proofs.lemmas.List.Sums.{fold-append}
 use Rattle.relay_text.specs.Bytes.{is_white, each_after}
 use Rattle.relay_text.specs.Lines.{raw_lines, Cut, cut_before}
 use Rattle.relay_job.specs.declared.fault.RunFault.{RunFault}
 use Rattle.relay_job.specs.declared.fault.RunFault.TheVariants.{Read, TooLong, BadJob, BadSetting, BadEnvelope, TooManyNames, TooManyOwners, TooManyPairs, Write, Memory}
 use Rattle.relay_job.specs.JobText.{JobLine, text_of, is_heading}
 use Rattle.relay_job.specs.Places.{numbered_from}
-use Rattle.relay_envelopes.specs.Headings.{id_of}
-use Rattle.relay_envelopes.specs.Sections.{Section, id_or_none, section_of, envelopes_of, breaks_envelopes, bad_envelopes}
-use Rattle.relay_envelopes.proofs.SectionFacts.{other-passed}
-use Rattle.aliasplan_each.specs.Feeding.{content_bytes, with_more, sections_from, breaks_from, bad_from, is_long_line, is_long_section, is_long, listed, Leads, RefusesLines, Begins, IsContentTaken, IsTaken, IsUntaken, LeadsKnown, to_come}
+use Rattle.relay_envelopes.specs.Headings.{id_of, is_end}
+use Rattle.relay_envelopes.specs.Sections.{Section, id_or_none, envelopes_of, goes_on, has_begun, breaks_envelopes, bad_envelopes}
+use Rattle.relay_envelopes.proofs.SectionFacts.{named-begins, other-passed, heading-found, end-found}
+use Rattle.aliasplan_each.specs.Feeding.{content_bytes, with_more, sections_from, breaks_from, bad_from, is_long_line, is_long_section, is_long, listed, Leads, RefusesLines, Ends, Begins, IsContentTaken, IsTaken, IsUntaken, numbered, LeadsKnown, to_come}
 use Rattle.aliasplan_each.specs.Pieces.{LosesLine, IsFirstLong}
 use Rattle.aliasplan.specs.Outcomes.{IsReadFault}
 
--- the lines up to the next heading, and the pieces that headings begin
+-- the lines up to the next heading
 abbrev before : List JobLine → List JobLine
 before lines = (cut_before is_heading lines).before
 
@@ -29,21 +30,11 @@ before-line x xs = at (is_heading x) where
   at true = refl
   at false = refl
 
-pieces-line : (x : JobLine) (xs : List JobLine) → (cut_before is_heading (x ∷ xs)).pieces ≡ cond (is_heading x) ((x ∷ before xs) ∷ (cut_before is_heading xs).pieces) (cut_before is_heading xs).pieces
-pieces-line x xs = at (is_heading x) where
-  at : (t : Bool) → (cond {A = Cut JobLine} t (record { before = []; pieces = (x ∷ before xs) ∷ (cut_before is_heading xs).pieces }) (record { before = x ∷ before xs; pieces = (cut_before is_heading xs).pieces })).pieces ≡ cond t ((x ∷ before xs) ∷ (cut_before is_heading xs).pieces) (cut_before is_heading xs).pieces
-  at true = refl
-  at false = refl
-
 content-heading : (x : JobLine) (xs : List JobLine) → is_heading x ≡ true → content_bytes (x ∷ xs) ≡ []
 content-heading x xs e = ap (flat_map (λ (l : JobLine). l.raw)) (before-line x xs ∙ ap (λ (t : Bool). cond t [] (x ∷ before xs)) e)
 
 content-other : (x : JobLine) (xs : List JobLine) → is_heading x ≡ false → content_bytes (x ∷ xs) ≡ x.raw ++ content_bytes xs
 content-other x xs e = ap (flat_map (λ (l : JobLine). l.raw)) (before-line x xs ∙ ap (λ (t : Bool). cond t [] (x ∷ before xs)) e)
-
-envelopes-heading : (x : JobLine) (xs : List JobLine) → is_heading x ≡ true → envelopes_of (x ∷ xs) ≡ record { line = x.number; id = id_or_none (id_of (text_of x)); bytes = content_bytes xs } ∷ envelopes_of xs
-unfolding envelopes_of
-envelopes-heading x xs e = ap (flat_map section_of) (pieces-line x xs ∙ ap (λ (t : Bool). cond t ((x ∷ before xs) ∷ (cut_before is_heading xs).pieces) (cut_before is_heading xs).pieces) e)
 
 -- Sections that lines give go on to be too long, or not.
 either : (a b c d : Bool) → (a || b) ≡ true → ((c || a) || (d || b)) ≡ true
@@ -60,10 +51,10 @@ still_long max x left all given rest e h =
     ∙ ap (λ (t : Bool). (is_long_line max x || list_any (is_long_line max) left) || t) (list_any-append (is_long_section max) given rest)
     ∙ either (list_any (is_long_line max) left) (list_any (is_long_section max) rest) (is_long_line max x) (list_any (is_long_section max) given) h
 
-leads : (max : ℕ) (begun : Option Section) (x : JobLine) (left : List JobLine) (given : List Section) (after : Option Section) → sections_from begun (x ∷ left) ≡ given ++ sections_from after left → breaks_from (is_some begun) x ≡ false → (is_some begun || is_heading x) ≡ is_some after → Leads max begun (x ∷ left) given after left
+leads : (max : ℕ) (begun : Option Section) (x : JobLine) (left : List JobLine) (given : List Section) (after : Option Section) → sections_from begun (x ∷ left) ≡ given ++ sections_from after left → breaks_from (is_some begun) x ≡ false → goes_on (is_some begun) x ≡ is_some after → Leads max begun (x ∷ left) given after left
 leads max begun x left given after e f g = record {
   sections = e;
-  bad = ap (λ (t : Bool). cond t (Some x.number) (bad_from (is_some begun || is_heading x) left)) f ∙ ap (λ (t : Bool). bad_from t left) g;
+  bad = ap (λ (t : Bool). cond t (Some x.number) (bad_from (goes_on (is_some begun) x) left)) f ∙ ap (λ (t : Bool). bad_from t left) g;
   long = still_long max x left _ given (sections_from after left) e;
 }
 
@@ -73,6 +64,9 @@ made number id bytes = record { line = number; id = id; bytes = bytes }
 -- A heading ends the section before it, and begins one.
 pub heading-taken : (max : ℕ) (begun given after : Option Section) (x : JobLine) (next : Section) → is_heading x ≡ true → Begins x next → given ≡ begun → after ≡ Some next → IsTaken max begun x given after
 heading-taken max begun given after x next e b f g = rw (f, g) (record { leads = at begun; fewer = omega arith }) where
+  other : is_end (text_of x) ≡ false
+  other = named-begins (text_of x) next.id b.named
+
   same : (left : List JobLine) → made x.number (id_or_none (id_of (text_of x))) (content_bytes left) ≡ with_more next (content_bytes left)
   same left =
       ap (λ (n : ℕ). made n (id_or_none (id_of (text_of x))) (content_bytes left)) (sym b.line)
@@ -80,16 +74,29 @@ heading-taken max begun given after x next e b f g = rw (f, g) (record { leads =
       ∙ ap (λ (l : List ℕ). made next.line next.id (l ++ content_bytes left)) (sym b.empty)
 
   first : (left : List JobLine) → envelopes_of (x ∷ left) ≡ with_more next (content_bytes left) ∷ envelopes_of left
-  first left = envelopes-heading x left e ∙ ap (λ (s : Section). s ∷ envelopes_of left) (same left)
+  first left = heading-found x left e other ∙ ap (λ (s : Section). s ∷ envelopes_of left) (same left)
 
   named : (t : Bool) → breaks_from t x ≡ false
-  named t = ap (λ (h : Bool). cond h (is_none (id_of (text_of x))) (not t && not (list_all is_white (text_of x)))) e ∙ ap is_none b.named
+  named t = rw (e, other) (ap is_none b.named)
+
+  goes : (t : Bool) → goes_on t x ≡ true
+  goes t = rw (e, other)
 
   at : (begun : Option Section) (left : List JobLine) → Leads max begun (x ∷ left) (listed begun) (Some next) left
-  at None left = leads max None x left [] (Some next) (first left) (named false) e
+  at None left = leads max None x left [] (Some next) (first left) (named false) (goes false)
   at (Some s) left = leads max (Some s) x left (s ∷ []) (Some next)
       (ap (λ l. with_more s l ∷ envelopes_of (x ∷ left)) (content-heading x left e) ∙ ap (λ (l : List ℕ). made s.line s.id l ∷ envelopes_of (x ∷ left)) (append-nil s.bytes) ∙ ap (λ l. s ∷ l) (first left))
-      (named true) refl
+      (named true) (goes true)
+
+-- `%end` ends the section before it, and begins none.
+pub end-taken : (max : ℕ) (begun given after : Option Section) (x : JobLine) → is_heading x ≡ true → is_end (text_of x) ≡ true → Ends begun given after → IsTaken max begun x given after
+end-taken max None given after x e f h = absurd (let some : false ≡ true = h.some in let no : ⊥ = cc in no)
+end-taken max (Some s) given after x e f h = rw (h.whole, h.none) (record {
+  leads = λ left. leads max (Some s) x left (s ∷ []) None
+      (ap (λ l. with_more s l ∷ envelopes_of (x ∷ left)) (content-heading x left e) ∙ ap (λ (l : List ℕ). made s.line s.id l ∷ envelopes_of (x ∷ left)) (append-nil s.bytes) ∙ ap (λ l. s ∷ l) (end-found x left e f))
+      (rw (e, f)) (rw (e, f));
+  fewer = omega arith;
+})
 
 -- Another line goes to the section.
 pub content-taken : (max : ℕ) (begun after : Option Section) (x : JobLine) → is_heading x ≡ false → IsContentTaken begun x after → IsTaken max begun x None after
@@ -100,13 +107,9 @@ content-taken max None after x e h = rw h.0 (record {
 content-taken max (Some s) after x e h = rw h (record {
   leads = λ left. leads max (Some s) x left [] (Some (with_more s x.raw))
       (ap (λ l. with_more s l ∷ envelopes_of (x ∷ left)) (content-other x left e) ∙ ap (λ l. with_more s (x.raw ++ content_bytes left) ∷ l) (other-passed x left e) ∙ ap (λ l. record { line = s.line; id = s.id; bytes = l } ∷ envelopes_of left) (sym (append_assoc s.bytes x.raw (content_bytes left))))
-      (rw e refl) refl;
+      (rw e refl) (rw e refl);
   fewer = omega arith;
 })
-
--- the lines behind so many, of bytes that are known
-abbrev pub numbered : ℕ → Option (List ℕ) → Option (List JobLine)
-numbered number bytes = option_map (λ bytes. numbered_from (number + 1) (raw_lines bytes)) bytes
 
 pub LeadsKnown-start : (max : ℕ) (begun : Option Section) (lines : Option (List JobLine)) → LeadsKnown max begun lines [] begun lines
 LeadsKnown-start max begun None = tt
@@ -149,23 +152,23 @@ LeadsKnown-end max first begun (Some lines) m n (Some xs) None h e f k = absurd 
 LeadsKnown-end max first begun (Some lines) m n (Some xs) (Some ys) h e f k = rw f (Leads-more max first begun None lines [] [] [] (listed begun) (rw e at h) (Leads-end max begun))
 
 -- Why lines that are left are refused, the lines are.
-refused-before : (max : ℕ) (first begun : Option Section) (lines left : List JobLine) (fault : RunFault) → Leads max first lines [] begun left → RefusesLines max begun left fault → RefusesLines max first lines fault
-refused-before max first begun lines left Read h r = tt
-refused-before max first begun lines left TooLong h r = h.long r
-refused-before max first begun lines left (BadJob number) h r = h.bad ∙ r
-refused-before max first begun lines left (BadSetting number) h r = absurd r
-refused-before max first begun lines left (BadEnvelope number) h r = absurd r
-refused-before max first begun lines left TooManyNames h r = absurd r
-refused-before max first begun lines left TooManyOwners h r = absurd r
-refused-before max first begun lines left TooManyPairs h r = absurd r
-refused-before max first begun lines left Write h r = absurd r
-refused-before max first begun lines left Memory h r = tt
+pub refused-before : (max : ℕ) (first begun : Option Section) (lines left : List JobLine) (came : List Section) (fault : RunFault) → Leads max first lines came begun left → RefusesLines max begun left fault → RefusesLines max first lines fault
+refused-before max first begun lines left came Read h r = tt
+refused-before max first begun lines left came TooLong h r = h.long r
+refused-before max first begun lines left came (BadJob number) h r = h.bad ∙ r
+refused-before max first begun lines left came (BadSetting number) h r = absurd r
+refused-before max first begun lines left came (BadEnvelope number) h r = absurd r
+refused-before max first begun lines left came TooManyNames h r = absurd r
+refused-before max first begun lines left came TooManyOwners h r = absurd r
+refused-before max first begun lines left came TooManyPairs h r = absurd r
+refused-before max first begun lines left came Write h r = absurd r
+refused-before max first begun lines left came Memory h r = tt
 
 pub refused-line : (max : ℕ) (first begun : Option Section) (lines : Option (List JobLine)) (number : ℕ) (raw : List ℕ) (old new : Option (List ℕ)) (fault : RunFault) → LeadsKnown max first lines [] begun (numbered number old) → LosesLine old raw new → IsUntaken max begun (record { number = number + 1; raw = raw }) fault → IfSome lines (λ lines. RefusesLines max first lines fault)
 refused-line max first begun None number raw old new fault h k r = tt
 refused-line max first begun (Some lines) number raw None new fault h k r = absurd h
 refused-line max first begun (Some lines) number raw (Some xs) None fault h k r = absurd k
-refused-line max first begun (Some lines) number raw (Some xs) (Some ys) fault h k r = refused-before max first begun lines _ fault (rw k at h) (r (numbered_from (number + 1 + 1) (raw_lines ys)))
+refused-line max first begun (Some lines) number raw (Some xs) (Some ys) fault h k r = refused-before max first begun lines _ [] fault (rw k at h) (r (numbered_from (number + 1 + 1) (raw_lines ys)))
 
 some : (a b c d : Bool) → a ≡ true → (((a || b) || c) || d) ≡ true
 some a b c d e = rw e refl
@@ -178,7 +181,7 @@ pub refused-read : (max : ℕ) (first begun : Option Section) (lines : Option (L
 refused-read max first begun None number bytes fault h only long = tt
 refused-read max first begun (Some lines) number None fault h only long = absurd h
 refused-read max first begun (Some lines) number (Some xs) Read h only long = tt
-refused-read max first begun (Some lines) number (Some xs) TooLong h only long = refused-before max first begun lines _ TooLong h (first_long max number begun xs (long refl))
+refused-read max first begun (Some lines) number (Some xs) TooLong h only long = refused-before max first begun lines _ [] TooLong h (first_long max number begun xs (long refl))
 refused-read max first begun (Some lines) number (Some xs) Memory h only long = tt
 refused-read max first begun (Some lines) number (Some xs) (BadJob n) h only long = absurd only
 refused-read max first begun (Some lines) number (Some xs) (BadSetting n) h only long = absurd only
@@ -200,29 +203,23 @@ pub smaller-line : (number next : ℕ) → next ≡ number + 1 → number + 1 < 
 smaller-line number next e within = omega arith
 
 -- The lines of a text that was read from its start.
-breaks-same : (done : List JobLine) (x : JobLine) → breaks_envelopes false done x ≡ breaks_from (list_any is_heading done) x
-breaks-same done x = at (is_heading x) (id_of (text_of x)) refl refl where
-  at : (t : Bool) (o : Option (List ℕ)) → is_heading x ≡ t → id_of (text_of x) ≡ o → breaks_envelopes false done x ≡ breaks_from (list_any is_heading done) x
-  at true (Some id) e f = rw (e, f)
-  at true None e f = rw (e, f)
-  at false o e f = rw e
+breaks-same : (done : List JobLine) (x : JobLine) → breaks_envelopes false done x ≡ breaks_from (has_begun done) x
+breaks-same done x = at (is_heading x) (is_end (text_of x)) (id_of (text_of x)) refl refl refl where
+  at : (t u : Bool) (o : Option (List ℕ)) → is_heading x ≡ t → is_end (text_of x) ≡ u → id_of (text_of x) ≡ o → breaks_envelopes false done x ≡ breaks_from (has_begun done) x
+  at true true o e f g = rw (e, f)
+  at true false (Some id) e f g = rw (e, f, g)
+  at true false None e f g = rw (e, f, g)
+  at false u o e f g = rw e
 
-or_false : (b : Bool) → (b || false) ≡ b
-or_false true = refl
-or_false false = refl
-
-bad-from : (done lines : List JobLine) → slice_get (each_after (λ earlier x. cond (breaks_envelopes false earlier x) (x.number ∷ []) []) done lines) 0 ≡ bad_from (list_any is_heading done) lines
+bad-from : (done lines : List JobLine) → slice_get (each_after (λ earlier x. cond (breaks_envelopes false earlier x) (x.number ∷ []) []) done lines) 0 ≡ bad_from (has_begun done) lines
 bad-from done [] = refl
-bad-from done (x ∷ xs) = ap (λ (t : Bool). slice_get (cond t (x.number ∷ []) [] ++ later) 0) (breaks-same done x) ∙ at (breaks_from (list_any is_heading done) x) (bad-from (done ++ x ∷ []) xs) where
+bad-from done (x ∷ xs) = ap (λ (t : Bool). slice_get (cond t (x.number ∷ []) [] ++ later) 0) (breaks-same done x) ∙ at (breaks_from (has_begun done) x) (bad-from (done ++ x ∷ []) xs) where
   later : List ℕ
   later = each_after (λ earlier x. cond (breaks_envelopes false earlier x) (x.number ∷ []) []) (done ++ x ∷ []) xs
 
-  headings : list_any is_heading (done ++ x ∷ []) ≡ (list_any is_heading done || is_heading x)
-  headings = list_any-append is_heading done (x ∷ []) ∙ ap (λ (t : Bool). list_any is_heading done || t) (or_false (is_heading x))
-
-  at : (t : Bool) → slice_get later 0 ≡ bad_from (list_any is_heading (done ++ x ∷ [])) xs → slice_get (cond t (x.number ∷ []) [] ++ later) 0 ≡ cond t (Some x.number) (bad_from (list_any is_heading done || is_heading x) xs)
+  at : (t : Bool) → slice_get later 0 ≡ bad_from (has_begun (done ++ x ∷ [])) xs → slice_get (cond t (x.number ∷ []) [] ++ later) 0 ≡ cond t (Some x.number) (bad_from (goes_on (has_begun done) x) xs)
   at true e = refl
-  at false e = e ∙ ap (λ (t : Bool). bad_from t xs) headings
+  at false e = e ∙ ap (λ (t : Bool). bad_from t xs) (fold-append goes_on false done (x ∷ []))
 
 pub bad-is : (lines : List JobLine) → bad_envelopes false lines ≡ bad_from false lines
 bad-is lines = bad-from [] lines

@@ -6,3 +6,6 @@ pub mod PieceFacts
 pub mod FeedingFacts
 pub mod BesideFacts
 pub mod BesideRuns
+pub mod StretchFacts
+pub mod ReplyFacts
+pub mod ChangeFacts

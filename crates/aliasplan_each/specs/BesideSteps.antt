@@ -1,5 +1,6 @@
 -- The steps of a run over envelopes that come beside the tables.
 use Rattle.std.specs.Prelude.{◌≡◌, ℕ, false, List, length, take, Option, None, ⊤}
+use Rattle.std.specs.List.{fold}
 use Rattle.std.specs.Io.KnownBytes.{Appends}
 use Rattle.relay_job.specs.declared.job.Job.{Job}
 use Rattle.relay_job.specs.declared.fault.RunFault.{RunFault}
@@ -12,7 +13,7 @@ use Rattle.relay_planning.specs.declared.options.Form.{Form}
 use Rattle.relay_planning.specs.declared.options.Limits.{Limits}
 use Rattle.aliasplan.specs.Checks.{AreLines}
 use Rattle.relay_planning.specs.Report.{texts, IsLineOf}
-use Rattle.aliasplan_each.specs.Blocks.{Block, texts_of, counts_of, with_outcome, IsBlock, AreBlocks}
+use Rattle.aliasplan_each.specs.Blocks.{Block, texts_of, with_outcome, IsBlock, AreBlocks}
 use Rattle.aliasplan_each.specs.Beside.{sections_in, HaveCome}
 
 -- the faults of steps that write
@@ -27,6 +28,10 @@ IsWriteFault (BadEnvelope number) = ⊥
 IsWriteFault TooManyNames = ⊥
 IsWriteFault TooManyOwners = ⊥
 IsWriteFault TooManyPairs = ⊥
+
+-- counts, and then the blocks
+abbrev pub counts_from : EnvelopeCounts → List Block → EnvelopeCounts
+counts_from before blocks = fold (λ counts block. with_outcome counts block.outcome) before blocks
 
 -- the findings of the tables are written, so many
 pub record WritesFindings (tables : Job) (old new : Option (List ℕ)) (count : ℕ) : Type 0 where
@@ -58,9 +63,9 @@ module _ (limits : Limits) (form : Form) (tables : Job) where
     pub written : Appends old new (take count (texts_of blocks))
 
   -- the blocks of all sections are written and counted
-  pub record WritesBlocks (input : List ℕ) (old new : Option (List ℕ)) (counts : EnvelopeCounts) : Type 0 where
+  pub record WritesBlocks (input : List ℕ) (old new : Option (List ℕ)) (before counts : EnvelopeCounts) : Type 0 where
     pub unbroken : bad_envelopes false (job_lines input) ≡ None
     pub blocks : List Block
     pub are_blocks : AreBlocks limits form tables (sections_in input) blocks
     pub written : Appends old new (texts_of blocks)
-    pub counted : counts ≡ counts_of blocks
+    pub counted : counts ≡ counts_from before blocks

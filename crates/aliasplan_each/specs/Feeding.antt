@@ -8,8 +8,9 @@ use Rattle.relay_job.specs.declared.fault.RunFault.{RunFault}
 use Rattle.relay_job.specs.declared.fault.RunFault.TheVariants.{Read, TooLong, BadJob, BadSetting, BadEnvelope, TooManyNames, TooManyOwners, TooManyPairs, Write, Memory}
 use Rattle.relay_job.specs.JobText.{JobLine, text_of, is_heading}
 use Rattle.relay_job.specs.Places.{numbered_from}
-use Rattle.relay_envelopes.specs.Headings.{id_of}
-use Rattle.relay_envelopes.specs.Sections.{Section, envelopes_of}
+use Rattle.relay_envelopes.specs.Headings.{id_of, is_end}
+use Rattle.relay_envelopes.specs.Sections.{Section, envelopes_of, goes_on}
+use Rattle.aliasplan_each.specs.Stretches.{first_stretch, later_stretches, stretches_of}
 
 -- the bytes of lines up to the next heading
 abbrev pub content_bytes : List JobLine → List ℕ
@@ -23,13 +24,15 @@ abbrev pub sections_from : Option Section → List JobLine → List Section
 sections_from None lines = envelopes_of lines
 sections_from (Some s) lines = with_more s (content_bytes lines) ∷ envelopes_of lines
 
--- a heading without an ID, or before the first heading a line that isn't of white space alone
+-- a heading without an ID, or where no envelope goes on `%end`, or a line that isn't of white space alone
 abbrev pub breaks_from : Bool → JobLine → Bool
-breaks_from begun l = if is_heading l then is_none (id_of (text_of l)) else (not begun && not (list_all is_white (text_of l)))
+breaks_from begun l =
+    if is_heading l then (if is_end (text_of l) then not begun else is_none (id_of (text_of l)))
+    else (not begun && not (list_all is_white (text_of l)))
 
 abbrev pub bad_from : Bool → List JobLine → Option ℕ
 bad_from begun [] = None
-bad_from begun (l ∷ ls) = if breaks_from begun l then Some l.number else bad_from (begun || is_heading l) ls
+bad_from begun (l ∷ ls) = if breaks_from begun l then Some l.number else bad_from (goes_on begun l) ls
 
 -- more bytes than the limit, or a number that no number of 64 bits is
 abbrev pub is_long_line : ℕ → JobLine → Bool
@@ -64,7 +67,13 @@ RefusesLines max begun lines TooManyPairs = ⊥
 RefusesLines max begun lines Write = ⊥
 RefusesLines max begun lines Memory = ⊤
 
--- A heading begins a section, or has no ID.
+-- `%end` ends the section that has begun.
+pub record Ends (begun given after : Option Section) : Type 0 where
+  pub whole : given ≡ begun
+  pub some : is_some begun ≡ true
+  pub none : after ≡ None
+
+-- Another heading begins a section, or has no ID.
 pub record Begins (heading : JobLine) (s : Section) : Type 0 where
   pub named : id_of (text_of heading) ≡ Some s.id
   pub line : s.line ≡ heading.number
@@ -96,9 +105,24 @@ pub record IsTaken (max : ℕ) (begun : Option Section) (l : JobLine) (given aft
 abbrev pub IsUntaken : ℕ → Option Section → JobLine → RunFault → Type 0
 IsUntaken max begun l fault = (left : List JobLine) → RefusesLines max begun (l ∷ left) fault
 
--- The lines behind so many, where the bytes that are to come are known.
-abbrev pub known_lines : ℕ → List ℕ → Option (List ℕ) → Option (List JobLine)
-known_lines number pending remaining = option_map (λ bytes. numbered_from (number + 1) (raw_lines bytes)) (prepend_known pending remaining)
+-- What is to come up to the next `%tables`, where the bytes are known, nothing where that has come; and the stretches behind it.
+abbrev pub known_stretch : ℕ → Bool → List ℕ → Option (List ℕ) → Option (List ℕ)
+known_stretch max asked pending remaining = option_map (λ bytes. if asked then [] else first_stretch max bytes) (prepend_known pending remaining)
+
+abbrev pub known_later : ℕ → Bool → List ℕ → Option (List ℕ) → Option (List (List ℕ))
+known_later max asked pending remaining = option_map (λ bytes. if asked then stretches_of max bytes else later_stretches max bytes) (prepend_known pending remaining)
+
+abbrev pub KeepsLater : Option (List (List ℕ)) → Option (List (List ℕ)) → Type 0
+KeepsLater None new = ⊤
+KeepsLater (Some old) None = ⊥
+KeepsLater (Some old) (Some new) = new ≡ old
+
+-- The lines behind so many, of bytes that are known.
+abbrev pub numbered : ℕ → Option (List ℕ) → Option (List JobLine)
+numbered number bytes = option_map (λ bytes. numbered_from (number + 1) (raw_lines bytes)) bytes
+
+abbrev pub known_lines : ℕ → ℕ → Bool → List ℕ → Option (List ℕ) → Option (List JobLine)
+known_lines max number asked pending remaining = numbered number (known_stretch max asked pending remaining)
 
 abbrev pub LeadsKnown : ℕ → Option Section → Option (List JobLine) → List Section → Option Section → Option (List JobLine) → Type 0
 LeadsKnown max begun None given after left = ⊤

@@ -4,3 +4,9 @@ pub mod Pieces
 pub mod Feeding
 pub mod Beside
 pub mod BesideSteps
+pub mod Stretches
+pub mod Given
+pub mod Changes
+pub mod Replies
+pub mod ChangeSteps
+pub mod ReplySteps

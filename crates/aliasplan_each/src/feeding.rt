@@ -1,13 +1,15 @@
 //! The sections of envelopes that come from a reader one after another.
-ghost use Rattle.std.specs.Prelude.{IfOk, IfErr};
+ghost use Rattle.std.specs.Prelude.{◌≡◌, IfOk, IfErr};
 ghost use Rattle.relay_job.specs.Places.{line_of};
 ghost use Rattle.aliasplan_each.specs.Feeding.{Begins, IsNameless};
+ghost use Rattle.aliasplan_each.specs.Stretches.{asks_tables};
 
 use crate::pending::Pending;
 use crate::read_section::ReadSection;
 use aliasplan::{Feed, RunFault};
-use relay_envelopes::envelope_id;
+use relay_envelopes::{envelope_id, is_end};
 use relay_job::RawLine;
+use relay_text::{line_text, same_bytes, trimmed_end};
 use std::alloc::{AllocError, Global};
 
 /// The section that a heading begins.
@@ -21,12 +23,22 @@ fn section_of(alloc: Global, heading: &RawLine<'_>) -> Result<ReadSection, RunFa
     Ok(ReadSection::begin(alloc, heading.number, id)?)
 }
 
+/// Whether a line of at most `max` bytes is `%tables`, behind which white space may stand.
+fn asks_tables(raw: &[u8], max: usize) -> bool
+    ensures { result ≡ asks_tables max raw.now }
+{
+    raw.len() <= max && same_bytes(trimmed_end(line_text(raw)), b"%tables")
+}
+
 /// The lines that were read: those behind the last heading are its section's.
 #[derive(Drop)]
 pub(crate) struct Feeding {
     pending: Pending,
+    /// How many lines have come since `%tables`, or since the start.
     number: usize,
     begun: Option<ReadSection>,
+    /// Whether `%tables` has come, and wasn't passed yet.
+    asked: bool,
 }
 
 impl Feeding {
@@ -34,18 +46,20 @@ impl Feeding {
     ghost use Rattle.std.specs.List.{position_or_len};
     ghost use Rattle.std.specs.Io.KnownBytes.{IsAtEnd};
     ghost use Rattle.relay_job.specs.Places.{line_of};
-    ghost use Rattle.aliasplan_each.specs.Feeding.{listed, known_lines, to_come, IsContentTaken, IsContentUntaken, IsTaken, IsUntaken, LeadsKnown, RefusesLines};
+    ghost use Rattle.aliasplan_each.specs.Feeding.{listed, known_lines, known_later, to_come, Ends, IsContentTaken, IsContentUntaken, IsTaken, IsUntaken, KeepsLater, LeadsKnown, RefusesLines};
 
     /// Before the first line.
     pub(crate) fn start(alloc: Global) -> Result<Feeding, AllocError>
         ensures pending { IfOk result (λ feeding. feeding.pending ≡ []) }
         ensures number { IfOk result (λ feeding. feeding.number ≡ 0) }
         ensures begun { IfOk result (λ feeding. feeding.begun ≡ None) }
+        ensures asked { IfOk result (λ feeding. feeding.asked ≡ false) }
     {
         Ok(Feeding {
             pending: Pending::none(alloc)?,
             number: 0,
             begun: None,
+            asked: false,
         })
     }
 
@@ -54,6 +68,7 @@ impl Feeding {
         ensures taken { OnOk result (IsContentTaken self.old.begun (line_of line.now) self.new.begun) }
         ensures number { self.new.number ≡ self.old.number }
         ensures pending { self.new.pending ≡ self.old.pending }
+        ensures asked { self.new.asked ≡ self.old.asked }
         ensures refused { IfErr result (IsContentUntaken max self.old.begun (line_of line.now)) }
     {
         match &mut self.begun {
@@ -63,7 +78,18 @@ impl Feeding {
         }
     }
 
-    // Takes the next line. The section that ends before it is answered.
+    // Ends the section that has begun. BadJob where none has.
+    fn end(&mut self, number: usize) -> Result<ReadSection, RunFault>
+        ensures ended { IfOk result (λ given. Ends self.old.begun (Some given) self.new.begun) }
+        ensures number { self.new.number ≡ self.old.number }
+        ensures pending { self.new.pending ≡ self.old.pending }
+        ensures asked { self.new.asked ≡ self.old.asked }
+        ensures refused { IfErr result (λ fault. (self.old.begun ≡ None) × (fault ≡ RunFault.BadJob number)) }
+    {
+        self.begun.take().ok_or(RunFault::BadJob(number))
+    }
+
+    // Takes the next line. The section that ends before it or by it is answered.
     fn take(
         &mut self,
         alloc: Global,
@@ -75,6 +101,7 @@ impl Feeding {
         ensures number { OnOk result (self.new.number ≡ self.old.number + 1) }
         ensures within { OnOk result (self.old.number + 1 < 2 ^ 64) }
         ensures pending { self.new.pending ≡ self.old.pending }
+        ensures asked { self.new.asked ≡ self.old.asked }
         ensures only { (result ≢ Err RunFault.Read) × (result ≢ Err RunFault.Write) }
         ensures refused { IfErr result (IsUntaken max self.old.begun (record { number = self.old.number + 1; raw = raw.now })) }
     {
@@ -83,18 +110,37 @@ impl Feeding {
         };
         self.number = number;
         let line = RawLine { number, raw };
-        if line.is_heading() {
-            let next = section_of(alloc, &line)?;
-            return Ok(self.begun.replace(next));
+        if !line.is_heading() {
+            self.take_content(&line, max)?;
+            return Ok(None);
         }
-        self.take_content(&line, max)?;
-        Ok(None)
+        if is_end(line.text()) {
+            return Ok(Some(self.end(number)?));
+        }
+        let next = section_of(alloc, &line)?;
+        Ok(self.begun.replace(next))
     }
 
-    /// The next section, once the heading behind it has come or the reader has ended; `None` where none is to come.
+    /// Whether the sections ended at `%tables`. Then those behind it are to come, and their lines are counted anew.
+    pub(crate) fn passes_tables(&mut self) -> bool
+        ensures result { result ≡ self.old.asked }
+        ensures pending { self.new.pending ≡ self.old.pending }
+        ensures number { self.new.number ≡ 0 }
+        ensures begun { self.new.begun ≡ self.old.begun }
+        ensures asked { self.new.asked ≡ false }
+    {
+        let asked = self.asked;
+        self.number = 0;
+        self.asked = false;
+        asked
+    }
+
+    /// The next section, once `%end` or the heading behind it has come or the reader has ended; `None` where none is to come before
+    /// `%tables`, or at all.
     ///
-    /// BadJob comes at a heading without an ID, and before the first heading at a line that isn't of white space alone. TooLong comes where
-    /// a line, or the lines of a section, have more than `max` bytes, and where a line's number is past those of 64 bits.
+    /// BadJob comes at a heading without an ID, and where no section goes on, at `%end` and at a line that isn't of white space alone.
+    /// TooLong comes where a line, or the lines of a section, have more than `max` bytes, and where a line's number is past those of 64
+    /// bits.
     pub(crate) fn next<F: Feed>(
         &mut self,
         alloc: Global,
@@ -103,16 +149,27 @@ impl Feeding {
     ) -> Result<Option<ReadSection>, RunFault>
         requires works { F.has_failed reader.old ≡ false }
         requires told { F.has_ended reader.old ≡ true → IsAtEnd (F.remaining reader.old) }
-        ensures given { IfOk result (λ given. LeadsKnown max self.old.begun (known_lines self.old.number self.old.pending (F.remaining reader.old)) (listed given) self.new.begun (known_lines self.new.number self.new.pending (F.remaining reader.new))) }
-        ensures end { result ≡ Ok None → (self.new.begun ≡ None) × IfSome (known_lines self.new.number self.new.pending (F.remaining reader.new)) (λ lines. lines ≡ []) × (F.has_ended reader.new ≡ true) }
+        requires asked { self.old.asked ≡ true → self.old.begun ≡ None }
+        ensures given { IfOk result (λ given. LeadsKnown max self.old.begun (known_lines max self.old.number self.old.asked self.old.pending (F.remaining reader.old)) (listed given) self.new.begun (known_lines max self.new.number self.new.asked self.new.pending (F.remaining reader.new))) }
+        ensures later { OnOk result (KeepsLater (known_later max self.old.asked self.old.pending (F.remaining reader.old)) (known_later max self.new.asked self.new.pending (F.remaining reader.new))) }
+        ensures end { result ≡ Ok None → (self.new.begun ≡ None) × IfSome (known_lines max self.new.number self.new.asked self.new.pending (F.remaining reader.new)) (λ lines. lines ≡ []) }
+        ensures last { result ≡ Ok None → self.new.asked ≡ false → IfSome (known_later max self.new.asked self.new.pending (F.remaining reader.new)) (λ later. later ≡ []) × (F.has_ended reader.new ≡ true) }
+        ensures asked { OnOk result (self.new.asked ≡ true → self.new.begun ≡ None) }
         ensures fewer { IfOk result (λ given. length (listed given) + to_come self.new.number self.new.begun ≤ to_come self.old.number self.old.begun) }
-        ensures refused { IfErr result (λ fault. IfSome (known_lines self.old.number self.old.pending (F.remaining reader.old)) (λ lines. RefusesLines max self.old.begun lines fault)) }
+        ensures refused { IfErr result (λ fault. IfSome (known_lines max self.old.number self.old.asked self.old.pending (F.remaining reader.old)) (λ lines. RefusesLines max self.old.begun lines fault)) }
         ensures told { OnOk result (F.has_ended reader.new ≡ true → IsAtEnd (F.remaining reader.new)) }
         ensures read { (result ≡ Err RunFault.Read → F.has_failed reader.new ≡ true) × (result ≢ Err RunFault.Read → F.has_failed reader.new ≡ false) }
         ensures only { result ≢ Err RunFault.Write }
     {
+        if self.asked {
+            return Ok(None);
+        }
         let mut line = Vec::new(alloc);
         while self.pending.next_line(reader, &mut line, max)? {
+            if asks_tables(&line, max) {
+                self.asked = true;
+                return Ok(self.begun.take());
+            }
             if let Some(section) = self.take(alloc, &line, max)? {
                 return Ok(Some(section));
             }

@@ -1,11 +1,11 @@
 //! The plans of many envelopes by tables that are read once.
 //!
 //! [`run_each`] reads a text of settings, files, tables and envelopes whole, and writes a block for each envelope. [`run_beside`] is given the
-//! tables, and answers each envelope that a reader gives as soon as it has ended.
+//! tables, and answers each envelope that a reader gives as soon as it has ended. The tables may be read anew between two envelopes.
 //!
 //! The way through the modules: `answers` has the block of one envelope, by a planner that holds the tables. `running` goes over the
 //! sections of a text that is there. `feeding` gives the sections of a reader one after another, of lines that `pending` reads, each a
-//! `read_section`; `beside` answers them.
+//! `read_section`; `beside` answers them, and `changing` reads the tables anew, from a `tables_source`.
 //!
 //! Where a function ends, a value of many parts is given back by a call of `drop`: the proof of that call is made once for its type, and
 //! the end of a scope would be followed part by part in each function and for each way out.
@@ -13,12 +13,15 @@
 
 mod answers;
 mod beside;
+mod changing;
 mod feeding;
 mod pending;
 mod read_section;
 mod running;
 pub mod summary;
+pub mod tables_source;
 
 pub use beside::run_beside;
 pub use running::run_each;
 pub use summary::EachSummary;
+pub use tables_source::TablesSource;

@@ -17,6 +17,34 @@ pub(crate) const CUT: Argument = Argument {
     help: "How many pairs of sender and name a thread takes at once, from 1 to 1048576; 1024 where it isn't said",
 };
 
+pub(crate) const MAX_BYTES: Argument = Argument {
+    name: "max-bytes",
+    position: Position::Option,
+    kind: Kind::Number(67_108_864),
+    help: "How many bytes a job has at most, from 1 to 67108864; 67108864 where it isn't said",
+};
+
+pub(crate) const MAX_NAMES: Argument = Argument {
+    name: "max-names",
+    position: Position::Option,
+    kind: Kind::Number(16_777_216),
+    help: "How many names a job has at most, from 1 to 16777216; 16777216 where it isn't said",
+};
+
+pub(crate) const MAX_OWNERS: Argument = Argument {
+    name: "max-owners",
+    position: Position::Option,
+    kind: Kind::Number(65_535),
+    help: "How many aliases with an owner it has at most, from 1 to 65535; 65535 where it isn't said",
+};
+
+pub(crate) const MAX_PAIRS: Argument = Argument {
+    name: "max-pairs",
+    position: Position::Option,
+    kind: Kind::Number(16_777_216),
+    help: "How many pairs of sender and name it reaches at most, from 1 to 16777216; 16777216 where it isn't said",
+};
+
 pub(crate) const FORM: Argument = Argument {
     name: "form",
     position: Position::Option,

@@ -5,7 +5,7 @@ ghost use Rattle.aliasplan_words.specs.Requests.{IsRequest};
 use crate::refusing::clash_of;
 use crate::request::Request;
 use crate::scope::Scope;
-use crate::values::{detail_of, form_of, job_path_of, options_of, output_of, path_of, paths_of};
+use crate::values::{detail_of, form_of, job_path_of, output_of, path_of, paths_of, work_of};
 use clap::ArgMatches;
 use relay_chains::TextKey;
 use relay_explain::Asked;
@@ -19,12 +19,12 @@ fn plan_of(alloc: Global, plan: &ArgMatches<'_>, key: TextKey) -> Result<Request
     ensures { IfOk result (λ request. IsRequest request) }
 {
     let path = job_path_of(alloc, plan)?;
-    let options = options_of(plan, form_of(plan), key);
+    let work = work_of(plan, form_of(plan), key);
     if plan.get_flag("each") {
         let tables = path_of(alloc, plan, "tables")?;
-        return Ok(Request::Each(options, tables, path, detail_of(plan)));
+        return Ok(Request::Each(work, tables, path, detail_of(plan)));
     }
-    Ok(Request::Plan(options, output_of(plan), path, detail_of(plan)))
+    Ok(Request::Plan(work, output_of(plan), path, detail_of(plan)))
 }
 
 /// What the words after `plan` ask for, where they can stand side by side.
@@ -47,8 +47,8 @@ fn domains_of(alloc: Global, words: &ArgMatches<'_>, key: TextKey) -> Result<Req
     ensures { IfOk result (λ request. IsRequest request) }
 {
     let path = job_path_of(alloc, words)?;
-    let options = options_of(words, Form::Plan, key);
-    Ok(Request::Domains(options, path, detail_of(words)))
+    let work = work_of(words, Form::Plan, key);
+    Ok(Request::Domains(work, path, detail_of(words)))
 }
 
 /// What the words after `check` ask for. There is one form.
@@ -56,13 +56,13 @@ fn check_of(alloc: Global, words: &ArgMatches<'_>, key: TextKey) -> Result<Reque
     ensures { IfOk result (λ request. IsRequest request) }
 {
     let path = job_path_of(alloc, words)?;
-    let options = options_of(words, Form::Plan, key);
+    let work = work_of(words, Form::Plan, key);
     let scope = if words.get_flag("all") {
         Scope::Aliases
     } else {
         Scope::Texts
     };
-    Ok(Request::Check(options, scope, path, detail_of(words)))
+    Ok(Request::Check(work, scope, path, detail_of(words)))
 }
 
 /// What the words after `explain` ask for of this name or address. There is one form.
@@ -75,8 +75,8 @@ fn explain_of(
     ensures { IfOk result (λ request. IsRequest request) }
 {
     let path = job_path_of(alloc, words)?;
-    let options = options_of(words, Form::Plan, key);
-    Ok(Request::Explain(options, asked, path, detail_of(words)))
+    let work = work_of(words, Form::Plan, key);
+    Ok(Request::Explain(work, asked, path, detail_of(words)))
 }
 
 /// What the words after `explain` ask for. A text that is no name and no address is a fault of the command line.

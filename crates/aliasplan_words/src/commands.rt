@@ -1,7 +1,7 @@
 //! The commands of the program, each with the arguments that it takes.
 use crate::arguments::{
-    ADDRESS, ALIASES, ALL, CUT, EACH, ENVELOPE, FORM, JOB_FILE, MAILBOXES, MX, RETURNS, SETTINGS,
-    TABLES, TRANSPORT, VERBOSE, WORKERS,
+    ADDRESS, ALIASES, ALL, CUT, EACH, ENVELOPE, FORM, JOB_FILE, MAILBOXES, MAX_BYTES, MAX_NAMES,
+    MAX_OWNERS, MAX_PAIRS, MX, RETURNS, SETTINGS, TABLES, TRANSPORT, VERBOSE, WORKERS,
 };
 use crate::help::{AFTER_CHECK, AFTER_DOMAINS, AFTER_EXPLAIN, AFTER_GATHER, AFTER_PLAN};
 use crate::subcommand::Subcommand;
@@ -17,25 +17,34 @@ const SUBCOMMANDS: [Subcommand; 5] = [
         name: "plan",
         about: "Reads a job and writes its plan on standard output",
         after_help: AFTER_PLAN,
-        arguments: &[WORKERS, CUT, FORM, RETURNS, EACH, TABLES, VERBOSE, JOB_FILE],
+        arguments: &[
+            WORKERS, CUT, MAX_BYTES, MAX_NAMES, MAX_OWNERS, MAX_PAIRS, FORM, RETURNS, EACH, TABLES,
+            VERBOSE, JOB_FILE,
+        ],
     },
     Subcommand {
         name: "explain",
         about: "Reads a job and writes why an address is in its plan, or isn't",
         after_help: AFTER_EXPLAIN,
-        arguments: &[WORKERS, CUT, VERBOSE, ADDRESS, JOB_FILE],
+        arguments: &[
+            WORKERS, CUT, MAX_BYTES, MAX_NAMES, MAX_OWNERS, MAX_PAIRS, VERBOSE, ADDRESS, JOB_FILE,
+        ],
     },
     Subcommand {
         name: "check",
         about: "Reads a job and writes what is wrong with its files and tables",
         after_help: AFTER_CHECK,
-        arguments: &[ALL, WORKERS, CUT, VERBOSE, JOB_FILE],
+        arguments: &[
+            ALL, WORKERS, CUT, MAX_BYTES, MAX_NAMES, MAX_OWNERS, MAX_PAIRS, VERBOSE, JOB_FILE,
+        ],
     },
     Subcommand {
         name: "domains",
         about: "Reads a job and writes the names whose mail exchangers it asks for",
         after_help: AFTER_DOMAINS,
-        arguments: &[WORKERS, CUT, VERBOSE, JOB_FILE],
+        arguments: &[
+            WORKERS, CUT, MAX_BYTES, MAX_NAMES, MAX_OWNERS, MAX_PAIRS, VERBOSE, JOB_FILE,
+        ],
     },
     Subcommand {
         name: "gather",

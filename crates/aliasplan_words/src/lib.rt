@@ -23,9 +23,11 @@ mod request;
 mod scope;
 mod subcommand;
 mod values;
+mod work;
 
 pub use detail::Detail;
 pub use output::Output;
 pub use reading::read_words;
 pub use request::Request;
 pub use scope::Scope;
+pub use work::Work;

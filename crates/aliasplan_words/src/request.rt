@@ -2,26 +2,26 @@
 use crate::detail::Detail;
 use crate::output::Output;
 use crate::scope::Scope;
+use crate::work::Work;
 use relay_explain::Asked;
 use relay_gather::Paths;
 use relay_job::RunFault;
-use relay_planning::Options;
 use relay_text::Text;
 
 /// What the command line asks for.
 #[derive(Drop)]
 pub enum Request {
     /// A plan of the job in the file of this path, or on standard input where there is none.
-    Plan(Options, Output<'static>, Option<Text>, Detail),
+    Plan(Work, Output<'static>, Option<Text>, Detail),
     /// The plans of envelopes, by the tables in the file of the first path, or where there is none, by those in front of the envelopes. These
     /// are read likewise.
-    Each(Options, Option<Text>, Option<Text>, Detail),
+    Each(Work, Option<Text>, Option<Text>, Detail),
     /// The domains that the job asks for, which is read likewise.
-    Domains(Options, Option<Text>, Detail),
+    Domains(Work, Option<Text>, Detail),
     /// What is wrong with the job's files and tables, which is read likewise.
-    Check(Options, Scope, Option<Text>, Detail),
+    Check(Work, Scope, Option<Text>, Detail),
     /// Why a name or an address is in the job's plan, or isn't. The job is read likewise.
-    Explain(Options, Asked, Option<Text>, Detail),
+    Explain(Work, Asked, Option<Text>, Detail),
     /// A job of the files of these paths.
     Gather(Paths, Detail),
     /// The help or the version, which is printed.

@@ -1,12 +1,15 @@
 //! What single words after a command say.
-ghost use Rattle.relay_planning.specs.Limits.{AreOptions};
+ghost use Rattle.std.specs.Prelude.{◌≤◌};
+ghost use Rattle.relay_planning.specs.Limits.{AreOptions, AreLimits};
+ghost use Rattle.aliasplan_words.specs.Requests.{IsWork};
 
 use crate::detail::Detail;
 use crate::output::Output;
+use crate::work::Work;
 use clap::ArgMatches;
 use relay_chains::TextKey;
 use relay_gather::Paths;
-use relay_planning::{Form, Options};
+use relay_planning::{Form, Limits, Options};
 use relay_text::{Seq, Text};
 use std::alloc::{AllocError, Global};
 
@@ -20,7 +23,7 @@ pub(crate) fn detail_of(words: &ArgMatches<'_>) -> Detail {
 
 /// The options that the words after `plan`, `explain`, `check` or `domains` say, or four threads that take 1,024 pairs at once. What is out of
 /// range is refused before.
-pub(crate) fn options_of(words: &ArgMatches<'_>, form: Form, key: TextKey) -> Options
+fn options_of(words: &ArgMatches<'_>, form: Form, key: TextKey) -> Options
     ensures { AreOptions result }
 {
     let workers = words.get_one::<usize>("workers").unwrap_or(4);
@@ -30,6 +33,36 @@ pub(crate) fn options_of(words: &ArgMatches<'_>, form: Form, key: TextKey) -> Op
         workers: workers.clamp(1, 64),
         cut: cut.clamp(1, 1_048_576),
         key,
+    }
+}
+
+/// The number that an option says, up to the most.
+fn limit_of(words: &ArgMatches<'_>, name: &str, most: usize) -> usize
+    ensures { result ≤ most }
+{
+    words.get_one::<usize>(name).unwrap_or(most).min(most)
+}
+
+/// How much these words let a run take; as much as it may ever take where they say nothing.
+fn limits_of(words: &ArgMatches<'_>) -> Limits
+    ensures { AreLimits result }
+{
+    let most = Limits::default();
+    Limits {
+        bytes: limit_of(words, "max-bytes", most.bytes),
+        names: limit_of(words, "max-names", most.names),
+        owners: limit_of(words, "max-owners", most.owners),
+        pairs: limit_of(words, "max-pairs", most.pairs),
+    }
+}
+
+/// The options and limits that these words say.
+pub(crate) fn work_of(words: &ArgMatches<'_>, form: Form, key: TextKey) -> Work
+    ensures { IsWork result }
+{
+    Work {
+        options: options_of(words, form, key),
+        limits: limits_of(words),
     }
 }
 

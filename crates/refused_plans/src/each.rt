@@ -6,11 +6,12 @@ use crate::jobs::FIRST_PLAN;
 use crate::planning::is_planned;
 use crate::running::{LIMITS, crew};
 use aliasplan::{Planner, RunFault, parse_tables};
-use aliasplan_each::{EachSummary, run_beside, run_each};
+use aliasplan_each::{EachSummary, TablesSource, run_beside, run_each};
 use growth_answers::inputs::is_address;
 use growth_answers::{Answer, Seen, Teller, Unready, call, case, judged, lent, twice};
 use relay_envelopes::{envelopes_place, find_envelopes};
 use relay_job::{Envelope, parse_envelope};
+use relay_text::Text;
 use std::alloc::Global;
 use std::thread::Threads;
 
@@ -147,13 +148,64 @@ fn writes_plans<R: Threads + Sync>(rt: &R, alloc: Global) -> Result<Seen, Unread
     })
 }
 
+/// A source of the first tables, again and again.
+#[derive(Drop)]
+struct FirstTables;
+
+impl TablesSource for FirstTables {
+    ghost use Rattle.aliasplan_each.specs.Given.{unknown};
+
+    ghost coming = { λ source k. unknown };
+
+    fn fetch(&mut self, alloc: Global, max: usize) -> Result<Text, RunFault> {
+        if FIRST_TABLES.len() > max {
+            return Err(RunFault::TooLong);
+        }
+        Ok(Text::copy_of(alloc, FIRST_TABLES)?)
+    }
+}
+
 /// Where a run beside tables is refused, a front of the answer is written.
 fn writes_plans_beside<R: Threads + Sync>(rt: &R, alloc: Global) -> Result<Answer, Unready> {
     let mut paper = Paper::new(alloc)?;
     let tables = parse_tables(alloc, FIRST_TABLES)?;
     let mut page = Page::new(ENVELOPES);
-    let answer = run_beside(&crew(rt, alloc), tables, &mut page, &mut paper);
+    let answer = run_beside(
+        &crew(rt, alloc),
+        tables,
+        &mut FirstTables,
+        &mut page,
+        &mut paper,
+    );
     Ok(is_answer(answer, &paper))
+}
+
+/// What a run answers that is to read its tables anew first. Where memory runs out for that, it goes on with the old ones.
+fn is_changed(answer: Result<EachSummary, RunFault>, paper: &Paper) -> Answer {
+    match answer {
+        Ok(summary) => match paper.text.strip_prefix(b"tables 0 findings\ntables ") {
+            Some([b'o', b'k', b' ', ..]) => Answer::given(summary.counts.planned == 1),
+            _ => Answer::refused(summary.counts.planned == 1),
+        },
+        Err(RunFault::Memory) => Answer::Refused,
+        Err(_) => Answer::Wrong,
+    }
+}
+
+fn changes_tables<R: Threads + Sync>(rt: &R, alloc: Global) -> Result<Answer, Unready> {
+    let mut paper = Paper::new(alloc)?;
+    let tables = parse_tables(alloc, FIRST_TABLES)?;
+    let mut text = Vec::from_slice(alloc, b"%tables\n")?;
+    text.extend_from_slice(ENVELOPES)?;
+    let mut page = Page::new(&text);
+    let answer = run_beside(
+        &crew(rt, alloc),
+        tables,
+        &mut FirstTables,
+        &mut page,
+        &mut paper,
+    );
+    Ok(is_changed(answer, &paper))
 }
 
 pub(crate) fn tell<R: Print + AllocGlobal + Threads + Sync>(teller: &mut Teller<'_, R>) {
@@ -165,4 +217,5 @@ pub(crate) fn tell<R: Print + AllocGlobal + Threads + Sync>(teller: &mut Teller<
     case!(teller, "Planner::plan", plans_an_envelope(rt, alloc));
     case!(teller, "run_each", writes_plans(rt, alloc));
     call!(teller, "run_beside", writes_plans_beside(rt, alloc));
+    call!(teller, "run_beside and %tables", changes_tables(rt, alloc));
 }

@@ -16,9 +16,9 @@ use Rattle.relay_job.specs.Places.{numbered_from}
 use Rattle.relay_job.specs.Envelopes.{EndsWithLine, HasNoEnvelope, HasNoHeading}
 use Rattle.relay_job.proofs.SectionFacts.{content_before, part_if, or_later, part_in, part_at-is}
 use Rattle.relay_job.proofs.JoinedLines.{raw_lines-append, neither-any}
-use Rattle.relay_envelopes.specs.Headings.{is_envelope_word, id_of}
+use Rattle.relay_envelopes.specs.Headings.{is_envelope_word, id_of, is_end}
 use Rattle.relay_envelopes.specs.Sections.{Section, id_or_none, envelopes_of, begins_envelopes, front_lines, front_of, lines_behind}
-use Rattle.relay_envelopes.proofs.SectionFacts.{raw_bytes, raw_bytes-lines, before_cut, before-line, before-none, before-headings, section_at, other-passed, heading-found}
+use Rattle.relay_envelopes.proofs.SectionFacts.{raw_bytes, raw_bytes-lines, before_cut, before-line, before-none, before-headings, section_at, other-passed, heading-found, end-found}
 
 -- the bytes of each line
 abbrev raws : List JobLine → List (List ℕ)
@@ -46,7 +46,7 @@ whole-longer b (c ∷ cs) e h = (h.0, at (eqb b 10) e) where
   at true f = absurd (let no : ⊥ = cc in no)
   at false f = ap (onto_first b) h.1
 
-first-whole : (text line next : List ℕ) (more : List (List ℕ)) → raw_lines text ≡ line ∷ next ∷ more → IsWhole line
+pub first-whole : (text line next : List ℕ) (more : List (List ℕ)) → raw_lines text ≡ line ∷ next ∷ more → IsWhole line
 first-whole [] line next more h = absurd (let no : ⊥ = cc in no)
 first-whole (b ∷ bs) line next more h = at (eqb b 10) (raw_lines bs) refl h (first-whole bs) where
   at : (t : Bool) (lines : List (List ℕ)) → eqb b 10 ≡ t → cond t ((b ∷ []) ∷ lines) (onto_first b lines) ≡ line ∷ next ∷ more
@@ -129,16 +129,17 @@ only-one s t h = elim (Contains-push_cases [] s t h) [
 envelopes-plain : (lines : List JobLine) (s : Section) → AreLines lines → Contains (envelopes_of lines) s → HasNoHeading s.bytes
 unfolding envelopes_of
 envelopes-plain [] s are h = absurd (let no : ⊥ = omega (arith, h.1) in no)
-envelopes-plain (x ∷ xs) s are h = at (is_heading x) refl (envelopes-plain xs s (tail-lines x xs are)) where
+envelopes-plain (x ∷ xs) s are h = at (is_heading x) (is_end (text_of x)) refl refl (envelopes-plain xs s (tail-lines x xs are)) where
   here : Section
   here = section_at x (id_or_none (id_of (text_of x))) xs
 
-  at : (t : Bool) → is_heading x ≡ t → (Contains (envelopes_of xs) s → HasNoHeading s.bytes) → HasNoHeading s.bytes
-  at true e later = elim (Contains-append_cases (here ∷ []) (envelopes_of xs) s (rw (heading-found x xs e) at h)) [
+  at : (t u : Bool) → is_heading x ≡ t → is_end (text_of x) ≡ u → (Contains (envelopes_of xs) s → HasNoHeading s.bytes) → HasNoHeading s.bytes
+  at true true e f later = later (rw (end-found x xs e f) at h)
+  at true false e f later = elim (Contains-append_cases (here ∷ []) (envelopes_of xs) s (rw (heading-found x xs e f) at h)) [
     | inl first ↦ (let is : here ≡ s = only-one here s first in subst (λ (q : Section). HasNoHeading q.bytes) is (section-plain x xs (id_or_none (id_of (text_of x))) (tail-lines x xs are)))
     | inr more ↦ later more
   ]
-  at false e later = later (rw (other-passed x xs e) at h)
+  at false u e f later = later (rw (other-passed x xs e) at h)
 
 pub sections-plain : (text : List ℕ) (s : Section) → Contains (envelopes_of (lines_behind text)) s → HasNoHeading s.bytes
 sections-plain text s h = envelopes-plain (lines_behind text) s (suffix-lines (front_lines text) (lines_behind text) (text-parted text)) h

@@ -1,19 +1,26 @@
 -- How a pass over lines finds the sections of envelopes, and the first line that breaks them.
-use Rattle.std.proofs.Common.{◌≡◌, ℕ, ◌+◌, ◌-◌, eqb, Bool, true, false, not, cond, ◌&&◌, ◌||◌, List, [], ◌∷◌, ◌++◌, length, take, drop, Option, Some, None, refl, sym, ap, ◌∙◌, arith}
-use Rattle.std.specs.List.{list_any, list_all, flat_map, slice_get, onto_first}
+use Rattle.std.proofs.Common.{◌≡◌, ℕ, ◌+◌, ◌-◌, eqb, Bool, true, false, cond, ◌&&◌, ◌||◌, List, [], ◌∷◌, ◌++◌, length, take, drop, codes, Option, Some, None, refl, sym, ap, ◌∙◌, arith}
+use Rattle.std.specs.List.{list_any, list_all, flat_map, slice_get, onto_first, suffix_len}
+use Rattle.std.specs.Option.{option_map}
 use Rattle.std.specs.Str.{bytes_eq}
 use Rattle.std.proofs.Math.Seq.{take-append_seam, drop-append_seam}
-use Rattle.std.proofs.lemmas.List.{append_assoc, append-nil, length-append}
+use Rattle.std.proofs.lemmas.Bool.{true≢false}
+use Rattle.std.proofs.lemmas.Slice.Eq.{bytes_eq-Decides}
+use Rattle.std.proofs.lemmas.List.{append_assoc, append-nil, length-append, length-take, take-take}
+use Rattle.std.proofs.lemmas.List.Sums.{fold-append}
 use Rattle.std.proofs.lemmas.List.Concat.{flat_map-append}
 use Rattle.std.proofs.lemmas.List.Folds.{list_any-append}
-use Rattle.relay_text.specs.Bytes.{is_white, each_after, has_text}
+use Rattle.relay_text.specs.Bytes.{is_white, begins_with, trimmed_end, each_after, has_text}
 use Rattle.relay_text.specs.Lines.{raw_lines, Cut, cut_before}
+use Rattle.relay_job.specs.declared.fault.RunFault.{RunFault}
+use Rattle.relay_job.specs.declared.fault.RunFault.TheVariants.{BadJob}
 use Rattle.relay_job.specs.JobText.{JobLine, job_lines, text_of, is_heading}
 use Rattle.relay_job.specs.declared.place.Place.{Place}
 use Rattle.relay_job.specs.Places.{numbered_from, lines_at}
 use Rattle.relay_job.proofs.JoinedLines.{neither-any}
-use Rattle.relay_envelopes.specs.Headings.{is_envelope_word, id_of}
-use Rattle.relay_envelopes.specs.Sections.{Section, id_or_none, section_of, envelopes_of, has_id, breaks_envelopes, bad_envelopes, begins_envelopes}
+use Rattle.relay_envelopes.specs.Headings.{is_envelope_word, id_of, is_end}
+use Rattle.relay_envelopes.specs.Sections.{Section, id_or_none, section_of, envelopes_of, has_id, goes_on, has_begun, breaks_envelopes, bad_envelopes, begins_envelopes}
+use Rattle.relay_envelopes.specs.Envelopes.{breaks_behind, ids_behind, bad_behind}
 
 -- the bytes of lines
 abbrev pub raw_bytes : List JobLine → List ℕ
@@ -24,7 +31,7 @@ joined-onto : (b : ℕ) (lines : List (List ℕ)) → flat_map (λ (l : List ℕ
 joined-onto b [] = refl
 joined-onto b (l ∷ ls) = refl
 
-joined-lines : (text : List ℕ) → flat_map (λ (l : List ℕ). l) (raw_lines text) ≡ text
+pub joined-lines : (text : List ℕ) → flat_map (λ (l : List ℕ). l) (raw_lines text) ≡ text
 joined-lines [] = refl
 joined-lines (b ∷ bs) = at (eqb b 10) (joined-lines bs) where
   at : (t : Bool) → flat_map (λ (l : List ℕ). l) (raw_lines bs) ≡ bs → flat_map (λ (l : List ℕ). l) (cond t ((b ∷ []) ∷ raw_lines bs) (onto_first b (raw_lines bs))) ≡ b ∷ bs
@@ -133,7 +140,7 @@ bytes_between bytes left middle e =
     ap (λ n. take n bytes) long ∙ ap (take (length middle)) e ∙ take-append_seam middle left
 
 -- the numbers of the lines that break the envelopes, after those before them
-abbrev pub broken_after : List JobLine → List JobLine → List ℕ
+abbrev broken_after : List JobLine → List JobLine → List ℕ
 broken_after done rest = each_after (λ earlier x. cond (breaks_envelopes true earlier x) (x.number ∷ []) []) done rest
 
 or_false : (b : Bool) → (b || false) ≡ b
@@ -148,59 +155,73 @@ or_swapped : (a b : Bool) → (a || b) ≡ (b || a)
 or_swapped true b = sym (or_true b)
 or_swapped false b = sym (or_false b)
 
--- what a line that isn't a heading, or is one, means
-breaks-other : (done : List JobLine) (x : JobLine) (started blank : Bool) → is_heading x ≡ false → list_any is_heading done ≡ started → list_all is_white (text_of x) ≡ blank → breaks_envelopes true done x ≡ (not started && not blank)
-breaks-other done x started blank e f g = rw (e, f, g)
+-- `%end` has no ID.
+word-else : (text : List ℕ) → is_end text ≡ true → begins_with (codes "%envelope") text ≡ true → ⊥
+word-else text e f =
+    let ends : trimmed_end text ≡ codes "%end" = (bytes_eq-Decides (trimmed_end text) (codes "%end")).0 e in
+    let begins : take 9 text ≡ codes "%envelope" = (bytes_eq-Decides (take 9 text) (codes "%envelope")).0 f in
+    let kept : length text - suffix_len is_white text ≡ 4 = omega (arith, ap length ends, length-take (length text - suffix_len is_white text) text) in
+    let four : take 4 text ≡ codes "%end" = ap (λ n. take n text) (sym kept) ∙ ends in
+    let same : take 4 (codes "%envelope") ≡ codes "%end" = ap (take 4) (sym begins) ∙ take-take 4 9 text (omega arith) ∙ four in
+    let no : true ≡ false = sym ((bytes_eq-Decides (take 4 (codes "%envelope")) (codes "%end")).1 same) in
+    true≢false no
 
-breaks-heading : (done : List JobLine) (x : JobLine) (id : List ℕ) → is_heading x ≡ true → id_of (text_of x) ≡ Some id → breaks_envelopes true done x ≡ has_id done id
-breaks-heading done x id e f = rw (e, f)
+pub end-nameless : (text : List ℕ) → is_end text ≡ true → id_of text ≡ None
+end-nameless text e = at (begins_with (codes "%envelope") text) refl where
+  at : (t : Bool) → begins_with (codes "%envelope") text ≡ t → id_of text ≡ None
+  at true f = absurd (word-else text e f)
+  at false f = rw f
 
-breaks-nameless : (done : List JobLine) (x : JobLine) → is_heading x ≡ true → id_of (text_of x) ≡ None → breaks_envelopes true done x ≡ true
-breaks-nameless done x e f = rw (e, f)
+pub named-begins : (text id : List ℕ) → id_of text ≡ Some id → is_end text ≡ false
+named-begins text id e = at (is_end text) refl where
+  at : (t : Bool) → is_end text ≡ t → is_end text ≡ false
+  at true f = absurd (let none : id_of text ≡ None = end-nameless text f in let no : ⊥ = cc in no)
+  at false f = f
 
-first-broken : (done : List JobLine) (x : JobLine) (xs : List JobLine) → breaks_envelopes true done x ≡ true → slice_get (broken_after done (x ∷ xs)) 0 ≡ Some x.number
-first-broken done x xs b = at (breaks_envelopes true done x) b where
-  at : (t : Bool) → t ≡ true → slice_get (cond t (x.number ∷ []) [] ++ broken_after (done ++ x ∷ []) xs) 0 ≡ Some x.number
-  at t e = rw e
+-- What a line is behind others is what it is behind their IDs.
+same-breaks : (done : List JobLine) (ids : List (List ℕ)) (x : JobLine) → ((q : List ℕ) → has_id done q ≡ has_text ids q) → breaks_envelopes true done x ≡ breaks_behind (has_begun done) ids x
+same-breaks done ids x h = at (is_heading x) (is_end (text_of x)) (id_of (text_of x)) refl refl refl where
+  at : (t u : Bool) (o : Option (List ℕ)) → is_heading x ≡ t → is_end (text_of x) ≡ u → id_of (text_of x) ≡ o → breaks_envelopes true done x ≡ breaks_behind (has_begun done) ids x
+  at true true o e f g = rw (e, f)
+  at true false (Some id) e f g = rw (e, f, g) (h id)
+  at true false None e f g = rw (e, f, g)
+  at false u o e f g = rw e
 
-not-broken : (done : List JobLine) (x : JobLine) (xs : List JobLine) → breaks_envelopes true done x ≡ false → broken_after done (x ∷ xs) ≡ broken_after (done ++ x ∷ []) xs
-not-broken done x xs b = at (breaks_envelopes true done x) b where
-  at : (t : Bool) → t ≡ false → (cond t (x.number ∷ []) [] ++ broken_after (done ++ x ∷ []) xs) ≡ broken_after (done ++ x ∷ []) xs
-  at t e = rw e
+same-ids : (done : List JobLine) (ids : List (List ℕ)) (x : JobLine) → ((q : List ℕ) → has_id done q ≡ has_text ids q) → (q : List ℕ) → has_id (done ++ x ∷ []) q ≡ has_text (ids_behind ids x) q
+same-ids done ids x h q = list_any-append _ done (x ∷ []) ∙ ap (λ (b : Bool). b || has_id (x ∷ []) q) (h q) ∙ at (is_heading x) (id_of (text_of x)) refl refl where
+  at : (t : Bool) (o : Option (List ℕ)) → is_heading x ≡ t → id_of (text_of x) ≡ o → (has_text ids q || has_id (x ∷ []) q) ≡ has_text (ids_behind ids x) q
+  at true (Some id) e f = rw (e, f) (ap (λ (b : Bool). has_text ids q || b) (or_false (bytes_eq q id)) ∙ or_swapped (has_text ids q) (bytes_eq q id))
+  at true None e f = rw (e, f) (or_false (has_text ids q))
+  at false o e f = rw e (or_false (has_text ids q))
 
--- lines that say the same of those behind them
-record SameSeen (a b : List JobLine) : Type 0 where
-  headings : list_any is_heading a ≡ list_any is_heading b
-  ids : (id : List ℕ) → has_id a id ≡ has_id b id
+bad-after : (done lines : List JobLine) (ids : List (List ℕ)) → ((q : List ℕ) → has_id done q ≡ has_text ids q) → slice_get (broken_after done lines) 0 ≡ bad_behind (has_begun done) ids lines
+bad-after done [] ids h = refl
+bad-after done (x ∷ xs) ids h =
+    ap (λ (t : Bool). slice_get (cond t (x.number ∷ []) [] ++ later) 0) (same-breaks done ids x h)
+    ∙ at (breaks_behind (has_begun done) ids x) (bad-after (done ++ x ∷ []) xs (ids_behind ids x) (same-ids done ids x h)) where
+      later : List ℕ
+      later = broken_after (done ++ x ∷ []) xs
 
-same-more : (a b : List JobLine) (x : JobLine) → SameSeen a b → SameSeen (a ++ x ∷ []) (b ++ x ∷ [])
-same-more a b x h = record {
-  headings = list_any-append is_heading a (x ∷ []) ∙ ap (λ t. t || list_any is_heading (x ∷ [])) h.headings ∙ sym (list_any-append is_heading b (x ∷ []));
-  ids = λ id. list_any-append _ a (x ∷ []) ∙ ap (λ t. t || has_id (x ∷ []) id) (h.ids id) ∙ sym (list_any-append _ b (x ∷ []));
-}
+      at : (t : Bool) → slice_get later 0 ≡ bad_behind (has_begun (done ++ x ∷ [])) (ids_behind ids x) xs
+          → slice_get (cond t (x.number ∷ []) [] ++ later) 0 ≡ cond t (Some x.number) (bad_behind (goes_on (has_begun done) x) (ids_behind ids x) xs)
+      at true e = refl
+      at false e = e ∙ ap (λ (t : Bool). bad_behind t (ids_behind ids x) xs) (fold-append goes_on false done (x ∷ []))
 
-same-breaks : (a b : List JobLine) (x : JobLine) → SameSeen a b → breaks_envelopes true a x ≡ breaks_envelopes true b x
-same-breaks a b x h = at (is_heading x) (id_of (text_of x)) refl refl where
-  at : (t : Bool) (o : Option (List ℕ)) → is_heading x ≡ t → id_of (text_of x) ≡ o → breaks_envelopes true a x ≡ breaks_envelopes true b x
-  at true (Some id) e f = breaks-heading a x id e f ∙ h.ids id ∙ sym (breaks-heading b x id e f)
-  at true None e f = breaks-nameless a x e f ∙ sym (breaks-nameless b x e f)
-  at false o e f = breaks-other a x _ _ e h.headings refl ∙ sym (breaks-other b x _ _ e refl refl)
+pub bad-all : (lines : List JobLine) → bad_envelopes true lines ≡ bad_behind false [] lines
+bad-all lines = bad-after [] lines [] (λ q. refl)
 
-same-broken : (a b rest : List JobLine) → SameSeen a b → broken_after a rest ≡ broken_after b rest
-same-broken a b [] h = refl
-same-broken a b (x ∷ xs) h =
-    ap (λ (t : Bool). cond t (x.number ∷ []) [] ++ broken_after (a ++ x ∷ []) xs) (same-breaks a b x h)
-    ∙ ap (λ l. cond (breaks_envelopes true b x) (x.number ∷ []) [] ++ l) (same-broken (a ++ x ∷ []) (b ++ x ∷ []) xs (same-more a b x h))
+pub blank-passed : (ids : List (List ℕ)) (x : JobLine) (xs : List JobLine) → is_heading x ≡ false → list_all is_white (text_of x) ≡ true → bad_behind false ids (x ∷ xs) ≡ bad_behind false ids xs
+blank-passed ids x xs e f = rw (e, f)
 
--- a line that is no heading says nothing of IDs
-unseen : (x : JobLine) (id : List ℕ) → is_heading x ≡ false → has_id (x ∷ []) id ≡ false
-unseen x id e = rw e
+pub stray-breaks : (ids : List (List ℕ)) (x : JobLine) (xs : List JobLine) → is_heading x ≡ false → list_all is_white (text_of x) ≡ false → bad_behind false ids (x ∷ xs) ≡ Some x.number
+stray-breaks ids x xs e f = rw (e, f)
 
-pub blank-passed : (x : JobLine) (xs : List JobLine) → is_heading x ≡ false → list_all is_white (text_of x) ≡ true → bad_envelopes true (x ∷ xs) ≡ bad_envelopes true xs
-blank-passed x xs e f = ap (λ (ns : List ℕ). slice_get ns 0) (not-broken [] x xs (breaks-other [] x false true e refl f) ∙ same-broken (x ∷ []) [] xs (record { headings = rw e; ids = λ id. unseen x id e }))
+-- What a heading is doesn't hang on an envelope before it, but for `%end`.
+pub end-passed : (ids : List (List ℕ)) (x : JobLine) (xs : List JobLine) → is_heading x ≡ true → is_end (text_of x) ≡ true → bad_behind true ids (x ∷ xs) ≡ bad_behind false ids xs
+end-passed ids x xs e f = rw (e, f, end-nameless (text_of x) f)
 
-pub stray-breaks : (x : JobLine) (xs : List JobLine) → is_heading x ≡ false → list_all is_white (text_of x) ≡ false → bad_envelopes true (x ∷ xs) ≡ Some x.number
-stray-breaks x xs e f = first-broken [] x xs (breaks-other [] x false false e refl f)
+pub not-ended : (ids : List (List ℕ)) (x : JobLine) (xs : List JobLine) → is_heading x ≡ true → is_end (text_of x) ≡ false → bad_behind true ids (x ∷ xs) ≡ bad_behind false ids (x ∷ xs)
+not-ended ids x xs e f = rw (e, f)
 
 pub other-passed : (x : JobLine) (xs : List JobLine) → is_heading x ≡ false → envelopes_of (x ∷ xs) ≡ envelopes_of xs
 unfolding envelopes_of
@@ -224,29 +245,22 @@ all-passed : (content next : List JobLine) → list_any is_heading content ≡ f
 all-passed [] next h = refl
 all-passed (x ∷ xs) next h = other-passed x (xs ++ next) (other-front x xs h).0 ∙ all-passed xs next (other-front x xs h).1
 
-none-seen : (content : List JobLine) (id : List ℕ) → list_any is_heading content ≡ false → has_id content id ≡ false
-none-seen [] id h = refl
-none-seen (x ∷ xs) id h = rw (other-front x xs h).0 (none-seen xs id (other-front x xs h).1)
-
-none-broken : (done content next : List JobLine) → list_any is_heading done ≡ true → list_any is_heading content ≡ false → broken_after done (content ++ next) ≡ broken_after (done ++ content) next
-none-broken done [] next s h = ap (λ l. broken_after l next) (sym (append-nil done))
-none-broken done (x ∷ xs) next s h =
-    not-broken done x (xs ++ next) (breaks-other done x true _ (other-front x xs h).0 s refl)
-    ∙ none-broken (done ++ x ∷ []) xs next (list_any-append is_heading done (x ∷ []) ∙ rw s refl) (other-front x xs h).1
-    ∙ ap (λ l. broken_after l next) (append_assoc done (x ∷ []) xs)
+content-passed : (ids : List (List ℕ)) (content next : List JobLine) → list_any is_heading content ≡ false → bad_behind true ids (content ++ next) ≡ bad_behind true ids next
+content-passed ids [] next h = refl
+content-passed ids (x ∷ xs) next h = rw (other-front x xs h).0 (content-passed ids xs next (other-front x xs h).1)
 
 -- What a pass over the sections knows before the heading that `rest` begins with.
 pub record Scanned (all rest : List JobLine) (sections : List Section) (ids : List (List ℕ)) : Type 0 where
-  pub done : List JobLine
-  pub unbroken : slice_get (broken_after done rest) 0 ≡ bad_envelopes true all
-  pub seen : (id : List ℕ) → has_id done id ≡ has_text ids id
+  pub known : List (List ℕ)
+  pub seen : (q : List ℕ) → has_text known q ≡ has_text ids q
+  pub unbroken : bad_behind false known rest ≡ bad_envelopes true all
   pub found : sections ++ envelopes_of rest ≡ envelopes_of all
 
-pub Scanned-start : (all rest : List JobLine) (sections : List Section) (ids : List (List ℕ)) → sections ≡ [] → ids ≡ [] → bad_envelopes true all ≡ bad_envelopes true rest → envelopes_of all ≡ envelopes_of rest → Scanned all rest sections ids
+pub Scanned-start : (all rest : List JobLine) (sections : List Section) (ids : List (List ℕ)) → sections ≡ [] → ids ≡ [] → ((ids : List (List ℕ)) → bad_behind false ids all ≡ bad_behind false ids rest) → envelopes_of all ≡ envelopes_of rest → Scanned all rest sections ids
 Scanned-start all rest sections ids none empty e f = record {
-  done = [];
-  unbroken = sym e;
-  seen = λ id. rw empty;
+  known = [];
+  seen = λ q. rw empty;
+  unbroken = sym (bad-all all ∙ e []);
   found = rw none (sym f);
 }
 
@@ -258,50 +272,54 @@ heading-first lines x xs e h = at (is_heading x) refl (ap (before_cut is_heading
   at false f g = absurd (let is : x ∷ before_cut is_heading xs ≡ [] = sym (before-more is_heading x xs f) ∙ g in let no : ⊥ = cc in no)
 
 pub Scanned-nameless : (all : List JobLine) (x : JobLine) (xs : List JobLine) (sections : List Section) (ids : List (List ℕ)) → Scanned all (x ∷ xs) sections ids → is_heading x ≡ true → id_of (text_of x) ≡ None → bad_envelopes true all ≡ Some x.number
-Scanned-nameless all x xs sections ids h e f = sym h.unbroken ∙ first-broken h.done x xs (breaks-nameless h.done x e f)
+Scanned-nameless all x xs sections ids h e f = sym h.unbroken ∙ at (is_end (text_of x)) refl where
+  at : (t : Bool) → is_end (text_of x) ≡ t → bad_behind false h.known (x ∷ xs) ≡ Some x.number
+  at true g = rw (e, g)
+  at false g = rw (e, g, f)
 
 pub Scanned-repeated : (all : List JobLine) (x : JobLine) (xs : List JobLine) (sections : List Section) (ids : List (List ℕ)) (id : List ℕ) → Scanned all (x ∷ xs) sections ids → is_heading x ≡ true → id_of (text_of x) ≡ Some id → has_text ids id ≡ true → bad_envelopes true all ≡ Some x.number
-Scanned-repeated all x xs sections ids id h e f g = sym h.unbroken ∙ first-broken h.done x xs (breaks-heading h.done x id e f ∙ h.seen id ∙ g)
+Scanned-repeated all x xs sections ids id h e f g = sym h.unbroken ∙ rw (e, named-begins (text_of x) id f, f, h.seen id ∙ g)
 
 -- a heading, and the lines of its section behind it
 abbrev pub section_at : JobLine → List ℕ → List JobLine → Section
 section_at x id lines = record { line = x.number; id = id; bytes = raw_bytes (before_cut is_heading lines) }
 
-pub heading-found : (x : JobLine) (xs : List JobLine) → is_heading x ≡ true → envelopes_of (x ∷ xs) ≡ section_at x (id_or_none (id_of (text_of x))) xs ∷ envelopes_of xs
+at-heading : (x : JobLine) (xs : List JobLine) → is_heading x ≡ true → envelopes_of (x ∷ xs) ≡ section_of (x ∷ before_cut is_heading xs) ++ envelopes_of xs
 unfolding envelopes_of
-heading-found x xs e = ap (flat_map section_of) (pieces-line is_heading x xs ∙ ap (λ (t : Bool). cond t ((x ∷ before_cut is_heading xs) ∷ (cut_before is_heading xs).pieces) (cut_before is_heading xs).pieces) e)
+at-heading x xs e = ap (flat_map section_of) (pieces-line is_heading x xs ∙ ap (λ (t : Bool). cond t ((x ∷ before_cut is_heading xs) ∷ (cut_before is_heading xs).pieces) (cut_before is_heading xs).pieces) e)
 
-seen-heading : (done : List JobLine) (x : JobLine) (q id : List ℕ) → is_heading x ≡ true → id_of (text_of x) ≡ Some id → has_id (done ++ x ∷ []) q ≡ (has_id done q || bytes_eq q id)
-seen-heading done x q id e f = list_any-append _ done (x ∷ []) ∙ rw (e, f) (ap (λ (b : Bool). has_id done q || b) (or_false (bytes_eq q id)))
+pub heading-found : (x : JobLine) (xs : List JobLine) → is_heading x ≡ true → is_end (text_of x) ≡ false → envelopes_of (x ∷ xs) ≡ section_at x (id_or_none (id_of (text_of x))) xs ∷ envelopes_of xs
+heading-found x xs e f = at-heading x xs e ∙ ap (λ (t : Bool). cond t [] (section_at x (id_or_none (id_of (text_of x))) xs ∷ []) ++ envelopes_of xs) f
 
-pub Scanned-taken : (all : List JobLine) (x : JobLine) (xs next : List JobLine) (sections more : List Section) (ids added : List (List ℕ)) (id : List ℕ) → Scanned all (x ∷ xs) sections ids → is_heading x ≡ true → id_of (text_of x) ≡ Some id → has_text ids id ≡ false
-    → ((q : List ℕ) → has_text added q ≡ (bytes_eq q id || has_text ids q)) → xs ≡ before_cut is_heading xs ++ next → more ≡ sections ++ section_at x id xs ∷ [] → Scanned all next more added
-Scanned-taken all x xs next sections more ids added id h e f fresh adds parted is = record {
-  done = (h.done ++ x ∷ []) ++ before_cut is_heading xs;
-  unbroken =
-      ap (λ (ns : List ℕ). slice_get ns 0)
-      (sym (none-broken (h.done ++ x ∷ []) (before_cut is_heading xs) next (list_any-append is_heading h.done (x ∷ []) ∙ rw e (or_true (list_any is_heading h.done))) (before-headings xs))
-      ∙ ap (broken_after (h.done ++ x ∷ [])) (sym parted)
-      ∙ sym (not-broken h.done x xs (breaks-heading h.done x id e f ∙ h.seen id ∙ fresh)))
-      ∙ h.unbroken;
-  seen = λ q.
-      list_any-append _ (h.done ++ x ∷ []) (before_cut is_heading xs)
-      ∙ ap (λ (b : Bool). has_id (h.done ++ x ∷ []) q || b) (none-seen (before_cut is_heading xs) q (before-headings xs))
-      ∙ or_false (has_id (h.done ++ x ∷ []) q)
-      ∙ seen-heading h.done x q id e f
-      ∙ ap (λ (b : Bool). b || bytes_eq q id) (h.seen q)
-      ∙ or_swapped (has_text ids q) (bytes_eq q id)
-      ∙ sym (adds q);
-  found =
-      ap (λ l. l ++ envelopes_of next) is
-      ∙ append_assoc sections (section_at x id xs ∷ []) (envelopes_of next)
-      ∙ ap (λ l. sections ++ section_at x id xs ∷ l) (sym (ap envelopes_of parted ∙ all-passed (before_cut is_heading xs) next (before-headings xs)))
-      ∙ ap (λ l. sections ++ l) (sym (heading-found x xs e ∙ ap (λ o. section_at x (id_or_none o) xs ∷ envelopes_of xs) f))
-      ∙ h.found;
-}
+pub end-found : (x : JobLine) (xs : List JobLine) → is_heading x ≡ true → is_end (text_of x) ≡ true → envelopes_of (x ∷ xs) ≡ envelopes_of xs
+end-found x xs e f = at-heading x xs e ∙ ap (λ (t : Bool). cond t [] (section_at x (id_or_none (id_of (text_of x))) xs ∷ []) ++ envelopes_of xs) f
+
+-- A heading with a new ID and the lines up to the next are passed.
+module _ (all : List JobLine) (x : JobLine) (xs next : List JobLine) (sections : List Section) (ids : List (List ℕ)) (id : List ℕ) (h : Scanned all (x ∷ xs) sections ids) (e : is_heading x ≡ true) (f : id_of (text_of x) ≡ Some id)
+    (fresh : has_text ids id ≡ false) (parted : xs ≡ before_cut is_heading xs ++ next) where
+  passed : bad_envelopes true all ≡ bad_behind true (id ∷ h.known) next
+  passed = sym h.unbroken
+      ∙ rw (e, named-begins (text_of x) id f, f, h.seen id ∙ fresh) (ap (bad_behind true (id ∷ h.known)) parted ∙ content-passed (id ∷ h.known) (before_cut is_heading xs) next (before-headings xs))
+
+  pub Scanned-stray : (fault : RunFault) → ((ids : List (List ℕ)) → option_map BadJob (bad_behind true ids next) ≡ Some fault) → option_map BadJob (bad_envelopes true all) ≡ Some fault
+  Scanned-stray fault refused = ap (option_map BadJob) passed ∙ refused (id ∷ h.known)
+
+  pub Scanned-taken : (after : List JobLine) (more : List Section) (added : List (List ℕ)) → ((q : List ℕ) → has_text added q ≡ (bytes_eq q id || has_text ids q)) → more ≡ sections ++ section_at x id xs ∷ []
+      → ((ids : List (List ℕ)) → bad_behind true ids next ≡ bad_behind false ids after) → envelopes_of next ≡ envelopes_of after → Scanned all after more added
+  Scanned-taken after more added adds is unbroken found = record {
+    known = id ∷ h.known;
+    seen = λ q. ap (λ (b : Bool). bytes_eq q id || b) (h.seen q) ∙ sym (adds q);
+    unbroken = sym (passed ∙ unbroken (id ∷ h.known));
+    found =
+        ap (λ l. l ++ envelopes_of after) is
+        ∙ append_assoc sections (section_at x id xs ∷ []) (envelopes_of after)
+        ∙ ap (λ l. sections ++ section_at x id xs ∷ l) (sym (ap envelopes_of parted ∙ all-passed (before_cut is_heading xs) next (before-headings xs) ∙ found))
+        ∙ ap (λ l. sections ++ l) (sym (heading-found x xs e (named-begins (text_of x) id f) ∙ ap (λ o. section_at x (id_or_none o) xs ∷ envelopes_of xs) f))
+        ∙ h.found;
+  }
 
 pub Scanned-unbroken : (all rest : List JobLine) (sections : List Section) (ids : List (List ℕ)) → Scanned all rest sections ids → rest ≡ [] → bad_envelopes true all ≡ None
-Scanned-unbroken all rest sections ids h e = sym h.unbroken ∙ ap (λ l. slice_get (broken_after h.done l) 0) e
+Scanned-unbroken all rest sections ids h e = sym h.unbroken ∙ ap (bad_behind false h.known) e
 
 pub Scanned-found : (all rest : List JobLine) (sections : List Section) (ids : List (List ℕ)) → Scanned all rest sections ids → rest ≡ [] → sections ≡ envelopes_of all
 unfolding envelopes_of

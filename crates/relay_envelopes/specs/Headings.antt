@@ -1,7 +1,8 @@
--- The heading of an envelope among many: the word `%envelope`, white space, and an ID of bytes that can be seen.
+-- The heading of an envelope among many: the word `%envelope`, white space, and an ID of bytes that can be seen. The heading `%end` ends it.
 use Rattle.std.specs.Prelude.{ℕ, Bool, not, ◌&&◌, nat_le, List, take, drop, codes, Option, Some, None, if◌then◌else◌}
 use Rattle.std.specs.List.{list_all}
-use Rattle.relay_text.specs.Bytes.{is_white, trimmed, begins_with}
+use Rattle.std.specs.Str.{bytes_eq}
+use Rattle.relay_text.specs.Bytes.{is_white, trimmed, trimmed_end, begins_with}
 use Rattle.relay_text.specs.Addresses.{is_empty}
 
 -- the word alone, or white space behind it
@@ -21,3 +22,7 @@ is_id id = not (is_empty id) && list_all is_id_byte id
 -- the ID of the envelope that a line without its end is the heading of
 abbrev pub id_of : List ℕ → Option (List ℕ)
 id_of text = if is_envelope_word text && is_id (id_text text) then Some (id_text text) else None
+
+-- the heading that ends an envelope: white space at its end is dropped
+abbrev pub is_end : List ℕ → Bool
+is_end text = bytes_eq (trimmed_end text) (codes "%end")

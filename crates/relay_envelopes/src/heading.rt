@@ -1,9 +1,9 @@
-//! The headings of envelopes.
+//! The headings that begin and end envelopes.
 ghost use Rattle.std.specs.Prelude.{◌≡◌, option_map};
 ghost use Rattle.std.specs.List.{list_all};
-ghost use Rattle.relay_envelopes.specs.Headings.{is_envelope_word, is_id_byte, is_id, id_of};
+ghost use Rattle.relay_envelopes.specs.Headings.{is_envelope_word, is_id_byte, is_id, id_of, is_end};
 
-use relay_text::trimmed;
+use relay_text::{same_bytes, trimmed, trimmed_end};
 
 /// Whether a heading has the word `%envelope`, alone or with white space behind it.
 pub(crate) fn is_envelope_word(text: &[u8]) -> bool
@@ -40,4 +40,11 @@ pub fn envelope_id(text: &[u8]) -> Option<&[u8]>
     }
     let id = trimmed(&text[9..]);
     if is_id(id) { Some(id) } else { None }
+}
+
+/// Whether a heading ends an envelope: it is `%end`, and white space may stand behind it.
+pub fn is_end(text: &[u8]) -> bool
+    ensures { result ≡ is_end text.now }
+{
+    same_bytes(trimmed_end(text), b"%end")
 }

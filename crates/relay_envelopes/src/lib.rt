@@ -1,7 +1,7 @@
 //! A text of many envelopes, and the text that answers it.
 //!
 //! Settings, files and tables stand first, as in a job. Behind them each envelope has a section, whose heading has an ID in place of
-//! nothing behind `%envelope`. `heading` reads the ID of a heading, `parts` finds where the tables end and the section of each envelope
+//! nothing behind `%envelope`, and which `%end` may end. `heading` reads the ID of a heading, `parts` finds where the tables end and the section of each envelope
 //! stands; `writing` has the lines that stand round the plans of envelopes. `joining` has the law that makes a job of the tables and a
 //! section.
 #![tactic(auto)]
@@ -15,7 +15,7 @@ pub mod section;
 pub mod writing;
 
 pub use counts::EnvelopeCounts;
-pub use heading::envelope_id;
+pub use heading::{envelope_id, is_end};
 pub use joining::sections_are_joined;
 pub use parts::{envelopes_place, find_envelopes};
 pub use refusal::Refusal;

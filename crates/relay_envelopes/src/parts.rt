@@ -1,11 +1,11 @@
 //! Where the parts of a text of many envelopes stand.
-ghost use Rattle.std.specs.Prelude.{◌≡◌, ◌++◌, [], true, None, Some, map, flat_map, option_map, IfOk, IfErr};
+ghost use Rattle.std.specs.Prelude.{◌≡◌, ◌≤◌, ◌++◌, ℕ, List, [], true, false, None, Some, length, map, flat_map, option_map, IfOk, IfErr};
 ghost use Rattle.relay_job.specs.JobParts.{Stops};
 ghost use Rattle.relay_job.specs.Places.{lines_at, content_at};
 ghost use Rattle.relay_envelopes.specs.Sections.{front_of, lines_behind, envelopes_of, bad_envelopes};
-ghost use Rattle.relay_envelopes.specs.Envelopes.{section_in};
+ghost use Rattle.relay_envelopes.specs.Envelopes.{section_in, bad_behind};
 
-use crate::heading::{envelope_id, is_envelope_word};
+use crate::heading::{envelope_id, is_end, is_envelope_word};
 use crate::section::EnvelopeSection;
 use relay_job::{Place, RunFault};
 use relay_text::TextSet;
@@ -31,9 +31,10 @@ pub fn envelopes_place(text: &[u8]) -> Place<'_>
 /// alone.
 fn first_heading(place: Place<'_>) -> Result<Place<'_>, RunFault>
     ensures heading { IfOk result (λ first. content_at first ≡ []) }
+    ensures no_longer { IfOk result (λ first. length first.rest.now ≤ length place.entry.rest.now) }
     ensures sections { IfOk result (λ first. envelopes_of (lines_at place.entry) ≡ envelopes_of (lines_at first)) }
-    ensures unbroken { IfOk result (λ first. bad_envelopes true (lines_at place.entry) ≡ bad_envelopes true (lines_at first)) }
-    ensures refused { IfErr result (λ fault. option_map RunFault.BadJob (bad_envelopes true (lines_at place.entry)) ≡ Some fault) }
+    ensures unbroken { IfOk result (λ first. (ids : List (List ℕ)) → bad_behind false ids (lines_at place.entry) ≡ bad_behind false ids (lines_at first)) }
+    ensures refused { IfErr result (λ fault. (ids : List (List ℕ)) → option_map RunFault.BadJob (bad_behind false ids (lines_at place.entry)) ≡ Some fault) }
 {
     let mut first = place;
     while let Some((line, after)) = first.split() {
@@ -64,8 +65,29 @@ fn next_heading(place: Place<'_>) -> Place<'_>
     next
 }
 
+/// The place of the next heading behind that of an envelope's end, where `%end` stands there, else this place. BadJob has the first line
+/// behind `%end` that is no heading and isn't of white space alone.
+fn behind_end(place: Place<'_>) -> Result<Place<'_>, RunFault>
+    requires { content_at place ≡ [] }
+    ensures heading { IfOk result (λ next. content_at next ≡ []) }
+    ensures no_longer { IfOk result (λ next. length next.rest.now ≤ length place.entry.rest.now) }
+    ensures sections { IfOk result (λ next. envelopes_of (lines_at place.entry) ≡ envelopes_of (lines_at next)) }
+    ensures unbroken { IfOk result (λ next. (ids : List (List ℕ)) → bad_behind true ids (lines_at place.entry) ≡ bad_behind false ids (lines_at next)) }
+    ensures refused { IfErr result (λ fault. (ids : List (List ℕ)) → option_map RunFault.BadJob (bad_behind true ids (lines_at place.entry)) ≡ Some fault) }
+{
+    let Some((line, after)) = place.split() else {
+        return Ok(place);
+    };
+    if is_end(line.text()) {
+        first_heading(after)
+    } else {
+        Ok(place)
+    }
+}
+
 /// The section of each envelope behind a place, in order. BadJob has the first line that is a heading without an ID or with that of an
-/// earlier one, or that stands before the first heading and isn't of white space alone; Memory comes where a growth was refused.
+/// earlier one, or that stands where no envelope has begun or it has ended and is `%end`, or no heading and not of white space alone;
+/// Memory comes where a growth was refused.
 pub fn find_envelopes<'a>(
     alloc: Global,
     place: Place<'a>,
@@ -90,7 +112,7 @@ pub fn find_envelopes<'a>(
             id,
             bytes: &after.rest[..after.rest.len() - next.rest.len()],
         })?;
-        behind = next;
+        behind = behind_end(next)?;
     }
     Ok(sections)
 }

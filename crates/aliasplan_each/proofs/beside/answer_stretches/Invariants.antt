@@ -1,0 +1,15 @@
+use Rattle.std.proofs.Common.{◌≡◌, true, false, None}
+use Rattle.std.specs.Io.KnownBytes.{IsAtEnd, prepend_known}
+use Rattle.aliasplan_each.proofs.ReplyFacts.{RepliedKnown}
+use Rattle.aliasplan_each.proofs.beside.answer_stretches.Given as goal
+
+abbrev pub invariant-loop : goal.invariant-loop
+invariant-loop g l = record {
+  works : g.F.Feed.has_failed l.reader ≡ false;
+  told : g.F.Feed.has_ended l.reader ≡ true → IsAtEnd (g.F.Feed.remaining l.reader);
+  writes : g.S.Sink.has_failed l.writer ≡ false;
+  number : l.feeding.number ≡ 0;
+  begun : l.feeding.begun ≡ None;
+  unasked : l.feeding.asked ≡ false;
+  replied : RepliedKnown l.crew.limits l.crew.options.form l.fn.planner (g.T.TablesSource.coming l.fn.source) (g.F.Feed.remaining l.fn.reader) (prepend_known l.feeding.pending (g.F.Feed.remaining l.reader)) (g.S.Sink.contents l.fn.writer) (g.S.Sink.contents l.writer) l.answers.counts l.planner (g.T.TablesSource.coming l.source) l.counter;
+}
