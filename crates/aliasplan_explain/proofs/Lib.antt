@@ -11,3 +11,4 @@ pub mod AskedTargets
 pub mod PairFacts
 pub mod RunFacts
 pub mod StretchFacts
+pub mod ExpansionFacts

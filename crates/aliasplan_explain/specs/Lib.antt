@@ -11,3 +11,4 @@ pub mod Stretches
 pub mod Sought
 pub mod Chains
 pub mod Tellings
+pub mod Expansions

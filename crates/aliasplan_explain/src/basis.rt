@@ -30,8 +30,8 @@ use relay_tables::Tables;
 use relay_wire::FindingLines;
 use std::thread::Threads;
 
-// The graph of a job, and the pairs that it reaches, where its names stand for what these tables say.
-fn graph_with_pairs<G: Gate, R: Threads + Sync>(
+/// The graph of a job, and the pairs that it reaches, where its names stand for what these tables say.
+pub(crate) fn graph_with_pairs<G: Gate, R: Threads + Sync>(
     crew: &Crew<G, R>,
     job: &JobView<'_>,
     tables: &Tables,

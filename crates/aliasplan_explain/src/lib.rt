@@ -1,4 +1,4 @@
-//! Why an address is in a job's plan, or isn't.
+//! Why an address is in a job's plan, or isn't, and what names and addresses expand to.
 //!
 //! [`explain`] plans a job, and tells for each sender under which an address is reached a shortest chain of items, whose items they are
 //! and on which lines they stand, who gave the sender, and what decided the route; or which items would lead there. [`run_explain`] does
@@ -9,6 +9,8 @@
 //! `stretch` of a trail by each worker, where a step is made by `walking`, which reads `ahead`, and its items are those that `rows` finds in
 //! their sections. `telling` puts to them what becomes of the node, which `ending` knows. `deciding` says what decides the route, and
 //! `unreached` which items lead to a node. All of them rest on the same `grounds`.
+//!
+//! [`expand`] says which addresses a message to some names and addresses reaches, and [`run_expand`] writes them.
 #![tactic(auto)]
 
 mod ahead;
@@ -18,6 +20,7 @@ mod both;
 pub(crate) mod chains;
 mod deciding;
 pub(crate) mod ending;
+mod expanding;
 mod explaining;
 pub(crate) mod grounds;
 pub(crate) mod lines;
@@ -26,6 +29,7 @@ mod planned;
 pub(crate) mod reading;
 mod rows;
 mod running;
+mod running_expand;
 pub(crate) mod sought;
 mod step_line;
 pub(crate) mod stretch;
@@ -34,5 +38,7 @@ mod telling;
 mod unreached;
 mod walking;
 
+pub use expanding::expand;
 pub use explaining::explain;
 pub use running::run_explain;
+pub use running_expand::run_expand;
