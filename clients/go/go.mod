@@ -1,0 +1,3 @@
+module aliasplan
+
+go 1.19
