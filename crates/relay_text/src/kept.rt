@@ -32,10 +32,10 @@ pub struct KeptLines<'a> {
 }
 
 impl<'a> KeptLines<'a> {
-    ghost use Rattle.std.specs.Prelude.{◌≡◌, ◌∷◌, [], IfSome, IfNone, IsTrue};
+    ghost use Rattle.std.specs.Prelude.{◌≡◌, ◌∷◌, [], IfSome, IfNone, IsTrue, is_none, not};
     ghost use Rattle.relay_text.specs.Lines.{kept_lines};
     ghost use Rattle.relay_text.specs.PlainTexts.{is_open_text};
-    ghost use Rattle.relay_text.specs.KeptLines.{kept_line, kept_rest, plain_line};
+    ghost use Rattle.relay_text.specs.KeptLines.{begins_plain, kept_line, kept_rest, plain_line};
 
     /// A reader that begins at the first line, which has the number 1.
     pub fn new(bytes: &'a [u8]) -> Self
@@ -71,6 +71,7 @@ impl<'a> KeptLines<'a> {
         ensures none { IfNone result (kept_rest self.new ≡ kept_rest self.old) }
         ensures some { IfSome result (λ line. kept_rest self.old ≡ plain_line line ∷ kept_rest self.new) }
         ensures open { IfSome result (λ line. IsTrue (is_open_text line.text)) }
+        ensures read { is_none result ≡ not (begins_plain self.old.rest.now) }
     {
         let text = PlainText::at_front(self.rest)?;
         let len = text.text().len();
