@@ -1,5 +1,5 @@
 -- The lines that are found on the way: what one more number adds, and three parts one after another.
-use Rattle.std.proofs.Common.{◌⊎◌, ℕ, ◌+◌, ◌<◌, ◌≤◌, ◌==◌, false, true≢false, List, [], ◌∷◌, ◌++◌, length, get_or, take, ap, ◌∙◌, sym, subst, inl, inr, arith}
+use Rattle.std.proofs.Common.{◌⊎◌, ℕ, ◌+◌, ◌-◌, ◌<◌, ◌≤◌, ◌==◌, false, true≢false, List, [], ◌∷◌, ◌++◌, length, get_or, take, ap, ◌∙◌, sym, subst, inl, inr, arith}
 use Rattle.std.specs.Prelude.{◌≡◌, ◌↔◌, Result, Ok, Err, OnOk, Option, Some, None, slice_get, option_and_then}
 use Rattle.std.proofs.lemmas.List.{take_more, take_all}
 use Rattle.std.proofs.lemmas.List.Elements.{Contains-push, Contains-push_cases, Contains-append_left}
@@ -35,6 +35,15 @@ module _ (gives : ℕ → List ℕ → Type 0) (q : List ℕ) where
           | inr h ↦ elim (line_from_push front n h) [ inl t ↦ new.1 (inl (old.1 (inr t))) | inr p ↦ new.1 (inr p) ]
         ],
       )
+
+  -- the number before it once more gives no line that isn't there
+  pub none_again : (ns : List ℕ) (i : ℕ) (A O : Type 0) → 0 < i → i < length ns → get_or ns (i - 1) 0 ≡ get_or ns i 0 → (O ↔ (A ⊎ HaveLine gives (take i ns) q)) → O ↔ (A ⊎ HaveLine gives (take (i + 1) ns) q)
+  none_again ns i A O some inside same old =
+      let before = i - 1 in
+      let next : before + 1 ≡ i = omega (arith, some) in
+      let earlier : gives (get_or ns before 0) q → HaveLine gives (take i ns) q = λ line.
+      subst (λ (k : ℕ). HaveLine gives (take k ns) q) next (subst (λ (ms : List ℕ). HaveLine gives ms q) (sym (take_more ns before 0 (omega (arith, some, inside)))) (line_push (take before ns) (get_or ns before 0) (inr line))) in
+      one_more ns i A O O inside old (λ o. inl o, λ either. elim either [ inl o ↦ o | inr line ↦ old.1 (inr (earlier (subst (λ (n : ℕ). gives n q) (sym same) line))) ])
 
   pub at_start : (A : Type 0) → A ↔ (A ⊎ HaveLine gives [] q)
   at_start A = (λ a. inl a, λ either. elim either [ inl a ↦ a | inr h ↦ absurd (no_line h) ])

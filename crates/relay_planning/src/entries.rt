@@ -91,7 +91,7 @@ pub fn report_target<K: KeptFindings>(
     report_lost(alloc, listing, node, lines)
 }
 
-/// Adds the lines of the targets of a listing.
+/// Adds the lines of the targets of a listing. A target that is the one before it once more adds none.
 fn report_targets<K: KeptFindings>(
     alloc: Global,
     graph: &Graph,
@@ -102,7 +102,10 @@ fn report_targets<K: KeptFindings>(
     requires { All (λ n. n < length graph.now.nodes) targets.now }
     ensures { OnOk result (Reports lines.old lines.new (HaveLine (IsTargetLine graph.now (place_at listing.entry)) targets.now)) }
 {
-    for target in targets {
+    for (index, target) in targets.iter().enumerate() {
+        if index > 0 && targets[index - 1] == *target {
+            continue;
+        }
         report_target(alloc, graph, listing, *target, lines)?;
     }
     Ok(())

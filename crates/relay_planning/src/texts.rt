@@ -31,7 +31,7 @@ fn report_file_fault<K: KeptFindings>(
     lines.add(finding)
 }
 
-/// Adds the lines of a file that are at fault.
+/// Adds the lines of a file that are at fault. A fault that is the one before it once more, as of each item of a line, adds none.
 pub(crate) fn report_file<K: KeptFindings>(
     alloc: Global,
     job_file: JobFile<'_>,
@@ -41,7 +41,10 @@ pub(crate) fn report_file<K: KeptFindings>(
     ensures { OnOk result (ReportsWhere lines.old lines.new (λ q. list_any (λ fault. bytes_eq q (file_line job_file.entry fault)) faults.now)) }
 {
     lines.reserve(faults.len())?;
-    for fault in faults {
+    for (index, fault) in faults.iter().enumerate() {
+        if index > 0 && faults[index - 1] == *fault {
+            continue;
+        }
         report_file_fault(alloc, job_file, *fault, lines)?;
     }
     Ok(())

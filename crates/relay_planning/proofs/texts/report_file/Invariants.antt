@@ -5,5 +5,5 @@ use Rattle.relay_planning.specs.Findings.{ReportsWhere}
 use Rattle.relay_planning.specs.Texts.{file_line}
 use Rattle.relay_planning.proofs.texts.report_file.Given as goal
 
-abbrev pub invariant-loop-fault : goal.invariant-loop-fault
-invariant-loop-fault g l = ReportsWhere l.initial.lines l.lines (λ q. list_any (λ fault. bytes_eq q (file_line l.job_file fault)) (take l.fault-index l.faults))
+abbrev pub invariant-loop-index : goal.invariant-loop-index
+invariant-loop-index g l = ReportsWhere l.initial.lines l.lines (λ q. list_any (λ fault. bytes_eq q (file_line l.job_file fault)) (take l.index l.faults))
