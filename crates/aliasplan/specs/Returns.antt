@@ -16,7 +16,7 @@ use Rattle.relay_wire.specs.declared.finding.Finding.{Finding}
 use Rattle.relay_wire.specs.declared.finding.Finding.TheVariants.{Missing, NoInclude, File, Command, EmptyAlias, EmptyInclude, LoopAlias, LoopInclude, Unrouted, Aliases, Include, Mailboxes, Mx, Transport}
 use Rattle.relay_wire.specs.declared.plan.Plan.{Plan}
 use Rattle.relay_returns.specs.declared.block.Return.{Return}
-use Rattle.relay_returns.specs.Returns.{return_cmp, return_text_of, returned_plan_text_of, returned_wire_text_of}
+use Rattle.relay_returns.specs.Returns.{return_cmp, return_text_of, returned_json_text_of, returned_plan_text_of, returned_wire_text_of}
 use Rattle.relay_job.specs.declared.job.Job.{Job}
 use Rattle.relay_job.specs.declared.fault.RunFault.{RunFault}
 use Rattle.relay_job.specs.declared.fault.RunFault.TheVariants.{Read, TooLong, BadJob, BadSetting, BadEnvelope, TooManyNames, TooManyOwners, TooManyPairs, Write, Memory}
@@ -123,6 +123,7 @@ IsUnreturned limits job Write = IsRefused limits job Write
 abbrev pub returned_text_in : Form → Plan → List Return → List ℕ
 returned_text_in forms.Plan p returns = returned_plan_text_of p returns
 returned_text_in forms.Wire p returns = returned_wire_text_of p returns
+returned_text_in forms.Json p returns = returned_json_text_of p returns
 
 -- What becomes of a job's bytes: the text of its plan with the blocks, and the plan's numbers.
 pub record IsReturnedAnswer (limits : Limits) (form : Form) (input text : List ℕ) (summary : Summary) : Type 0 where

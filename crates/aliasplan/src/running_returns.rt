@@ -15,7 +15,7 @@ use crate::returning::returns;
 use crate::writing::write_text;
 use relay_job::{Job, RunFault, parse_job_by};
 use relay_planning::{Crew, Form, Summary};
-use relay_returns::{returned_plan_text, returned_wire_text};
+use relay_returns::{returned_json_text, returned_plan_text, returned_wire_text};
 use relay_rounds::Gate;
 use relay_text::Text;
 use std::alloc::{AllocError, Global};
@@ -36,6 +36,7 @@ fn returned_text(alloc: Global, form: Form, returned: &Returned) -> Result<Text,
     match form {
         Form::Plan => returned_plan_text(alloc, &returned.plan, blocks),
         Form::Wire => returned_wire_text(alloc, &returned.plan, blocks),
+        Form::Json => returned_json_text(alloc, &returned.plan, blocks),
     }
 }
 

@@ -1,2 +1,1 @@
-pub mod AsciiLists
 pub mod CheckFaults

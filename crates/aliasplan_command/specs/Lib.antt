@@ -1,5 +1,3 @@
 pub mod Statuses
-pub mod Summaries
-pub mod JsonEscapes
 pub mod Checks
 pub mod Each

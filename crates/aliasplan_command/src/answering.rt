@@ -9,7 +9,6 @@ use crate::explaining::{explain_file, explain_job, shown};
 use crate::explaining_items::explain_items;
 use crate::file_source;
 use crate::file_source::{FileSource, MOST};
-use crate::json_run::run_as_json;
 use crate::standard_input::StandardInput;
 use crate::status::Status;
 use aliasplan::{
@@ -88,7 +87,6 @@ fn written<G: Gate, R: AllocGlobal + Threads + Sync, F: Feed, S: Sink>(
     let summary = match output {
         Output::Text => run(rt, alloc, reader, writer, options, limits, gate)?,
         Output::Returns => run_returns(crew, reader, writer)?,
-        Output::Json => run_as_json(rt, reader, writer, options, limits)?,
         Output::Domains => {
             run_domains(crew, reader, writer)?;
             return Ok(Status::Done);

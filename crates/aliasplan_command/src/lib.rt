@@ -13,8 +13,6 @@ mod each_run;
 mod explaining;
 mod explaining_items;
 mod file_source;
-mod json_form;
-mod json_run;
 mod standard_input;
 pub mod status;
 

@@ -9,8 +9,6 @@ pub enum Output<'a> {
     Text,
     /// The same, with whom to tell of what can't be delivered.
     Returns,
-    /// Its plan as a JSON object, whatever form the options name.
-    Json,
     /// The domains that it asks for.
     Domains,
     /// What is wrong with its files and tables.

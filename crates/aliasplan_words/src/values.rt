@@ -66,20 +66,21 @@ pub(crate) fn work_of(words: &ArgMatches<'_>, form: Form, key: TextKey) -> Work
     }
 }
 
-/// The form that the words after `plan` say. In JSON it isn't regarded.
+/// The form that the words after `plan` say.
 pub(crate) fn form_of(plan: &ArgMatches<'_>) -> Form {
     match plan.get_str("form") {
         Some("wire") => Form::Wire,
+        Some("json") => Form::Json,
         _ => Form::Plan,
     }
 }
 
 /// What the words after `plan` say that the plan is written as.
 pub(crate) fn output_of(plan: &ArgMatches<'_>) -> Output<'static> {
-    match plan.get_str("form") {
-        Some("json") => Output::Json,
-        _ if plan.get_flag("returns") => Output::Returns,
-        _ => Output::Text,
+    if plan.get_flag("returns") {
+        Output::Returns
+    } else {
+        Output::Text
     }
 }
 

@@ -5,6 +5,7 @@ use Rattle.relay_text.specs.Bytes.{has_text}
 use Rattle.relay_text.specs.TextSets.{text_cmp, IsAscendingBy}
 use Rattle.relay_wire.specs.declared.plan.Plan.{Plan}
 use Rattle.relay_wire.specs.declared.plan.Planned.{Planned}
+use Rattle.relay_wire.specs.JsonPlan.{json_text_of}
 use Rattle.relay_wire.specs.PlanText.{plan_text_of, wire_text_of, recipient_count}
 use Rattle.relay_wire.specs.PlanTexts.{plan_from}
 use Rattle.relay_job.specs.declared.job.Job.{Job}
@@ -20,6 +21,7 @@ summary_of p = record { transactions = length p.transactions; recipients = recip
 abbrev pub text_in : Form → Plan → List ℕ
 text_in forms.Plan p = plan_text_of p
 text_in forms.Wire p = wire_text_of p
+text_in forms.Json p = json_text_of p
 
 -- whether a text in parts, and numbers, are those of a plan
 abbrev pub IsWrittenAs : Form → Plan → WrittenPlan → Type 0

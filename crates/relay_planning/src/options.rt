@@ -5,7 +5,7 @@ ghost use Rattle.relay_planning.specs.Written.{text_in};
 use relay_chains::TextKey;
 use relay_text::Text;
 use relay_wire::plan::plan_text;
-use relay_wire::{Plan, wire_text};
+use relay_wire::{Plan, json_text, wire_text};
 use std::alloc::{AllocError, Global};
 
 /// What a plan is written as.
@@ -15,6 +15,8 @@ pub enum Form {
     Plan,
     /// The commands of each transaction (RFC 5321 section 3.3; RFC 2033).
     Wire,
+    /// One JSON object on a line (RFC 8259), in ASCII.
+    Json,
 }
 
 impl Form {
@@ -25,6 +27,7 @@ impl Form {
         match self {
             Form::Plan => plan_text(alloc, plan),
             Form::Wire => wire_text(alloc, plan),
+            Form::Json => json_text(alloc, plan),
         }
     }
 }

@@ -146,8 +146,9 @@ fn written_by_lookup<G: Gate, R: Threads + Sync>(
     }
 }
 
-/// The commands of the plan of a job whose files and tables are read, of which a plan is made. Their lines that are at fault are given.
-fn commands_by_lookup<G: Gate, R: Threads + Sync>(
+/// What is written, in the form that is asked for, of the plan of a job whose files and tables are read, of which a plan is made. Their lines
+/// that are at fault are given.
+fn formed_by_lookup<G: Gate, R: Threads + Sync>(
     crew: &Crew<G, R>,
     job: &JobView<'_>,
     lookup: Lookup,
@@ -156,12 +157,12 @@ fn commands_by_lookup<G: Gate, R: Threads + Sync>(
     requires tables { lookup.tables ≡ directory_of job.now }
     requires router { lookup.router ≡ routing_of job.now }
     requires lines { (q : List ℕ) → has_text lines q ≡ has_fault_line job.now q }
-    ensures written { IfOk result (IsWrittenFor job.now Form.Wire) }
+    ensures written { IfOk result (IsWrittenFor job.now crew.now.options.form) }
     ensures within { OnOk result (IsWithin crew.now.limits job.now) }
     ensures refused { IfErr result (IsRefused crew.now.limits job.now) }
 {
     let plan = plan_by_lookup(crew, job, lookup, lines)?;
-    let written = written_of(crew.alloc, Form::Wire, &plan);
+    let written = written_of(crew.alloc, crew.options.form, &plan);
     drop(plan);
     written
 }
@@ -186,6 +187,6 @@ pub fn write_job<G: Gate, R: Threads + Sync>(
     let view = JobView::of(job);
     match crew.options.form {
         Form::Plan => written_by_lookup(crew, &view, lookup, lines),
-        Form::Wire => commands_by_lookup(crew, &view, lookup, lines),
+        Form::Wire | Form::Json => formed_by_lookup(crew, &view, lookup, lines),
     }
 }

@@ -1,5 +1,5 @@
 -- The text of what is returned to senders, and where it stands in a plan's text.
-use Rattle.std.specs.Prelude.{ℕ, List, [], ◌∷◌, ◌++◌, flat_map, codes, decimal, Some}
+use Rattle.std.specs.Prelude.{ℕ, List, [], ◌∷◌, ◌++◌, map, flat_map, codes, decimal, Some}
 use Rattle.std.specs.List.{enumerate_from}
 use Rattle.std.specs.declared.cmp.Ordering.{Ordering}
 use Rattle.relay_text.specs.AddressParts.{AddressParts}
@@ -9,6 +9,8 @@ use Rattle.relay_wire.specs.declared.finding.Finding.{Finding}
 use Rattle.relay_wire.specs.declared.plan.Planned.{Planned}
 use Rattle.relay_wire.specs.declared.plan.Plan.{Plan}
 use Rattle.relay_wire.specs.Findings.{spaced, finding_words}
+use Rattle.relay_wire.specs.Json.{json_array, json_member, json_object, json_string, json_strings}
+use Rattle.relay_wire.specs.JsonPlan.{findings_member, front_members}
 use Rattle.relay_wire.specs.PlanText.{line, lines_of, first_line, from_line, numbered_texts, transaction_text, scripted_text}
 use Rattle.relay_returns.specs.declared.block.Return.{Return}
 
@@ -49,3 +51,18 @@ returned_wire_text_of p returns = returned_text_by (scripted_text p.hostname) p 
 -- what stands behind the blocks
 abbrev pub tail_text : List (List ℕ) → List ℕ
 tail_text findings = lines_of findings ++ line (codes "end")
+
+-- a block as JSON
+abbrev pub block_json : ℕ → Return → List ℕ
+block_json number r = json_object (
+    json_member (codes "return") (decimal number)
+    ∷ json_member (codes "from") (json_string (path_text_of r.sender))
+    ∷ json_member (codes "lines") (json_strings r.lines)
+    ∷ [])
+
+abbrev pub returns_member : List Return → List ℕ
+returns_member returns = json_member (codes "returns") (json_array (map (λ r. block_json r.0 r.1) (enumerate_from 1 returns)))
+
+-- A plan's object with the blocks before its findings.
+abbrev pub returned_json_text_of : Plan → List Return → List ℕ
+returned_json_text_of p returns = line (json_object (front_members p ++ returns_member returns ∷ findings_member p.findings ∷ []))

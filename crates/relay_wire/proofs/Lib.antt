@@ -12,3 +12,4 @@ pub mod LineOrders
 pub mod FoundOrders
 pub mod LineCuts
 pub mod LineParts
+pub mod JsonPieces

@@ -10,3 +10,5 @@ pub mod FindingLines
 pub mod FoundLines
 pub mod LineParts
 pub mod CheckText
+pub mod Json
+pub mod JsonPlan

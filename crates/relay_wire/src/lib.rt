@@ -11,6 +11,8 @@ mod front;
 mod fronted_line;
 mod fronted_lines;
 pub mod hostname;
+mod json;
+mod json_plan;
 mod kept_findings;
 mod lengths;
 mod line_parts;
@@ -31,6 +33,10 @@ pub use finding_lines::FindingLines;
 pub use found::Found;
 pub use front::split_front;
 pub use hostname::is_hostname;
+pub use json::{
+    put_json_comma, put_json_key, put_json_number, put_json_path, put_json_string, put_json_strings,
+};
+pub use json_plan::{json_text, put_json_findings, put_json_front, put_json_members};
 pub use kept_findings::{KeptFindings, LinesAlone};
 pub use lengths::texts_len;
 pub use plan::{Plan, Planned, plan_text, recipient_count};

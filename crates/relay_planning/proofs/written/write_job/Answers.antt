@@ -9,11 +9,11 @@ of-view-requires g c = c.parsed_is_readable.ensures.job_batches c.args.crew.now.
 pub written_by_lookup-requires-clause-lines : goal.written_by_lookup-requires-clause-lines
 written_by_lookup-requires-clause-lines g c = λ l m q. rw c.of-view.ensures (rw c.new-lines.ensures at c.in-Ok.ensures.lines q)
 
-pub commands_by_lookup-requires-clause-lines : goal.commands_by_lookup-requires-clause-lines
-commands_by_lookup-requires-clause-lines g c = λ l m q. rw c.of-view.ensures (rw c.new-lines.ensures at c.in-Ok.ensures.lines q)
+pub formed_by_lookup-requires-clause-lines : goal.formed_by_lookup-requires-clause-lines
+formed_by_lookup-requires-clause-lines g c = λ l m q. rw c.of-view.ensures (rw c.new-lines.ensures at c.in-Ok.ensures.lines q)
 
 pub returns-in-Plan-clause-refused : goal.returns-in-Plan-clause-refused
 returns-in-Plan-clause-refused g c = rw c.of-view.ensures at c.written_by_lookup.ensures.refused
 
 pub returns-in-Wire-clause-refused : goal.returns-in-Wire-clause-refused
-returns-in-Wire-clause-refused g c = rw c.of-view.ensures at c.commands_by_lookup.ensures.refused
+returns-in-Wire-clause-refused g c = rw c.of-view.ensures at c.formed_by_lookup.ensures.refused

@@ -1,0 +1,8 @@
+use Rattle.std.proofs.Common.{◌≡◌, ◌++◌, map, take}
+use Rattle.std.specs.List.{enumerate_from}
+use Rattle.relay_wire.specs.Json.{with_commas}
+use Rattle.relay_returns.specs.Returns.{block_json}
+use Rattle.relay_returns.proofs.json.put_numbered.Given as goal
+
+abbrev pub invariant-loop-index : goal.invariant-loop-index
+invariant-loop-index l = l.out.items ≡ l.initial.out.items ++ with_commas (map (λ r. block_json r.0 r.1) (take l.index (enumerate_from 1 l.returns)))
