@@ -9,7 +9,6 @@ use Rattle.std.proofs.KnownBytes.{Appends-nil, Appends-trans}
 use Rattle.std.proofs.Math.Seq.{take-append-add}
 use Rattle.std.proofs.lemmas.List.{append-nil}
 use Rattle.std.proofs.lemmas.List.Elements.{All-head, Contains-push_cases}
-use Rattle.relay_wire.specs.PlanText.{line}
 use Rattle.relay_job.specs.declared.job.Job.{Job}
 use Rattle.relay_job.specs.declared.fault.RunFault.{RunFault}
 use Rattle.relay_job.specs.declared.fault.RunFault.TheVariants.{Read, TooLong, BadJob, BadSetting, BadEnvelope, TooManyNames, TooManyOwners, TooManyPairs, Write, Memory}
@@ -17,7 +16,7 @@ use Rattle.relay_job.specs.JobText.{job_lines, job_unless, sections_of}
 use Rattle.relay_job.specs.Tables.{without_envelope, tables_fault, tables_of, AreTablesWithin}
 use Rattle.relay_envelopes.specs.declared.counts.EnvelopeCounts.{EnvelopeCounts}
 use Rattle.relay_envelopes.specs.Sections.{Section, bad_envelopes}
-use Rattle.relay_envelopes.specs.EachText.{tables_text_of, done_line}
+use Rattle.aliasplan_each.specs.Forms.{tables_text_in, done_text_in}
 use Rattle.relay_planning.specs.declared.options.Form.{Form}
 use Rattle.relay_planning.specs.declared.options.Limits.{Limits}
 use Rattle.aliasplan.specs.Outcomes.{AreTableCountsWithin, HasRefusedTables}
@@ -68,9 +67,9 @@ module _ (limits : Limits) (form : Form) (tables : Job) (coming : ℕ → Given)
   pub front-none : (old : Option (List ℕ)) → WritesChangingFront limits form tables coming input old old
   front-none old = record { text = []; due = nothing refl; count = 0; written = Appends-nil old }
 
-  pub front-findings : (old new : Option (List ℕ)) → FrontsFindings tables old new → WritesChangingFront limits form tables coming input old new
+  pub front-findings : (old new : Option (List ℕ)) → FrontsFindings form tables old new → WritesChangingFront limits form tables coming input old new
   front-findings old new h = record {
-    text = tables_text_of h.findings ++ [];
+    text = tables_text_in form h.findings ++ [];
     due = some (record { findings = length h.findings; counts = no_counts }) [] (asks_in limits.bytes input) refl (record {
       findings = h.findings;
       are_findings = h.are_findings;
@@ -80,24 +79,24 @@ module _ (limits : Limits) (form : Form) (tables : Job) (coming : ℕ → Given)
       summed = refl;
     });
     count = h.count;
-    written = rw (append-nil (tables_text_of h.findings)) h.written;
+    written = rw (append-nil (tables_text_in form h.findings)) h.written;
   }
 
   -- a front of a text behind another
   longer : (a b c : Option (List ℕ)) (first next : List ℕ) (count : ℕ) → Appends a b first → Appends b c (take count next) → Appends a c (take (length first + count) (first ++ next))
   longer a b c first next count h k = rw (take-append-add first next count) (Appends-trans a b c first (take count next) h k)
 
-  pub front-replies : (old mid new : Option (List ℕ)) (count : ℕ) → WritesFindings tables old mid count → FrontsReplies limits form tables coming (asks_in limits.bytes input) mid new → WritesChangingFront limits form tables coming input old new
+  pub front-replies : (old mid new : Option (List ℕ)) (count : ℕ) → WritesFindings form tables old mid count → FrontsReplies limits form tables coming (asks_in limits.bytes input) mid new → WritesChangingFront limits form tables coming input old new
   front-replies old mid new count h k = record {
-    text = tables_text_of h.findings ++ texts_of k.replies;
+    text = tables_text_in form h.findings ++ texts_of k.replies;
     due = some (record { findings = length h.findings; counts = counts_of k.replies }) k.came k.rest k.parts (record { findings = h.findings; are_findings = h.are_findings; replies = k.replies; are_replies = k.are_replies; is = refl; summed = refl });
-    count = length (tables_text_of h.findings) + k.count;
-    written = longer old mid new (tables_text_of h.findings) (texts_of k.replies) k.count h.written k.written;
+    count = length (tables_text_in form h.findings) + k.count;
+    written = longer old mid new (tables_text_in form h.findings) (texts_of k.replies) k.count h.written k.written;
   }
 
-  module _ (old mid late new : Option (List ℕ)) (count : ℕ) (counts : EnvelopeCounts) (h : WritesFindings tables old mid count) (k : RepliesToAll limits form tables coming input mid late counts) where
+  module _ (old mid late new : Option (List ℕ)) (count : ℕ) (counts : EnvelopeCounts) (h : WritesFindings form tables old mid count) (k : RepliesToAll limits form tables coming input mid late counts) where
     abbrev body : List ℕ
-    body = tables_text_of h.findings ++ texts_of k.replies
+    body = tables_text_in form h.findings ++ texts_of k.replies
 
     answered : AnswersAsks limits form tables coming (asks_in limits.bytes input) body (record { findings = count; counts = counts })
     answered = record {
@@ -110,23 +109,23 @@ module _ (limits : Limits) (form : Form) (tables : Job) (coming : ℕ → Given)
     }
 
     begun : Appends old late body
-    begun = Appends-trans old mid late (tables_text_of h.findings) (texts_of k.replies) h.written k.written
+    begun = Appends-trans old mid late (tables_text_in form h.findings) (texts_of k.replies) h.written k.written
 
-    pub front-done : Fronts late new (line (done_line counts)) → WritesChangingFront limits form tables coming input old new
+    pub front-done : Fronts late new (done_text_in form counts) → WritesChangingFront limits form tables coming input old new
     front-done w = record {
-      text = body ++ line (done_line counts);
+      text = body ++ done_text_in form counts;
       due = whole (record { findings = count; counts = counts }) body answered refl;
       count = length body + w.count;
-      written = longer old late new body (line (done_line counts)) w.count begun w.written;
+      written = longer old late new body (done_text_in form counts) w.count begun w.written;
     }
 
-    pub plans : AreTableCountsWithin limits tables → Appends late new (line (done_line counts)) → PlansChanging limits form tables coming input old new (record { findings = count; counts = counts })
+    pub plans : AreTableCountsWithin limits tables → Appends late new (done_text_in form counts) → PlansChanging limits form tables coming input old new (record { findings = count; counts = counts })
     plans few w = record {
       few = few;
       unbroken = k.unbroken;
       text = body;
       due = answered;
-      written = Appends-trans old late new body (line (done_line counts)) begun w;
+      written = Appends-trans old late new body (done_text_in form counts) begun w;
     }
 
 -- why a run stops
@@ -200,7 +199,7 @@ module _ (limits : Limits) (form : Form) (tables : Job) where
   only-blocks (s ∷ ss) [] coming h = absurd h
 
   module _ (coming : ℕ → Given) where
-    plain-answer : (sections : List Section) (front : List ℕ) (summary : EachSummary) → AnswersAsks limits form tables coming (map plan sections) front summary → IsEachAnswer limits form tables sections (front ++ line (done_line summary.counts)) summary
+    plain-answer : (sections : List Section) (front : List ℕ) (summary : EachSummary) → AnswersAsks limits form tables coming (map plan sections) front summary → IsEachAnswer limits form tables sections (front ++ done_text_in form summary.counts) summary
     plain-answer sections front summary h =
         let only = only-blocks sections h.replies coming h.are_replies in
         let text : texts_of h.replies ≡ blocks.texts_of only.bs = ap texts_of only.is ∙ texts-replied only.bs in
@@ -210,7 +209,7 @@ module _ (limits : Limits) (form : Form) (tables : Job) where
           are_findings = h.are_findings;
           blocks = only.bs;
           are_blocks = only.are_blocks;
-          written = ap (λ l. l ++ line (done_line summary.counts)) (h.is ∙ ap (λ l. tables_text_of h.findings ++ l) text) ∙ ap (λ (c : EnvelopeCounts). (tables_text_of h.findings ++ blocks.texts_of only.bs) ++ line (done_line c)) (ap (λ (q : EachSummary). q.counts) h.summed ∙ counts);
+          written = ap (λ l. l ++ done_text_in form summary.counts) (h.is ∙ ap (λ l. tables_text_in form h.findings ++ l) text) ∙ ap (λ (c : EnvelopeCounts). (tables_text_in form h.findings ++ blocks.texts_of only.bs) ++ done_text_in form c) (ap (λ (q : EachSummary). q.counts) h.summed ∙ counts);
           summed = h.summed ∙ ap (λ (c : EnvelopeCounts). summary_with (length h.findings) c) counts;
         }
 
@@ -241,7 +240,7 @@ module _ (limits : Limits) (form : Form) (tables : Job) where
           came = parts.first;
           blocks = only.bs;
           have_come = record { rest = parts.rest; parts = parts.parts; are_blocks = only.are_blocks };
-          is = h.is ∙ ap (λ l. tables_text_of h.findings ++ l) (ap texts_of only.is ∙ texts-replied only.bs);
+          is = h.is ∙ ap (λ l. tables_text_in form h.findings ++ l) (ap texts_of only.is ∙ texts-replied only.bs);
         })
     plain-due sections text (whole summary front h e) = due_whole summary (rw e (plain-answer sections front summary h))
 
@@ -271,7 +270,7 @@ module _ (limits : Limits) (tables : Job) (input : List ℕ) (none : has_tables 
     plain-plans old new summary h = record {
       few = h.few;
       unbroken = subst (λ l. bad_envelopes false (job_lines l) ≡ None) first-is (All-head (λ s. bad_envelopes false (job_lines s) ≡ None) (first_stretch limits.bytes input) (later_stretches limits.bytes input) h.unbroken);
-      text = h.text ++ line (done_line summary.counts);
+      text = h.text ++ done_text_in form summary.counts;
       due = plain-answer limits form tables coming (sections_in input) h.text summary (rw asks-are at h.due);
       written = h.written;
     }

@@ -6,7 +6,6 @@ use Rattle.std.proofs.lemmas.List.{append-nil, map_more}
 use Rattle.std.proofs.lemmas.List.Concat.{flat_map-append}
 use Rattle.std.proofs.lemmas.Option.{same_Some}
 use Rattle.relay_wire.specs.declared.plan.Plan.{Plan}
-use Rattle.relay_wire.specs.PlanText.{line}
 use Rattle.relay_job.specs.declared.job.Job.{Job}
 use Rattle.relay_job.specs.declared.envelope.Envelope.{Envelope}
 use Rattle.relay_job.specs.declared.fault.RunFault.{RunFault}
@@ -20,10 +19,10 @@ use Rattle.relay_envelopes.specs.declared.counts.EnvelopeCounts.{EnvelopeCounts}
 use Rattle.relay_envelopes.specs.declared.section.EnvelopeSection.{EnvelopeSection}
 use Rattle.relay_envelopes.specs.Sections.{Section}
 use Rattle.relay_envelopes.specs.Envelopes.{section_in}
-use Rattle.relay_envelopes.specs.EachText.{envelope_line, refusal_line, with_planned, with_refused}
+use Rattle.relay_envelopes.specs.EachText.{with_planned, with_refused}
 use Rattle.relay_planning.specs.declared.options.Form.{Form}
 use Rattle.relay_planning.specs.declared.options.Limits.{Limits}
-use Rattle.relay_planning.specs.Written.{text_in}
+use Rattle.aliasplan_each.specs.Forms.{planned_text_in, refused_text_in}
 use Rattle.aliasplan_each.specs.Blocks.{Block, refusal_of, IsOwnPlan, IsRefusedFor, IsSectionFault, IsBlock, Grows, GrowsByAll, with_outcome, texts_of}
 use Rattle.aliasplan_each.specs.Blocks.Outcome.{planned, refused}
 
@@ -79,24 +78,21 @@ module _ (limits : Limits) (tables : Job) (section : Section) where
   refused_for (BadSetting number) refusal h e = absurd h
   refused_for Write refusal h e = absurd h
 
-  module _ (form : Form) (old between new : List ℕ) (before after : EnvelopeCounts) (begun : between ≡ old ++ line (envelope_line section.id)) where
-    block_text : (text : List ℕ) → new ≡ between ++ text → new ≡ old ++ (line (envelope_line section.id) ++ text)
-    block_text text more = more ∙ ap (λ bytes. bytes ++ text) begun ∙ append_assoc old (line (envelope_line section.id)) text
-
+  module _ (form : Form) (old new : List ℕ) (before after : EnvelopeCounts) where
     -- the block of a plan, and that of a refusal
-    pub grows_by_plan : (plan : Plan) → IsOwnPlan limits tables section plan → new ≡ between ++ text_in form plan → after ≡ with_planned before (length plan.findings) → Grows limits form tables section old new before after
+    pub grows_by_plan : (plan : Plan) → IsOwnPlan limits tables section plan → new ≡ old ++ planned_text_in form section.id plan → after ≡ with_planned before (length plan.findings) → Grows limits form tables section old new before after
     grows_by_plan plan own more counted = record {
-      block = record { text = line (envelope_line section.id) ++ text_in form plan; outcome = planned (length plan.findings) };
+      block = record { text = planned_text_in form section.id plan; outcome = planned (length plan.findings) };
       is = record { envelope = own.envelope; read = own.read; within = own.within; plan = plan; planned = own.planned; sound = own.sound; fewest = own.fewest; written = refl; counted = refl };
-      written = block_text (text_in form plan) more;
+      written = more;
       counted = counted;
     }
 
-    pub grows_by_refusal : (fault : RunFault) (refusal : Refusal) → IsSectionFault limits tables section fault → refusal_of fault ≡ Some refusal → new ≡ between ++ line (refusal_line refusal) → after ≡ with_refused before → Grows limits form tables section old new before after
+    pub grows_by_refusal : (fault : RunFault) (refusal : Refusal) → IsSectionFault limits tables section fault → refusal_of fault ≡ Some refusal → new ≡ old ++ refused_text_in form section.id refusal → after ≡ with_refused before → Grows limits form tables section old new before after
     grows_by_refusal fault refusal h e more counted = record {
-      block = record { text = line (envelope_line section.id) ++ line (refusal_line refusal); outcome = refused refusal };
+      block = record { text = refused_text_in form section.id refusal; outcome = refused refusal };
       is = record { refused = refused_for fault refusal h e; written = refl };
-      written = block_text (line (refusal_line refusal)) more;
+      written = more;
       counted = counted;
     }
 

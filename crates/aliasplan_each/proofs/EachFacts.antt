@@ -1,7 +1,6 @@
 -- How a run's answer and its refusals follow from their parts.
 use Rattle.std.proofs.Common.{◌≡◌, ℕ, ◌≤◌, List, [], ◌++◌, length, Option, Some, None, Ok, refl, ap, ◌∙◌, subst}
 use Rattle.std.specs.List.{fold}
-use Rattle.relay_wire.specs.PlanText.{line}
 use Rattle.relay_job.specs.declared.job.Job.{Job}
 use Rattle.relay_job.specs.declared.fault.RunFault.{RunFault}
 use Rattle.relay_job.specs.declared.fault.RunFault.TheVariants.{Read, TooLong, BadJob, BadSetting, BadEnvelope, TooManyNames, TooManyOwners, TooManyPairs, Write, Memory}
@@ -10,11 +9,11 @@ use Rattle.relay_job.specs.JobText.{job_unless, sections_of}
 use Rattle.relay_job.specs.Tables.{without_envelope}
 use Rattle.relay_envelopes.specs.declared.counts.EnvelopeCounts.{EnvelopeCounts}
 use Rattle.relay_envelopes.specs.Sections.{Section, front_of, each_fault, each_tables_of}
-use Rattle.relay_envelopes.specs.EachText.{tables_text_of, done_line}
 use Rattle.relay_planning.specs.declared.options.Form.{Form}
 use Rattle.relay_planning.specs.declared.options.Limits.{Limits}
 use Rattle.aliasplan.specs.Outcomes.{AreTableCountsWithin, HasRefusedTables}
 use Rattle.aliasplan_each.specs.declared.summary.EachSummary.{EachSummary}
+use Rattle.aliasplan_each.specs.Forms.{tables_text_in, done_text_in}
 use Rattle.aliasplan_each.specs.Blocks.{no_counts, texts_of, counts_of, GrowsByAll}
 use Rattle.aliasplan_each.specs.Runs.{BeginsEach, IsEachAnswer, IsEachText, AreEachParts, RefusesEachBytes}
 use Rattle.aliasplan_each.proofs.BlockFacts.{with_block}
@@ -31,11 +30,11 @@ tables_alone text tables h = alone-by (each_fault text) (sections_of (front_of t
 
 -- The lines of files and tables, the blocks, and the last line are the answer.
 pub answer_is : (limits : Limits) (form : Form) (tables : Job) (sections : List Section) (none begun grown text : List ℕ) (count : ℕ) (before after : EnvelopeCounts)
-    → none ≡ [] → before ≡ no_counts → BeginsEach tables none begun count → GrowsByAll limits form tables sections begun grown before after → text ≡ grown ++ line (done_line after)
+    → none ≡ [] → before ≡ no_counts → BeginsEach form tables none begun count → GrowsByAll limits form tables sections begun grown before after → text ≡ grown ++ done_text_in form after
     → IsEachAnswer limits form tables sections text (record { findings = count; counts = after })
 answer_is limits form tables sections none begun grown text count before after empty uncounted b g ended =
     let counted : after ≡ counts_of g.blocks = g.counted ∙ ap (λ (c : EnvelopeCounts). fold with_block c g.blocks) uncounted in
-    let lines : begun ≡ tables_text_of b.findings = b.written ∙ ap (λ (t : List ℕ). t ++ tables_text_of b.findings) empty in
+    let lines : begun ≡ tables_text_in form b.findings = b.written ∙ ap (λ (t : List ℕ). t ++ tables_text_in form b.findings) empty in
     let summary : ℕ → EnvelopeCounts → EachSummary = λ n c. record { findings = n; counts = c } in
     record {
       findings = b.findings;
@@ -44,8 +43,8 @@ answer_is limits form tables sections none begun grown text count before after e
       are_blocks = g.are_blocks;
       written =
           ended
-          ∙ ap (λ (t : List ℕ). t ++ line (done_line after)) (g.written ∙ ap (λ (t : List ℕ). t ++ texts_of g.blocks) lines)
-          ∙ ap (λ (c : EnvelopeCounts). (tables_text_of b.findings ++ texts_of g.blocks) ++ line (done_line c)) counted;
+          ∙ ap (λ (t : List ℕ). t ++ done_text_in form after) (g.written ∙ ap (λ (t : List ℕ). t ++ texts_of g.blocks) lines)
+          ∙ ap (λ (c : EnvelopeCounts). (tables_text_in form b.findings ++ texts_of g.blocks) ++ done_text_in form c) counted;
       summed = ap (λ (n : ℕ). summary n after) b.counted ∙ ap (summary (length b.findings)) counted;
     }
 

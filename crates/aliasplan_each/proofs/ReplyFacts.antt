@@ -197,16 +197,16 @@ module _ (limits : Limits) (form : Form) (tables : Job) (coming : ℕ → Given)
 
   module _ (input left : List ℕ) (old now new : Option (List ℕ)) (counts : EnvelopeCounts) (planner : Job) (given : ℕ → Given) (turns : ℕ)
       (h : HasAnswered input left old now counts planner given turns) where
-    changed-more : (text : List ℕ) (after : Job) → IsChange limits (given 0) planner text after → AreReplies limits form tables coming (h.came ++ change ∷ []) (h.replies ++ changed text after ∷ [])
+    changed-more : (text : List ℕ) (after : Job) → IsChange limits form (given 0) planner text after → AreReplies limits form tables coming (h.came ++ change ∷ []) (h.replies ++ changed text after ∷ [])
     changed-more text after is =
         AreReplies-more limits form h.came (change ∷ []) h.replies (changed text after ∷ []) tables coming h.are_replies
-        ((subst (λ (t : Job). IsChange limits (coming_after coming h.replies 0) t text after) h.planner_is (subst (λ (g : Given). IsChange limits g planner text after) (h.given_is 0) is)), tt)
+        ((subst (λ (t : Job). IsChange limits form (coming_after coming h.replies 0) t text after) h.planner_is (subst (λ (g : Given). IsChange limits form g planner text after) (h.given_is 0) is)), tt)
 
     text-more : (text : List ℕ) (after : Job) → texts_of (h.replies ++ changed text after ∷ []) ≡ texts_of h.replies ++ text
     text-more text after = flat_map-append text_of h.replies (changed text after ∷ []) ∙ ap (λ l. texts_of h.replies ++ l) (append-nil text)
 
     -- `%tables` is answered, and what stands behind it is left
-    replied-change : (rest : List ℕ) (after : Job) (next : ℕ → Given) → stretches_of limits.bytes rest ≡ later_stretches limits.bytes left → WritesChange limits (given 0) planner after now new → ((k : ℕ) → next k ≡ given (k + 1)) → HasReplied input rest old new counts after next (turns + 1)
+    replied-change : (rest : List ℕ) (after : Job) (next : ℕ → Given) → stretches_of limits.bytes rest ≡ later_stretches limits.bytes left → WritesChange limits form (given 0) planner after now new → ((k : ℕ) → next k ≡ given (k + 1)) → HasReplied input rest old new counts after next (turns + 1)
     replied-change rest after next e w later = record {
       came = h.came ++ change ∷ [];
       comes = record {
@@ -224,7 +224,7 @@ module _ (limits : Limits) (form : Form) (tables : Job) (coming : ℕ → Given)
     }
 
     -- a write of its answer has failed
-    stopped-change : (more : List (List ℕ)) (first : List ℕ) → first ∷ more ≡ later_stretches limits.bytes left → FrontsChange limits (given 0) planner now new → FrontsReplies limits form tables coming (asks_in limits.bytes input) old new
+    stopped-change : (more : List (List ℕ)) (first : List ℕ) → first ∷ more ≡ later_stretches limits.bytes left → FrontsChange limits form (given 0) planner now new → FrontsReplies limits form tables coming (asks_in limits.bytes input) old new
     stopped-change more first e w = record {
       came = h.came ++ change ∷ [];
       rest = plans_in first ++ flat_map (λ s. change ∷ plans_in s) more;
@@ -251,7 +251,7 @@ module _ (limits : Limits) (form : Form) (tables : Job) (coming : ℕ → Given)
     pub Replied-more : (rest : Option (List ℕ)) (mid new : Option (List ℕ)) (counts : EnvelopeCounts) (after : Job) (next : ℕ → Given) → RepliedKnown remaining left old now before planner given turns
         → IfSome (first_of limits.bytes left) (λ input. WritesBlocks limits form planner input now mid before counts)
         → KeepsLater (later_of limits.bytes left) (option_map (λ bytes. stretches_of limits.bytes bytes) rest)
-        → WritesChange limits (given 0) planner after mid new → ((k : ℕ) → next k ≡ given (k + 1))
+        → WritesChange limits form (given 0) planner after mid new → ((k : ℕ) → next k ≡ given (k + 1))
         → RepliedKnown remaining rest old new counts after next (turns + 1)
     Replied-more rest mid new counts after next h w k c later = at remaining left rest h w k where
       at : (remaining left rest : Option (List ℕ)) → RepliedKnown remaining left old now before planner given turns
@@ -266,7 +266,7 @@ module _ (limits : Limits) (form : Form) (tables : Job) (coming : ℕ → Given)
     pub Replied-stopped : (rest : Option (List ℕ)) (mid new : Option (List ℕ)) (counts : EnvelopeCounts) → RepliedKnown remaining left old now before planner given turns
         → IfSome (first_of limits.bytes left) (λ input. WritesBlocks limits form planner input now mid before counts)
         → KeepsLater (later_of limits.bytes left) (option_map (λ bytes. stretches_of limits.bytes bytes) rest)
-        → FrontsChange limits (given 0) planner mid new
+        → FrontsChange limits form (given 0) planner mid new
         → IfSome remaining (λ input. FrontsReplies limits form tables coming (asks_in limits.bytes input) old new)
     Replied-stopped rest mid new counts h w k c = at remaining left rest h w k where
       at : (remaining left rest : Option (List ℕ)) → RepliedKnown remaining left old now before planner given turns

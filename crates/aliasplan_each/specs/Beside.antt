@@ -6,13 +6,13 @@ use Rattle.relay_job.specs.declared.fault.RunFault.{RunFault}
 use Rattle.relay_job.specs.declared.fault.RunFault.TheVariants.{Read, TooLong, BadJob, BadSetting, BadEnvelope, TooManyNames, TooManyOwners, TooManyPairs, Write, Memory}
 use Rattle.relay_job.specs.JobText.{job_lines}
 use Rattle.relay_envelopes.specs.Sections.{Section, envelopes_of, bad_envelopes}
-use Rattle.relay_envelopes.specs.EachText.{tables_text_of}
 use Rattle.relay_planning.specs.declared.options.Form.{Form}
 use Rattle.relay_planning.specs.declared.options.Limits.{Limits}
 use Rattle.aliasplan.specs.Checks.{AreLines}
 use Rattle.aliasplan.specs.Outcomes.{AreTableCountsWithin, HasRefusedTables}
 use Rattle.relay_planning.specs.Report.{texts, IsLineOf}
 use Rattle.aliasplan_each.specs.declared.summary.EachSummary.{EachSummary}
+use Rattle.aliasplan_each.specs.Forms.{tables_text_in}
 use Rattle.aliasplan_each.specs.Blocks.{Block, texts_of, AreBlocks}
 use Rattle.aliasplan_each.specs.Runs.{IsEachAnswer}
 use Rattle.aliasplan_each.specs.Feeding.{is_long}
@@ -55,7 +55,7 @@ pub record IsAnswerSoFar (limits : Limits) (form : Form) (tables : Job) (section
   pub came : List Section
   pub blocks : List Block
   pub have_come : HaveCome limits form tables sections came blocks
-  pub is : text ≡ tables_text_of findings ++ texts_of blocks
+  pub is : text ≡ tables_text_in form findings ++ texts_of blocks
 
 -- What a run had to write until it stopped: nothing yet, the answer to some first envelopes, or all of it.
 pub data IsDue (limits : Limits) (form : Form) (tables : Job) (sections : List Section) (text : List ℕ) : Type 0 where

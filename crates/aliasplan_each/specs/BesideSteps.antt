@@ -8,11 +8,11 @@ use Rattle.relay_job.specs.declared.fault.RunFault.TheVariants.{Read, TooLong, B
 use Rattle.relay_job.specs.JobText.{job_lines}
 use Rattle.relay_envelopes.specs.declared.counts.EnvelopeCounts.{EnvelopeCounts}
 use Rattle.relay_envelopes.specs.Sections.{Section, bad_envelopes}
-use Rattle.relay_envelopes.specs.EachText.{tables_text_of}
 use Rattle.relay_planning.specs.declared.options.Form.{Form}
 use Rattle.relay_planning.specs.declared.options.Limits.{Limits}
 use Rattle.aliasplan.specs.Checks.{AreLines}
 use Rattle.relay_planning.specs.Report.{texts, IsLineOf}
+use Rattle.aliasplan_each.specs.Forms.{tables_text_in}
 use Rattle.aliasplan_each.specs.Blocks.{Block, texts_of, with_outcome, IsBlock, AreBlocks}
 use Rattle.aliasplan_each.specs.Beside.{sections_in, HaveCome}
 
@@ -34,17 +34,17 @@ abbrev pub counts_from : EnvelopeCounts → List Block → EnvelopeCounts
 counts_from before blocks = fold (λ counts block. with_outcome counts block.outcome) before blocks
 
 -- the findings of the tables are written, so many
-pub record WritesFindings (tables : Job) (old new : Option (List ℕ)) (count : ℕ) : Type 0 where
+pub record WritesFindings (form : Form) (tables : Job) (old new : Option (List ℕ)) (count : ℕ) : Type 0 where
   pub findings : List (List ℕ)
   pub are_findings : AreLines (IsLineOf tables texts) findings
-  pub written : Appends old new (tables_text_of findings)
+  pub written : Appends old new (tables_text_in form findings)
   pub counted : count ≡ length findings
 
-pub record FrontsFindings (tables : Job) (old new : Option (List ℕ)) : Type 0 where
+pub record FrontsFindings (form : Form) (tables : Job) (old new : Option (List ℕ)) : Type 0 where
   pub findings : List (List ℕ)
   pub are_findings : AreLines (IsLineOf tables texts) findings
   pub count : ℕ
-  pub written : Appends old new (take count (tables_text_of findings))
+  pub written : Appends old new (take count (tables_text_in form findings))
 
 module _ (limits : Limits) (form : Form) (tables : Job) where
   -- the block of a section is written and counted

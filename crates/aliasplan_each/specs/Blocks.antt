@@ -2,7 +2,6 @@
 use Rattle.std.specs.Prelude.{◌≡◌, ℕ, List, ◌++◌, length, flat_map, slice_get, Option, Some, None, Ok, Err, ⊤}
 use Rattle.std.specs.List.{fold}
 use Rattle.relay_wire.specs.declared.plan.Plan.{Plan}
-use Rattle.relay_wire.specs.PlanText.{line}
 use Rattle.relay_job.specs.declared.job.Job.{Job}
 use Rattle.relay_job.specs.declared.envelope.Envelope.{Envelope}
 use Rattle.relay_job.specs.declared.fault.RunFault.{RunFault}
@@ -12,12 +11,12 @@ use Rattle.relay_envelopes.specs.declared.refusal.Refusal.{Refusal}
 use Rattle.relay_envelopes.specs.declared.refusal.Refusal.TheVariants as refusals
 use Rattle.relay_envelopes.specs.declared.counts.EnvelopeCounts.{EnvelopeCounts}
 use Rattle.relay_envelopes.specs.Sections.{Section}
-use Rattle.relay_envelopes.specs.EachText.{envelope_line, refusal_line, with_planned, with_refused}
+use Rattle.relay_envelopes.specs.EachText.{with_planned, with_refused}
 use Rattle.relay_planning.specs.declared.options.Form.{Form}
 use Rattle.relay_planning.specs.declared.options.Limits.{Limits}
 use Rattle.relay_planning.specs.Limits.{IsWithin, IsRefused}
-use Rattle.relay_planning.specs.Written.{text_in}
 use Rattle.relay_planning.specs.Plans.{IsFewest, IsOwnPlanOf, IsSoundFor}
+use Rattle.aliasplan_each.specs.Forms.{planned_text_in, refused_text_in}
 
 -- planned, with so many findings, or refused
 pub data Outcome : Type 0 where
@@ -114,13 +113,13 @@ module _ (limits : Limits) (form : Form) (tables : Job) where
     pub planned : IsOwnPlanOf (with_envelope tables envelope) plan
     pub sound : IsSoundFor (with_envelope tables envelope) plan.transactions
     pub fewest : IsFewest (with_envelope tables envelope) plan.transactions
-    pub written : text ≡ line (envelope_line section.id) ++ text_in form plan
+    pub written : text ≡ planned_text_in form section.id plan
     pub counted : findings ≡ length plan.findings
 
   -- a refused envelope has a line in place of a plan
   pub record IsRefusedBlock (section : Section) (text : List ℕ) (refusal : Refusal) : Type 0 where
     pub refused : IsRefusedFor limits tables section refusal
-    pub written : text ≡ line (envelope_line section.id) ++ line (refusal_line refusal)
+    pub written : text ≡ refused_text_in form section.id refusal
 
   abbrev pub IsOutcome : Section → List ℕ → Outcome → Type 0
   IsOutcome section text (planned findings) = IsPlanned section text findings

@@ -1,3 +1,4 @@
+pub mod Forms
 pub mod Blocks
 pub mod Runs
 pub mod Pieces

@@ -2,20 +2,19 @@
 use Rattle.std.specs.Prelude.{◌≡◌, ℕ, ◌+◌, ◌-◌, ◌^◌, ◌≤◌, false, List, [], ◌∷◌, ◌++◌, length, take, map, flat_map, Option, None, All, Contains, ⊤}
 use Rattle.std.specs.List.{fold}
 use Rattle.std.specs.Io.KnownBytes.{Appends}
-use Rattle.relay_wire.specs.PlanText.{line}
 use Rattle.relay_job.specs.declared.job.Job.{Job}
 use Rattle.relay_job.specs.declared.fault.RunFault.{RunFault}
 use Rattle.relay_job.specs.declared.fault.RunFault.TheVariants.{TooLong}
 use Rattle.relay_job.specs.JobText.{job_lines}
 use Rattle.relay_envelopes.specs.declared.counts.EnvelopeCounts.{EnvelopeCounts}
 use Rattle.relay_envelopes.specs.Sections.{Section, bad_envelopes}
-use Rattle.relay_envelopes.specs.EachText.{tables_text_of, done_line}
 use Rattle.relay_planning.specs.declared.options.Form.{Form}
 use Rattle.relay_planning.specs.declared.options.Limits.{Limits}
 use Rattle.relay_planning.specs.Report.{texts, IsLineOf}
 use Rattle.aliasplan.specs.Checks.{AreLines}
 use Rattle.aliasplan.specs.Outcomes.{AreTableCountsWithin}
 use Rattle.aliasplan_each.specs.declared.summary.EachSummary.{EachSummary}
+use Rattle.aliasplan_each.specs.Forms.{tables_text_in, done_text_in}
 use Rattle.aliasplan_each.specs.Blocks.{Block, no_counts, with_outcome, IsBlock}
 use Rattle.aliasplan_each.specs.Beside.{sections_in, RefusesBeside}
 use Rattle.aliasplan_each.specs.Given.{Given}
@@ -64,7 +63,7 @@ coming_behind coming (changed text after) k = coming (k + 1)
 module _ (limits : Limits) (form : Form) where
   abbrev pub IsReply : Job → Given → Ask → Reply → Type 0
   IsReply tables given (plan section) (block b) = IsBlock limits form tables section b
-  IsReply tables given change (changed text after) = IsChange limits given tables text after
+  IsReply tables given change (changed text after) = IsChange limits form given tables text after
   IsReply tables given (plan section) (changed text after) = ⊥
   IsReply tables given change (block b) = ⊥
 
@@ -83,7 +82,7 @@ module _ (limits : Limits) (form : Form) (tables : Job) (coming : ℕ → Given)
     pub are_findings : AreLines (IsLineOf tables texts) findings
     pub replies : List Reply
     pub are_replies : AreReplies limits form tables coming asks replies
-    pub is : text ≡ tables_text_of findings ++ texts_of replies
+    pub is : text ≡ tables_text_in form findings ++ texts_of replies
     pub summed : summary ≡ record { findings = length findings; counts = counts_of replies }
 
   -- The answer to all that was asked is written, and its last line.
@@ -92,13 +91,13 @@ module _ (limits : Limits) (form : Form) (tables : Job) (coming : ℕ → Given)
     pub unbroken : All (λ stretch. bad_envelopes false (job_lines stretch) ≡ None) (stretches_of limits.bytes input)
     pub text : List ℕ
     pub due : AnswersAsks (asks_in limits.bytes input) text summary
-    pub written : Appends old new (text ++ line (done_line summary.counts))
+    pub written : Appends old new (text ++ done_text_in form summary.counts)
 
   -- What a run had to write until it stopped: nothing yet, the answer to what was asked first, or all of it.
   pub data IsDueChanging (asks : List Ask) (text : List ℕ) : Type 0 where
     nothing : text ≡ [] → IsDueChanging asks text
     some : (summary : EachSummary) (came rest : List Ask) → asks ≡ came ++ rest → AnswersAsks came text summary → IsDueChanging asks text
-    whole : (summary : EachSummary) (front : List ℕ) → AnswersAsks asks front summary → text ≡ front ++ line (done_line summary.counts) → IsDueChanging asks text
+    whole : (summary : EachSummary) (front : List ℕ) → AnswersAsks asks front summary → text ≡ front ++ done_text_in form summary.counts → IsDueChanging asks text
 
   -- a front of this is written
   pub record WritesChangingFront (input : List ℕ) (old new : Option (List ℕ)) : Type 0 where

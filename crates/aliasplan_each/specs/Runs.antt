@@ -1,19 +1,18 @@
 -- What becomes of the bytes of many envelopes.
 use Rattle.std.specs.Prelude.{◌≡◌, ℕ, ◌<◌, ◌≤◌, List, ◌++◌, length, take, Option, Ok, Err, ⊤}
 use Rattle.std.specs.Io.KnownBytes.{Appends}
-use Rattle.relay_wire.specs.PlanText.{line}
 use Rattle.relay_job.specs.declared.job.Job.{Job}
 use Rattle.relay_job.specs.declared.fault.RunFault.{RunFault}
 use Rattle.relay_job.specs.declared.fault.RunFault.TheVariants.{Read, TooLong, BadJob, BadSetting, BadEnvelope, TooManyNames, TooManyOwners, TooManyPairs, Write, Memory}
 use Rattle.relay_job.specs.Tables.{AreTablesWithin}
 use Rattle.relay_envelopes.specs.Sections.{Section, lines_behind, envelopes_of, each_tables_of}
-use Rattle.relay_envelopes.specs.EachText.{tables_text_of, done_line}
 use Rattle.relay_planning.specs.declared.options.Form.{Form}
 use Rattle.relay_planning.specs.declared.options.Limits.{Limits}
 use Rattle.aliasplan.specs.Checks.{AreLines}
 use Rattle.aliasplan.specs.Outcomes.{AreTableCountsWithin, HasRefusedTables}
 use Rattle.relay_planning.specs.Report.{texts, IsLineOf}
 use Rattle.aliasplan_each.specs.declared.summary.EachSummary.{EachSummary}
+use Rattle.aliasplan_each.specs.Forms.{tables_text_in, done_text_in}
 use Rattle.aliasplan_each.specs.Blocks.{Block, texts_of, counts_of, AreBlocks}
 
 -- the earlier of a fault of the front and one of the envelopes: the settings are judged last
@@ -28,10 +27,10 @@ pub record AreEachParts (input : List ℕ) (tables : Job) (sections : List Secti
   pub sections_are : sections ≡ envelopes_of (lines_behind input)
 
 -- the lines of files and tables put behind a text, so many
-pub record BeginsEach (tables : Job) (old new : List ℕ) (count : ℕ) : Type 0 where
+pub record BeginsEach (form : Form) (tables : Job) (old new : List ℕ) (count : ℕ) : Type 0 where
   pub findings : List (List ℕ)
   pub are_findings : AreLines (IsLineOf tables texts) findings
-  pub written : new ≡ old ++ tables_text_of findings
+  pub written : new ≡ old ++ tables_text_in form findings
   pub counted : count ≡ length findings
 
 -- The answer to the sections of envelopes by tables: the findings of files and tables once, a block for each section, and what they come to.
@@ -40,7 +39,7 @@ pub record IsEachAnswer (limits : Limits) (form : Form) (tables : Job) (sections
   pub are_findings : AreLines (IsLineOf tables texts) findings
   pub blocks : List Block
   pub are_blocks : AreBlocks limits form tables sections blocks
-  pub written : text ≡ (tables_text_of findings ++ texts_of blocks) ++ line (done_line (counts_of blocks))
+  pub written : text ≡ (tables_text_in form findings ++ texts_of blocks) ++ done_text_in form (counts_of blocks)
   pub summed : summary ≡ record { findings = length findings; counts = counts_of blocks }
 
 -- The bytes of a text of many envelopes, within the limit: its answer.

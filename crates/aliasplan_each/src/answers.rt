@@ -3,8 +3,9 @@ ghost use Rattle.std.specs.Prelude.{◌≡◌, Some, IfOk, IfErr};
 ghost use Rattle.relay_envelopes.specs.Envelopes.{section_in};
 ghost use Rattle.aliasplan_each.specs.Blocks.{IsOwnPlan, IsSectionFault, IsEnvelopeFault, refusal_of};
 
+use crate::forms::{put_planned, put_refused};
 use aliasplan::{Crew, Form, Gate, Planner, RunFault};
-use relay_envelopes::{EnvelopeCounts, EnvelopeSection, Refusal, put_envelope, put_refusal};
+use relay_envelopes::{EnvelopeCounts, EnvelopeSection, Refusal};
 use relay_job::parse_envelope;
 use relay_wire::Plan;
 use std::alloc::{AllocError, Global};
@@ -54,11 +55,10 @@ pub(crate) struct Answers {
 
 impl Answers {
     ghost use Rattle.std.specs.Prelude.{◌≡◌, ◌++◌, [], length, OnOk};
-    ghost use Rattle.relay_wire.specs.PlanText.{line};
-    ghost use Rattle.relay_envelopes.specs.EachText.{refusal_line, with_planned, with_refused};
+    ghost use Rattle.relay_envelopes.specs.EachText.{with_planned, with_refused};
     ghost use Rattle.relay_envelopes.specs.Envelopes.{section_in};
-    ghost use Rattle.relay_planning.specs.Written.{text_in};
     ghost use Rattle.aliasplan_each.specs.Blocks.{Grows, no_counts};
+    ghost use Rattle.aliasplan_each.specs.Forms.{planned_text_in, refused_text_in};
 
     /// Nothing yet, without taking memory.
     pub(crate) fn none(alloc: Global) -> Answers
@@ -71,25 +71,28 @@ impl Answers {
         }
     }
 
-    // Adds a plan in this form, and counts it.
-    fn add_plan(&mut self, alloc: Global, form: Form, plan: &Plan) -> Result<(), AllocError>
-        ensures text { OnOk result (self.new.text.items ≡ self.old.text.items ++ text_in form plan.now) }
+    // Adds an envelope with its plan in this form, and counts it.
+    fn add_plan(
+        &mut self,
+        alloc: Global,
+        form: Form,
+        id: &[u8],
+        plan: &Plan,
+    ) -> Result<(), AllocError>
+        ensures text { OnOk result (self.new.text.items ≡ self.old.text.items ++ planned_text_in form id.now plan.now) }
         ensures counts { OnOk result (self.new.counts ≡ with_planned self.old.counts (length plan.now.findings)) }
     {
-        let text = form.text_of(alloc, plan)?;
-        let added = self.text.extend_from_slice(text.as_bytes());
-        drop(text);
-        added?;
+        put_planned(alloc, form, id, plan, &mut self.text)?;
         self.counts = self.counts.with_planned(plan.findings.as_slice().len());
         Ok(())
     }
 
-    // Adds the line of a refusal, and counts it.
-    fn add_refusal(&mut self, refusal: Refusal) -> Result<(), AllocError>
-        ensures text { OnOk result (self.new.text.items ≡ self.old.text.items ++ line (refusal_line refusal)) }
+    // Adds an envelope that is refused, and counts it.
+    fn add_refusal(&mut self, form: Form, id: &[u8], refusal: Refusal) -> Result<(), AllocError>
+        ensures text { OnOk result (self.new.text.items ≡ self.old.text.items ++ refused_text_in form id.now refusal) }
         ensures counts { OnOk result (self.new.counts ≡ with_refused self.old.counts) }
     {
-        put_refusal(refusal, &mut self.text)?;
+        put_refused(form, id, refusal, &mut self.text)?;
         self.counts = self.counts.with_refused();
         Ok(())
     }
@@ -103,14 +106,14 @@ impl Answers {
     ) -> Result<(), AllocError>
         ensures { OnOk result (Grows crew.now.limits crew.now.options.form planner.now (section_in section.entry) self.old.text.items self.new.text.items self.old.counts self.new.counts) }
     {
-        put_envelope(section.id, &mut self.text)?;
+        let form = crew.options.form;
         match plan_of(crew, planner, section) {
             Ok(plan) => {
-                let added = self.add_plan(crew.alloc, crew.options.form, &plan);
+                let added = self.add_plan(crew.alloc, form, section.id, &plan);
                 drop(plan);
                 added
             }
-            Err(fault) => self.add_refusal(refusal_of(fault)?),
+            Err(fault) => self.add_refusal(form, section.id, refusal_of(fault)?),
         }
     }
 }

@@ -1,15 +1,14 @@
 //! A run over envelopes that come from a reader one after another, beside tables that are there already.
 ghost use Rattle.std.specs.Prelude.{◌≡◌, ◌≢◌, false, true, [], ◌∷◌, None, Err, IfOk, IfErr, OnOk, IfSome};
 ghost use Rattle.std.specs.Io.KnownBytes.{Appends, IsAtEnd};
-ghost use Rattle.relay_wire.specs.PlanText.{line};
 ghost use Rattle.relay_job.specs.Tables.{AreTablesWithin};
-ghost use Rattle.relay_envelopes.specs.EachText.{done_line};
 ghost use Rattle.aliasplan.specs.Outcomes.{AreTableCountsWithin};
 ghost use Rattle.aliasplan.specs.Transfers.{Fronts};
 ghost use Rattle.aliasplan_each.specs.Blocks.{no_counts};
 ghost use Rattle.aliasplan_each.specs.Beside.{sections_in, PlansBeside, RefusesBeside, WritesBesideFront};
 ghost use Rattle.aliasplan_each.specs.BesideSteps.{IsWriteFault, WritesFindings, FrontsFindings, WritesBlock, WritesBlocks, FrontsBlocks};
 ghost use Rattle.aliasplan_each.specs.Feeding.{known_stretch, known_later, KeepsLater};
+ghost use Rattle.aliasplan_each.specs.Forms.{done_text_in};
 ghost use Rattle.aliasplan_each.specs.Replies.{asks_in, PlansChanging, RefusesChanging, WritesChangingFront};
 ghost use Rattle.aliasplan_each.specs.ReplySteps.{RepliesToAll, FrontsReplies, RefusesStretches, RefusesSoFar};
 ghost use Rattle.aliasplan_each.specs.Stretches.{has_tables};
@@ -17,11 +16,12 @@ ghost use Rattle.aliasplan_each.specs.Stretches.{has_tables};
 use crate::answers::Answers;
 use crate::changing::change_tables;
 use crate::feeding::Feeding;
+use crate::forms::{put_done, put_tables};
 use crate::read_section::ReadSection;
 use crate::summary::EachSummary;
 use crate::tables_source::TablesSource;
-use aliasplan::{Crew, Feed, Gate, Job, Planner, RunFault, Sink, write_text};
-use relay_envelopes::{EnvelopeCounts, put_done, put_tables};
+use aliasplan::{Crew, Feed, Form, Gate, Job, Planner, RunFault, Sink, write_text};
+use relay_envelopes::EnvelopeCounts;
 use std::alloc::Global;
 use std::thread::Threads;
 
@@ -39,18 +39,19 @@ pub(crate) fn write_whole<S: Sink>(writer: &mut S, text: &[u8]) -> Result<(), Ru
 // Writes the lines of files and tables, and tells how many there are.
 fn write_findings<S: Sink>(
     alloc: Global,
+    form: Form,
     planner: &Planner,
     writer: &mut S,
 ) -> Result<usize, RunFault>
     requires { S.has_failed writer.old ≡ false }
-    ensures written { IfOk result (WritesFindings planner.now (S.contents writer.old) (S.contents writer.new)) }
-    ensures front { IfErr result (λ fault. FrontsFindings planner.now (S.contents writer.old) (S.contents writer.new)) }
+    ensures written { IfOk result (WritesFindings form planner.now (S.contents writer.old) (S.contents writer.new)) }
+    ensures front { IfErr result (λ fault. FrontsFindings form planner.now (S.contents writer.old) (S.contents writer.new)) }
     ensures only { IfErr result IsWriteFault }
     ensures write { (result ≡ Err RunFault.Write → S.has_failed writer.new ≡ true) × (result ≢ Err RunFault.Write → S.has_failed writer.new ≡ false) }
 {
     let findings = planner.findings();
     let mut text = Vec::new(alloc);
-    put_tables(findings, &mut text)?;
+    put_tables(form, findings, &mut text)?;
     write_whole(writer, &text)?;
     Ok(findings.len())
 }
@@ -172,17 +173,18 @@ fn answer_envelopes<F: Feed, S: Sink, T: TablesSource, G: Gate, R: Threads + Syn
 // Writes the last line of an answer.
 fn write_done<S: Sink>(
     alloc: Global,
+    form: Form,
     counts: &EnvelopeCounts,
     writer: &mut S,
 ) -> Result<(), RunFault>
     requires { S.has_failed writer.old ≡ false }
-    ensures written { OnOk result (Appends (S.contents writer.old) (S.contents writer.new) (line (done_line counts.now))) }
-    ensures front { IfErr result (λ fault. Fronts (S.contents writer.old) (S.contents writer.new) (line (done_line counts.now))) }
+    ensures written { OnOk result (Appends (S.contents writer.old) (S.contents writer.new) (done_text_in form counts.now)) }
+    ensures front { IfErr result (λ fault. Fronts (S.contents writer.old) (S.contents writer.new) (done_text_in form counts.now)) }
     ensures only { IfErr result IsWriteFault }
     ensures write { (result ≡ Err RunFault.Write → S.has_failed writer.new ≡ true) × (result ≢ Err RunFault.Write → S.has_failed writer.new ≡ false) }
 {
     let mut text = Vec::new(alloc);
-    put_done(counts, &mut text)?;
+    put_done(form, counts, &mut text)?;
     write_whole(writer, &text)
 }
 
@@ -204,9 +206,9 @@ fn answer_stream<F: Feed, S: Sink, T: TablesSource, G: Gate, R: Threads + Sync>(
     ensures front { IfErr result (λ fault. IfSome (F.remaining reader.old) (λ input. WritesChangingFront crew.now.limits crew.now.options.form planner.old (T.coming source.old) input (S.contents writer.old) (S.contents writer.new))) }
     ensures ended { OnOk result (F.has_ended reader.new ≡ true) }
 {
-    let findings = write_findings(crew.alloc, &*planner, writer)?;
+    let findings = write_findings(crew.alloc, crew.options.form, &*planner, writer)?;
     let counts = answer_envelopes(crew, planner, source, reader, writer)?;
-    write_done(crew.alloc, &counts, writer)?;
+    write_done(crew.alloc, crew.options.form, &counts, writer)?;
     Ok(EachSummary { findings, counts })
 }
 

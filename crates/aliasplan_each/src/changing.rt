@@ -3,12 +3,13 @@ ghost use Rattle.std.specs.Prelude.{◌≡◌, ◌≢◌, ◌+◌, ◌++◌, ◌
 ghost use Rattle.relay_wire.specs.Findings.{after_spaces};
 ghost use Rattle.relay_wire.specs.PlanText.{line};
 ghost use Rattle.aliasplan_each.specs.BesideSteps.{IsWriteFault};
-ghost use Rattle.aliasplan_each.specs.Changes.{taken_line, kept_line, IsKept, IsChange};
+ghost use Rattle.aliasplan_each.specs.Changes.{taken_line, taken_text_by, taken_text_in, kept_line, kept_text_in, IsKept, IsChange};
 ghost use Rattle.aliasplan_each.specs.ChangeSteps.{HasRead, WritesChange, FrontsChange};
 
 use crate::beside::write_whole;
+use crate::change_json::{put_kept_json, put_taken_json};
 use crate::tables_source::TablesSource;
-use aliasplan::{Crew, Gate, Planner, RunFault, Sink, parse_tables};
+use aliasplan::{Crew, Form, Gate, Planner, RunFault, Sink, parse_tables};
 use relay_wire::put_count;
 use sha2::{Digest, Sha256};
 use std::alloc::{AllocError, Global};
@@ -21,15 +22,34 @@ struct NewTables {
     answer: Vec<u8>,
 }
 
-// The line that says that the tables of this text are taken. `Err` where memory runs out, as in the calls below.
-fn taken_answer(alloc: Global, text: &[u8]) -> Result<Vec<u8>, AllocError>
-    ensures { IfOk result (λ answer. answer.items ≡ line (taken_line text.now)) }
+// Puts the line that says that the tables are taken whose text has this sum. `Err` where memory runs out, as in the calls below.
+fn put_taken_line(sum: &[u8], out: &mut Vec<u8>) -> Result<(), AllocError>
+    ensures { OnOk result (out.new.items ≡ out.old.items ++ line (taken_line sum.now)) }
+{
+    out.extend_from_slice(b"tables ok ")?;
+    out.extend_from_slice(sum)?;
+    out.push(b'\n')?;
+    Ok(())
+}
+
+// Puts the answer that says so in this form.
+fn put_taken(form: Form, sum: &[u8], out: &mut Vec<u8>) -> Result<(), AllocError>
+    ensures { OnOk result (out.new.items ≡ out.old.items ++ taken_text_by form sum.now) }
+{
+    match form {
+        Form::Plan | Form::Wire => put_taken_line(sum, out),
+        Form::Json => put_taken_json(sum, out),
+    }
+}
+
+// The answer that says that the tables of this text are taken.
+fn taken_answer(alloc: Global, form: Form, text: &[u8]) -> Result<Vec<u8>, AllocError>
+    ensures { IfOk result (λ answer. answer.items ≡ taken_text_in form text.now) }
 {
     let sum = Sha256::digest(text);
     let hex = hex::encode(alloc, sum)?;
-    let mut answer = Vec::from_slice(alloc, b"tables ok ")?;
-    answer.extend_from_slice(hex.as_bytes())?;
-    answer.push(b'\n')?;
+    let mut answer = Vec::new(alloc);
+    put_taken(form, hex.as_bytes(), &mut answer)?;
     Ok(answer)
 }
 
@@ -38,12 +58,12 @@ fn read_tables<T: TablesSource, G: Gate, R: Threads + Sync>(
     crew: &Crew<G, R>,
     source: &mut T,
 ) -> Result<NewTables, RunFault>
-    ensures read { IfOk result (λ new. HasRead crew.now.limits (T.coming source.old 0) new.planner new.answer.items) }
+    ensures read { IfOk result (λ new. HasRead crew.now.limits crew.now.options.form (T.coming source.old 0) new.planner new.answer.items) }
     ensures refused { IfErr result (IsKept crew.now.limits (T.coming source.old 0)) }
     ensures later { (k : ℕ) → T.coming source.new k ≡ T.coming source.old (k + 1) }
 {
     let text = source.fetch(crew.alloc, crew.limits.bytes)?;
-    let answer = taken_answer(crew.alloc, text.as_bytes())?;
+    let answer = taken_answer(crew.alloc, crew.options.form, text.as_bytes())?;
     let tables = parse_tables(crew.alloc, text.as_bytes())?;
     drop(text);
     let planner = Planner::by_crew(crew, tables)?;
@@ -59,7 +79,7 @@ fn put_bad_line(number: usize, words: &[u8], out: &mut Vec<u8>) -> Result<(), Al
 }
 
 // Puts the line at the end that says why the old tables are kept.
-fn put_kept(fault: RunFault, out: &mut Vec<u8>) -> Result<(), AllocError>
+fn put_kept_line(fault: RunFault, out: &mut Vec<u8>) -> Result<(), AllocError>
     ensures { OnOk result (out.new.items ≡ out.old.items ++ line (kept_line fault)) }
 {
     match fault {
@@ -76,13 +96,23 @@ fn put_kept(fault: RunFault, out: &mut Vec<u8>) -> Result<(), AllocError>
     }
 }
 
+// Puts the answer at the end that says why the old tables are kept.
+fn put_kept(form: Form, fault: RunFault, out: &mut Vec<u8>) -> Result<(), AllocError>
+    ensures { OnOk result (out.new.items ≡ out.old.items ++ kept_text_in form fault) }
+{
+    match form {
+        Form::Plan | Form::Wire => put_kept_line(fault, out),
+        Form::Json => put_kept_json(fault, out),
+    }
+}
+
 // Takes the tables that a source gives, where they are good, in place of those that a planner has; the answer says whether.
 fn take_tables<T: TablesSource, G: Gate, R: Threads + Sync>(
     crew: &Crew<G, R>,
     planner: &mut Planner,
     source: &mut T,
 ) -> Result<Vec<u8>, AllocError>
-    ensures changed { IfOk result (λ answer. IsChange crew.now.limits (T.coming source.old 0) planner.old answer.items planner.new) }
+    ensures changed { IfOk result (λ answer. IsChange crew.now.limits crew.now.options.form (T.coming source.old 0) planner.old answer.items planner.new) }
     ensures later { (k : ℕ) → T.coming source.new k ≡ T.coming source.old (k + 1) }
 {
     match read_tables(crew, source) {
@@ -97,7 +127,7 @@ fn take_tables<T: TablesSource, G: Gate, R: Threads + Sync>(
         }
         Err(fault) => {
             let mut answer = Vec::new(crew.alloc);
-            put_kept(fault, &mut answer)?;
+            put_kept(crew.options.form, fault, &mut answer)?;
             Ok(answer)
         }
     }
@@ -111,8 +141,8 @@ pub(crate) fn change_tables<T: TablesSource, S: Sink, G: Gate, R: Threads + Sync
     writer: &mut S,
 ) -> Result<(), RunFault>
     requires { S.has_failed writer.old ≡ false }
-    ensures written { OnOk result (WritesChange crew.now.limits (T.coming source.old 0) planner.old planner.new (S.contents writer.old) (S.contents writer.new)) }
-    ensures front { IfErr result (λ fault. FrontsChange crew.now.limits (T.coming source.old 0) planner.old (S.contents writer.old) (S.contents writer.new)) }
+    ensures written { OnOk result (WritesChange crew.now.limits crew.now.options.form (T.coming source.old 0) planner.old planner.new (S.contents writer.old) (S.contents writer.new)) }
+    ensures front { IfErr result (λ fault. FrontsChange crew.now.limits crew.now.options.form (T.coming source.old 0) planner.old (S.contents writer.old) (S.contents writer.new)) }
     ensures only { IfErr result IsWriteFault }
     ensures write { (result ≡ Err RunFault.Write → S.has_failed writer.new ≡ true) × (result ≢ Err RunFault.Write → S.has_failed writer.new ≡ false) }
     ensures later { (k : ℕ) → T.coming source.new k ≡ T.coming source.old (k + 1) }

@@ -5,7 +5,8 @@
 //!
 //! The way through the modules: `answers` has the block of one envelope, by a planner that holds the tables. `running` goes over the
 //! sections of a text that is there. `feeding` gives the sections of a reader one after another, of lines that `pending` reads, each a
-//! `read_section`; `beside` answers them, and `changing` reads the tables anew, from a `tables_source`.
+//! `read_section`; `beside` answers them, and `changing` reads the tables anew, from a `tables_source`. `forms` writes lines in the form that is
+//! asked for, and `change_json` those that answer `%tables` in JSON.
 //!
 //! Where a function ends, a value of many parts is given back by a call of `drop`: the proof of that call is made once for its type, and
 //! the end of a scope would be followed part by part in each function and for each way out.
@@ -13,8 +14,10 @@
 
 mod answers;
 mod beside;
+mod change_json;
 mod changing;
 mod feeding;
+mod forms;
 mod pending;
 mod read_section;
 mod running;

@@ -11,11 +11,12 @@ ghost use Rattle.aliasplan_each.specs.Runs.{PlansEach, IsEachText, RefusesEach, 
 ghost use Rattle.aliasplan_each.specs.Blocks.{GrowsByAll};
 
 use crate::answers::Answers;
+use crate::forms::{put_done, put_tables};
 use crate::summary::EachSummary;
 use aliasplan::{
-    Crew, Feed, Gate, Job, Planner, RunFault, Sink, parse_tables, read_job, write_text,
+    Crew, Feed, Form, Gate, Job, Planner, RunFault, Sink, parse_tables, read_job, write_text,
 };
-use relay_envelopes::{EnvelopeSection, envelopes_place, find_envelopes, put_done, put_tables};
+use relay_envelopes::{EnvelopeSection, envelopes_place, find_envelopes};
 use std::alloc::{AllocError, Global};
 use std::thread::Threads;
 
@@ -76,11 +77,11 @@ fn parts_of(alloc: Global, input: &[u8]) -> Result<EachParts<'_>, RunFault>
 }
 
 // Puts the lines of files and tables at the end of a text, and tells how many there are. `Err` where memory runs out.
-fn put_findings(planner: &Planner, out: &mut Vec<u8>) -> Result<usize, AllocError>
-    ensures { IfOk result (BeginsEach planner.now out.old.items out.new.items) }
+fn put_findings(form: Form, planner: &Planner, out: &mut Vec<u8>) -> Result<usize, AllocError>
+    ensures { IfOk result (BeginsEach form planner.now out.old.items out.new.items) }
 {
     let findings = planner.findings();
-    put_tables(findings, out)?;
+    put_tables(form, findings, out)?;
     Ok(findings.len())
 }
 
@@ -109,10 +110,10 @@ fn answer_sections<G: Gate, R: Threads + Sync>(
     ensures memory { IfErr result (λ fault. fault ≡ RunFault.Memory) }
 {
     let mut answers = Answers::none(crew.alloc);
-    let findings = put_findings(planner, &mut answers.text)?;
+    let findings = put_findings(crew.options.form, planner, &mut answers.text)?;
     add_sections(crew, planner, sections, &mut answers)?;
     let Answers { mut text, counts } = answers;
-    put_done(&counts, &mut text)?;
+    put_done(crew.options.form, &counts, &mut text)?;
     let summary = EachSummary { findings, counts };
     Ok(Answered { text, summary })
 }

@@ -49,7 +49,7 @@ pub(crate) const FORM: Argument = Argument {
     name: "form",
     position: Position::Option,
     kind: Kind::Form,
-    help: "plan for its lines, as where it isn't said, wire for the commands of each transaction, json for one JSON object",
+    help: "plan for its lines, as where it isn't said, wire for the commands of each transaction, json for one JSON object, with --each one a line",
 };
 
 pub(crate) const RETURNS: Argument = Argument {
@@ -63,7 +63,7 @@ pub(crate) const EACH: Argument = Argument {
     name: "each",
     position: Position::Option,
     kind: Kind::Flag,
-    help: "Plans many envelopes by the same tables: in place of %envelope sections %envelope ID; not in JSON or with --returns",
+    help: "Plans many envelopes by the same tables: in place of %envelope sections %envelope ID; not with --returns",
 };
 
 pub(crate) const TABLES: Argument = Argument {

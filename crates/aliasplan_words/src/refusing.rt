@@ -12,12 +12,9 @@ use std::io;
 
 /// Why words after `plan` can't stand side by side, if they can't.
 pub(crate) fn clash_of(plan: &ArgMatches<'_>) -> Option<&'static str> {
-    let is_json = matches!(plan.get_str("form"), Some("json"));
     let each = plan.get_flag("each");
-    if plan.get_flag("returns") && is_json {
+    if plan.get_flag("returns") && matches!(plan.get_str("form"), Some("json")) {
         Some("--returns has no JSON form")
-    } else if each && is_json {
-        Some("--each has no JSON form")
     } else if each && plan.get_flag("returns") {
         Some("--each writes no returns")
     } else if !each && plan.get_str("tables").is_some() {

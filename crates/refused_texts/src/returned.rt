@@ -5,7 +5,9 @@ use crate::wire::{is_written, plan};
 use growth_answers::inputs::address;
 use growth_answers::{Answer, Seen, Teller, Unready, judged, lent, twice};
 use relay_ordering::in_order;
-use relay_returns::{Return, return_line, returned_plan_text, returned_wire_text};
+use relay_returns::{
+    Return, return_line, returned_json_text, returned_plan_text, returned_wire_text,
+};
 use relay_text::{Address, Seq};
 use relay_wire::Plan;
 use std::alloc::Global;
@@ -36,6 +38,9 @@ const COMMANDS: &[u8] = b"plan 1 transactions 1 recipients 0 findings\n\
     from <a@example.net>\n\
     missing kim in envelope for <kim@example.org>\n\
     end\n";
+
+const OBJECT: &[u8] =
+    b"{\"plan\":{\"transactions\":1,\"recipients\":1,\"findings\":0},\"transactions\":[{\"transaction\":1,\"from\":\"<a@example.net>\",\"transport\":\"lmtp\",\"nexthop\":\"unix:mbox\",\"hosts\":[\"unix:mbox\"],\"recipients\":[\"<joe@example.org>\"]}],\"returns\":[{\"return\":1,\"from\":\"<a@example.net>\",\"lines\":[\"missing kim in envelope for <kim@example.org>\"]}],\"findings\":[]}\n";
 
 fn block(alloc: Global) -> Result<Return, Unready> {
     let lines = texts(alloc, &[LINE])?;
@@ -105,9 +110,22 @@ fn writes_commands(alloc: Global) -> Result<Seen, Unready> {
     lent(plan, |plan| commands_are_written(alloc, plan))
 }
 
+fn object_is_written(alloc: Global, plan: &Plan) -> Result<Seen, Unready> {
+    let blocks = blocks(alloc)?;
+    lent(blocks, |blocks| {
+        Ok(twice!({ is_written(returned_json_text(alloc, plan, blocks), OBJECT) }))
+    })
+}
+
+fn writes_an_object(alloc: Global) -> Result<Seen, Unready> {
+    let plan = plan(alloc)?;
+    lent(plan, |plan| object_is_written(alloc, plan))
+}
+
 pub(crate) fn tell<R: Print + AllocGlobal>(teller: &mut Teller<'_, R>) {
     tell_of_case(teller, "return_line", writes_a_line);
     tell_of_call(teller, "in_order", sorts_blocks);
     tell_of_case(teller, "returned_plan_text", writes_a_plan);
     tell_of_case(teller, "returned_wire_text", writes_commands);
+    tell_of_case(teller, "returned_json_text", writes_an_object);
 }

@@ -9,7 +9,7 @@ use relay_sharing::Crew;
 use relay_text::{Address, Seq, Text};
 use relay_wire::{
     Finding, FindingLines, Greeting, Place, Plan, Planned, Script, check_text, finding_line,
-    is_hostname, plan_text, read_script, script, wire_text,
+    is_hostname, json_text, plan_text, read_script, script, wire_text,
 };
 use std::alloc::{AllocError, Global};
 use std::slice;
@@ -34,6 +34,9 @@ const PLAN_WITH_FINDINGS: &[u8] = b"plan 1 transactions 1 recipients 2 findings\
     finding aliases line 3 badline\n\
     finding transport line 2 duplicate\n\
     end\n";
+
+const OBJECT: &[u8] =
+    b"{\"plan\":{\"transactions\":1,\"recipients\":1,\"findings\":0},\"transactions\":[{\"transaction\":1,\"from\":\"<a@example.net>\",\"transport\":\"lmtp\",\"nexthop\":\"unix:mbox\",\"hosts\":[\"unix:mbox\"],\"recipients\":[\"<joe@example.org>\"]}],\"findings\":[]}\n";
 
 const COMMANDS: &[u8] = b"plan 1 transactions 1 recipients 0 findings\n\
     transaction 1\n\
@@ -141,6 +144,14 @@ fn writes_commands(alloc: Global) -> Result<Seen, Unready> {
     )
 }
 
+fn writes_an_object(alloc: Global) -> Result<Seen, Unready> {
+    let plan = plan(alloc)?;
+    lent(
+        plan,
+        |plan| Ok(twice!(is_written(json_text(alloc, plan), OBJECT))),
+    )
+}
+
 fn writes_a_finding(alloc: Global) -> Result<Seen, Unready> {
     let (name, alias) = both(text(alloc, b"kim"), text(alloc, b"a b"))?;
     let finding = Finding::Missing(name, Place::Alias(alias));
@@ -203,6 +214,7 @@ fn reads_a_script(alloc: Global) -> Result<Answer, Unready> {
 pub(crate) fn tell<R: Print + AllocGlobal + Threads + Sync>(teller: &mut Teller<'_, R>) {
     tell_of_case(teller, "plan_text", writes_a_plan);
     tell_of_case(teller, "wire_text", writes_commands);
+    tell_of_case(teller, "json_text", writes_an_object);
     tell_of_case(teller, "finding_line", writes_a_finding);
     tell_of_case(teller, "check_text", writes_a_check);
     tell_of_case(teller, "script", writes_a_script);

@@ -1,3 +1,4 @@
 pub mod HeadingFacts
 pub mod JoiningFacts
 pub mod SectionFacts
+pub mod JsonLineFacts

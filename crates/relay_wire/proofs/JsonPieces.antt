@@ -1,5 +1,5 @@
 -- Values with commas between them, put one behind another.
-use Rattle.std.proofs.Common.{◌≡◌, ℕ, ◌+◌, ◌<◌, ◌≤◌, List, [], ◌∷◌, ◌++◌, length, take, map, get_or, ap, append_assoc, sym, ◌∙◌, refl, arith}
+use Rattle.std.proofs.Common.{◌≡◌, ℕ, ◌+◌, ◌<◌, List, [], ◌∷◌, ◌++◌, length, take, map, get_or, ap, append_assoc, sym, ◌∙◌, refl, arith}
 use Rattle.std.specs.List.{enumerate_from}
 use Rattle.std.proofs.lemmas.List.{take_more, map-append, length-map, length-take}
 use Rattle.std.proofs.lemmas.List.FromFn.{length-enumerate_from, get_or-enumerate_from}
@@ -59,7 +59,7 @@ numbered_value_step {X} f out written comma new xs i d h at before between after
     values_step (λ (t : ℕ × X). f t.0 t.1) out written comma new (enumerate_from 1 xs) i item within is before between after
 
 -- one more member behind those of an object
-member_behind : (out a : List ℕ) (xs : List (List ℕ)) (key value : List ℕ) → ((out ++ 123 ∷ with_commas (a ∷ xs)) ++ 44 ∷ key) ++ value ≡ out ++ 123 ∷ with_commas ((a ∷ xs) ++ (key ++ value) ∷ [])
+pub member_behind : (out a : List ℕ) (xs : List (List ℕ)) (key value : List ℕ) → ((out ++ 123 ∷ with_commas (a ∷ xs)) ++ 44 ∷ key) ++ value ≡ out ++ 123 ∷ with_commas ((a ∷ xs) ++ (key ++ value) ∷ [])
 member_behind out a xs key value =
     append_assoc (out ++ 123 ∷ with_commas (a ∷ xs)) (44 ∷ key) value
     ∙ append_assoc out (123 ∷ with_commas (a ∷ xs)) (44 ∷ (key ++ value))
@@ -80,11 +80,16 @@ six_members out a p b q c r d s e t f u =
     )
     (append_assoc out (123 ∷ with_commas ((a ++ p) ∷ (b ++ q) ∷ (c ++ r) ∷ (d ++ s) ∷ (e ++ t) ∷ (f ++ u) ∷ [])) (125 ∷ []))
 
+-- the end of an object on a line
+pub object_line : (out a : List ℕ) (xs : List (List ℕ)) → (out ++ 123 ∷ with_commas (a ∷ xs)) ++ 125 ∷ 10 ∷ [] ≡ out ++ line (json_object (a ∷ xs))
+object_line out a xs =
+    let all : List ℕ = with_commas (a ∷ xs) in
+    append_assoc out (123 ∷ all) (125 ∷ 10 ∷ []) ∙ ap (λ (l : List ℕ). out ++ 123 ∷ l) (sym (append_assoc all (125 ∷ []) (10 ∷ [])))
+
 -- an object on a line, with two members behind the first two
 pub four_members : (out a b c d : List ℕ)
     → ((((((out ++ 123 ∷ []) ++ with_commas (a ∷ b ∷ [])) ++ 44 ∷ []) ++ c) ++ 44 ∷ []) ++ d) ++ 125 ∷ 10 ∷ []
     ≡ out ++ line (json_object (a ∷ b ∷ c ∷ d ∷ []))
 four_members out a b c d =
-    let all : List ℕ = with_commas (a ∷ b ∷ c ∷ d ∷ []) in
     rw (append_assoc out (123 ∷ []) (with_commas (a ∷ b ∷ [])), member_behind out a (b ∷ []) [] c, member_behind out a (b ∷ c ∷ []) [] d)
-    (append_assoc out (123 ∷ all) (125 ∷ 10 ∷ []) ∙ ap (λ (l : List ℕ). out ++ 123 ∷ l) (sym (append_assoc all (125 ∷ []) (10 ∷ []))))
+    (object_line out a (b ∷ c ∷ d ∷ []))

@@ -15,4 +15,4 @@ returns-in_err-planner-clause-refused g c =
     rw (p.1, p.2) (refused _ _ c.in_ok-text.ensures.text c.in_ok-text.ensures.size (rw c.as_bytes-2.ensures at c.in_ok-tables.ensures) c.in_err-planner.ensures.refused)
 
 pub returns-clause-read : goal.returns-clause-read
-returns-clause-read g c = HasRead-of _ _ _ _ _ _ c.in_ok-text.ensures.text c.in_ok-text.ensures.size (rw c.as_bytes-2.ensures at c.in_ok-tables.ensures) c.in_ok-planner.ensures.within c.in_ok-planner.ensures.tables (rw c.as_bytes.ensures at c.in_ok-answer.ensures)
+returns-clause-read g c = HasRead-of _ _ _ _ _ _ _ c.in_ok-text.ensures.text c.in_ok-text.ensures.size (rw c.as_bytes-2.ensures at c.in_ok-tables.ensures) c.in_ok-planner.ensures.within c.in_ok-planner.ensures.tables (rw c.as_bytes.ensures at c.in_ok-answer.ensures)

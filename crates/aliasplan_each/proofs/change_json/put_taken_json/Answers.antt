@@ -1,0 +1,11 @@
+use Rattle.std.proofs.Common.{[], ◌∷◌, codes, ◌∙◌}
+use Rattle.std.proofs.lemmas.Result.{on_ok_weaker}
+use Rattle.relay_wire.proofs.JsonPieces.{object_line}
+use Rattle.relay_envelopes.specs.EachJson.{string_member}
+use Rattle.aliasplan_each.proofs.change_json.put_taken_json.Goals as goal
+
+pub returns : goal.returns
+returns c =
+    on_ok_weaker c.put_json_end.result
+    (λ put. put ∙ rw c.in_ok-put_json_pair.ensures (object_line c.args.out.now.items (string_member (codes "tables") (codes "ok")) (string_member (codes "sha256") c.args.sum.now ∷ [])))
+    c.put_json_end.ensures
