@@ -9,10 +9,9 @@ One thread at a time may use a planner.
 import os
 import select
 import subprocess
-from collections import deque
 from collections.abc import Callable, Iterable, Sequence
 from types import TracebackType
-from typing import Any, Deque, NamedTuple, Optional, Union
+from typing import NamedTuple, Optional, TypeVar, Union
 
 
 class Transaction(NamedTuple):
@@ -48,9 +47,12 @@ class PlannerError(Exception):
     """The planner ended, or wrote what is no answer, at its start or twice without an answer in between."""
 
 
-class _Request(NamedTuple):
-    text: bytes
-    answer: Callable[[], Any]
+Answer = TypeVar('Answer')
+
+_CR, _LF = b'\r\n'
+
+# Octets that are read at once: what a pipe holds.
+_AT_ONCE = 1 << 16
 
 
 class Planner:
@@ -68,22 +70,21 @@ class Planner:
 
     def ask(self, sender: bytes, recipients: Iterable[bytes]) -> Union[Plan, Refusal]:
         """The answer to one envelope. ValueError: an address has CR or LF, and nothing was sent."""
-        return self.ask_many([(sender, recipients)])[0]
+        return self._answers([self._envelope(sender, recipients)], self._block)[0]
 
     def ask_many(self, envelopes: Iterable[tuple[bytes, Iterable[bytes]]]) -> list[Union[Plan, Refusal]]:
         """The answers to envelopes, each a sender and recipients, in their order; none waits for the answer to the one before."""
-        return self._answers(deque(self._envelope(sender, recipients) for sender, recipients in envelopes))
+        return self._answers([self._envelope(sender, recipients) for sender, recipients in envelopes], self._block)
 
     def change_tables(self) -> Union[Tables, Refusal]:
         """Has the file of tables read anew."""
-        answer: Union[Tables, Refusal] = self._answers(deque([_Request(b'%tables\n', self._tables)]))[0]
-        return answer
+        return self._answers([b'%tables\n'], self._tables)[0]
 
     def end(self) -> None:
         """Ends the planner. A later question starts one again."""
-        if self._process is not None and self._process.stdin and self._process.stdout:
+        if self._process is not None and self._process.stdin:
             self._process.stdin.close()
-            while self._process.stdout.read(1 << 16):
+            while os.read(self._output, _AT_ONCE):
                 pass
             self._process.wait()
             self._stop()
@@ -97,28 +98,26 @@ class Planner:
         else:
             self._stop()
 
-    def _envelope(self, sender: bytes, recipients: Iterable[bytes]) -> _Request:
-        lines = [b'MAIL FROM:<%b>' % sender, *[b'RCPT TO:<%b>' % recipient for recipient in recipients]]
-        text = b'\n'.join(lines)
-        if b'\r' in text or text.count(b'\n') >= len(lines):
+    def _envelope(self, sender: bytes, recipients: Iterable[bytes]) -> bytes:
+        addresses = [sender, *recipients]
+        text = b'>\nRCPT TO:<'.join(addresses)
+        if _CR in text or text.count(b'\n') >= len(addresses):
             raise ValueError('an address has CR or LF')
         self._number += 1
-        name = b'%d' % self._number
-        return _Request(b'%%envelope %b\n%b\n%%end\n' % (name, text), lambda: self._block(name))
+        return b'%%envelope %d\nMAIL FROM:<%b>\n%%end\n' % (self._number, text)
 
-    def _answers(self, unanswered: Deque[_Request]) -> list[Any]:
-        """The answers to requests. Where the planner dies, a new one is asked what isn't answered."""
-        answers: list[Any] = []
+    def _answers(self, requests: Sequence[bytes], read: Callable[[bytes], Answer]) -> list[Answer]:
+        """The answers to requests, each as it is read. Where the planner dies, a new one is asked what isn't answered."""
+        answers: list[Answer] = []
         has_died = False
-        while unanswered:
+        while len(answers) < len(requests):
             try:
                 if self._process is None:
                     self._start()
-                self._unsent = memoryview(b''.join(request.text for request in unanswered))
-                self._send()
-                while unanswered:
-                    answers.append(unanswered[0].answer())
-                    unanswered.popleft()
+                unanswered = requests[len(answers):]
+                self._send(b''.join(unanswered))
+                for request in unanswered:
+                    answers.append(read(request))
                     has_died = False
             except BaseException as error:
                 # whatever it is, no later question may read this answer
@@ -136,9 +135,8 @@ class Planner:
         self._ready = select.poll()
         self._ready.register(self._input, select.POLLOUT)
         self._ready.register(self._output, select.POLLIN)
-        self._unsent = memoryview(b'')
-        self._lines: list[bytes] = []
-        self._rest = b''
+        # what the planner didn't take yet; what it wrote, and from where on that isn't looked at
+        self._unsent, self._text, self._place = memoryview(b''), b'', 0
         try:
             count = self._behind(b'tables ').removesuffix(b' findings')
             if not count.isdigit():
@@ -151,71 +149,103 @@ class Planner:
     def _stop(self) -> None:
         """Ends the planner at once, where there is one."""
         process, self._process = self._process, None
-        if process is not None and process.stdin and process.stdout:
-            process.stdin.close()
-            process.stdout.close()
-            process.kill()
-            process.wait()
+        if process is not None:
+            # which closes what leads to it, and waits
+            with process:
+                process.kill()
 
-    def _send(self) -> None:
-        """Sends as much as the planner takes now. That it has ended shows where it is read."""
+    def _send(self, text: Union[bytes, memoryview]) -> None:
+        """Sends what the planner takes now, and keeps the rest. That it has ended shows where it is read."""
         try:
-            while self._unsent:
-                self._unsent = self._unsent[os.write(self._input, self._unsent):]
+            sent = os.write(self._input, text)
         except BlockingIOError:
-            pass
+            sent = 0
         except BrokenPipeError:
-            self._unsent = memoryview(b'')
+            sent = len(text)
+        self._unsent = memoryview(text)[sent:]
 
     def _more(self) -> bytes:
         """What the planner writes next; meanwhile it is sent what is unsent, so that neither waits for the other."""
-        while self._unsent and not any(file == self._output for file, _ in self._ready.poll()):
-            self._send()
-        text = os.read(self._output, 1 << 16)
+        while self._unsent:
+            ready = dict(self._ready.poll())
+            if self._input in ready:
+                self._send(self._unsent)
+            if self._output in ready:
+                break
+        text = os.read(self._output, _AT_ONCE)
         if not text:
             raise PlannerError('the planner ended without an answer')
         return text
 
-    def _line(self) -> bytes:
-        while not self._lines:
-            *lines, self._rest = (self._rest + self._more()).split(b'\n')
-            self._lines = lines[::-1]
-        return self._lines.pop()
+    def _until(self, mark: bytes) -> bytes:
+        """What the planner writes up to this mark, which is taken off."""
+        end = self._text.find(mark, self._place)
+        if end < 0:
+            end = self._read_until(mark)
+        text = self._text[self._place:end]
+        self._place = end + len(mark)
+        return text
+
+    def _read_until(self, mark: bytes) -> int:
+        """Reads until there is such a mark, and answers its place."""
+        last = self._text[self._place:]
+        parts = [last]
+        while mark not in last:
+            parts.append(self._more())
+            # a mark may be in two parts
+            last = last[max(len(last) - len(mark) + 1, 0):] + parts[-1]
+        self._text, self._place = b''.join(parts), 0
+        return self._text.find(mark)
 
     def _behind(self, word: bytes) -> bytes:
         """What stands behind this word on the next line."""
-        line = self._line()
+        line = self._until(b'\n')
         if not line.startswith(word):
             raise PlannerError(f'the planner wrote {line!r} in place of {word!r}')
         return line[len(word):]
 
-    def _block(self, name: bytes) -> Union[Plan, Refusal]:
-        if self._behind(b'envelope ') != name:
-            raise PlannerError('the planner answered another envelope')
-        line = self._line()
-        if line.startswith(b'refused '):
-            return Refusal(line[8:])
-        plan = Plan([], [])
-        while (line := self._line()) != b'end':
-            word, _, words = line.partition(b' ')
-            if word == b'to':
-                plan.transactions[-1].recipients.append(words[1:-1])
-            elif word == b'host':
-                plan.transactions[-1].hosts.append(words)
-            elif word == b'transaction':
-                sender = self._behind(b'from ')[1:-1]
-                transport, _, nexthop = self._behind(b'via ').partition(b' ')
-                plan.transactions.append(Transaction(sender, transport, nexthop, [], []))
-            elif word == b'finding':
-                plan.findings.append(words)
-            else:
-                raise PlannerError(f'the planner wrote {line!r}')
-        return plan
+    def _block(self, request: bytes) -> Union[Plan, Refusal]:
+        """The answer to an envelope; the first line of both has its number."""
+        if self._place == len(self._text):
+            self._text, self._place = self._more(), 0
+        name = request[1:request.index(b'\n') + 1]
+        if self._text.startswith(name + b'plan ', self._place):
+            self._place += len(name)
+        else:
+            # a refusal, or what is read ends here
+            if self._until(b'\n') + b'\n' != name:
+                raise PlannerError('the planner answered another envelope')
+            if self._until(b' ') == b'refused':
+                return Refusal(self._until(b'\n'))
+        return _plan(self._until(b'\nend\n'))
 
-    def _tables(self) -> Union[Tables, Refusal]:
+    def _tables(self, _: bytes) -> Union[Tables, Refusal]:
         words = self._behind(b'tables ')
         if words.startswith(b'ok '):
             return Tables(words[3:])
         if words.startswith(b'refused '):
             return Refusal(words[8:])
         raise PlannerError(f'the planner wrote {words!r} of its tables')
+
+
+def _plan(text: bytes) -> Plan:
+    """The plan of the lines from `plan` to the one before `end`."""
+    front, *findings = text.split(b'\nfinding ')
+    head, *parts = front.split(b'\ntransaction ')
+    if _LF in head or findings and _LF in b''.join(findings):
+        raise PlannerError(f'the planner wrote {text!r}')
+    return Plan([_transaction(part) for part in parts], findings)
+
+
+def _transaction(text: bytes) -> Transaction:
+    """The transaction of the lines from its number to its last recipient."""
+    front, _, paths = text.partition(b'\nto <')
+    front, *hosts = front.split(b'\nhost ')
+    front, _, via = front.partition(b'>\nvia ')
+    _, _, sender = front.partition(b'\nfrom <')
+    transport, _, nexthop = via.partition(b' ')
+    recipients = paths[:-1].split(b'>\nto <')
+    # each line was taken for what it is
+    if text.count(b'\n') != 2 + len(hosts) + len(recipients):
+        raise PlannerError(f'the planner wrote {text!r}')
+    return Transaction(sender, transport, nexthop, hosts, recipients)
