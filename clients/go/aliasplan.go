@@ -48,6 +48,9 @@ type Tables struct {
 
 const bufferSize = 1 << 16
 
+// pipeRoom is what an empty pipe takes at least.
+const pipeRoom = 4096
+
 // Planner is a planner that is kept.
 type Planner struct {
 	words   []string
@@ -177,15 +180,7 @@ func (p *Planner) attempt(ctx context.Context, requests []request) (int, error) 
 		}
 	}
 	defer p.killedBy(ctx)()
-	sent := make(chan struct{})
-	go func(input io.Writer) {
-		defer close(sent)
-		writer := bufio.NewWriterSize(input, bufferSize)
-		for _, it := range requests {
-			writer.WriteString(it.text)
-		}
-		writer.Flush() // that the planner has ended shows where it is read
-	}(p.input)
+	sent := p.send(requests)
 	for answered, it := range requests {
 		if err := it.read(); err != nil {
 			p.stop()
@@ -195,6 +190,26 @@ func (p *Planner) attempt(ctx context.Context, requests []request) (int, error) 
 	}
 	<-sent
 	return len(requests), nil
+}
+
+// send sends requests, beside the caller where they are more than an empty pipe takes, so that neither side waits for the other. What it
+// returns is closed when all is sent; that the planner has ended shows where it is read.
+func (p *Planner) send(requests []request) <-chan struct{} {
+	sent, input := make(chan struct{}), p.input
+	if len(requests) == 1 && len(requests[0].text) <= pipeRoom {
+		io.WriteString(input, requests[0].text)
+		close(sent)
+		return sent
+	}
+	go func() {
+		defer close(sent)
+		writer := bufio.NewWriterSize(input, bufferSize)
+		for _, it := range requests {
+			writer.WriteString(it.text)
+		}
+		writer.Flush()
+	}()
+	return sent
 }
 
 // start starts the planner, and reads what it says of the tables.
