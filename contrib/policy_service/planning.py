@@ -67,7 +67,7 @@ class Planning:
     def __init__(self, program, tables, patience, place, say):
         self.program, self.tables, self.patience, self.say = program, tables, patience, say
         self.copy, self.new, self.before = (os.path.join(place, name) for name in ('tables', 'new', 'before'))
-        self.clock, self.planner = Clock(), None
+        self.clock, self.planner, self.is_down = Clock(), None, False
         self.fault, self.rests_until = 'no tables are read', 0
         self.taken = self.seen = None
 
@@ -78,8 +78,10 @@ class Planning:
         if self.planner is None or time.monotonic() < self.rests_until:
             raise Unplanned(self.fault)
         try:
-            with self.clock.limit(self.patience):
+            # one that is down reads the tables first
+            with self.clock.limit(READING if self.is_down else self.patience):
                 answer = self.planner.ask(b'', [address.encode('ascii')])
+            self.is_down = False
         except BROKEN as why:
             self.fail(why)
             raise Unplanned(self.fault) from None
@@ -90,7 +92,7 @@ class Planning:
 
     def fail(self, why):
         """Ends the planner at once. The first question after a rest starts it again."""
-        self.fault, self.rests_until = str(why), time.monotonic() + REST
+        self.fault, self.is_down, self.rests_until = str(why), True, time.monotonic() + REST
         self.planner.__exit__(type(why), why, None)
 
     def look(self):

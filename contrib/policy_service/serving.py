@@ -6,8 +6,9 @@ import socket
 import stat
 import sys
 import tempfile
-from contextlib import suppress
+from contextlib import ExitStack, suppress
 from functools import partial
+from pathlib import Path
 
 from from_postfix.asking import Stop
 
@@ -26,17 +27,20 @@ def say(text):
 
 
 def is_served(path):
-    """Whether a service answers at this socket."""
+    """Whether a service answers at this socket, or has more connections waiting than it takes."""
     with socket.socket(socket.AF_UNIX) as probe:
+        probe.setblocking(False)
         try:
             probe.connect(path)
+        except BlockingIOError:
+            return True
         except OSError:
             return False
     return True
 
 
-def bound(address):
-    """A socket for `unix:PATH` or `inet:HOST:PORT`. One that a service before has left is removed."""
+def bound(address, end):
+    """A socket for `unix:PATH` or `inet:HOST:PORT`. One that a service before has left is removed, and at the end this one."""
     kind, _, place = address.partition(':')
     try:
         if kind == 'inet':
@@ -48,6 +52,7 @@ def bound(address):
             os.unlink(place)
         server = socket.socket(socket.AF_UNIX)
         server.bind(place)
+        end.callback(Path(place).unlink, missing_ok=True)
         return server
     except OSError as error:
         raise Stop(f'{address}: {error.strerror}') from None
@@ -63,13 +68,13 @@ def tell_ready(addresses):
             notice.send(b'READY=1')
 
 
-async def served(addresses, answering):
+async def served(addresses, answering, end):
     """Serves until a signal ends it. Once a second it looks whether the tables changed."""
     loop, ended = asyncio.get_running_loop(), asyncio.Event()
     for number in (signal.SIGTERM, signal.SIGINT):
         loop.add_signal_handler(number, ended.set)
     loop.add_signal_handler(signal.SIGHUP, answering.reread)
-    sockets = [bound(address) for _, address in addresses]
+    sockets = [bound(address, end) for _, address in addresses]
     for (protocol, _), server in zip(addresses, sockets):
         create = loop.create_unix_server if server.family == socket.AF_UNIX else loop.create_server
         await create(partial(Conversation, protocol, answering), sock=server, backlog=WAITING)
@@ -78,17 +83,16 @@ async def served(addresses, answering):
         with suppress(asyncio.TimeoutError):
             await asyncio.wait_for(ended.wait(), 1)
         answering.look()
-    for _, address in addresses:
-        if address.startswith('unix:'):
-            os.unlink(address[5:])
 
 
 def serve(program, options):
-    with tempfile.TemporaryDirectory(prefix='policy-service-') as place:
+    # while the tables are read for the first time; a handler, so that the planner doesn't ignore what is ignored here
+    signal.signal(signal.SIGTERM, lambda *_: sys.exit(0))
+    signal.signal(signal.SIGHUP, lambda *_: None)
+    with ExitStack() as end:
+        place = end.enter_context(tempfile.TemporaryDirectory(prefix='policy-service-'))
         planning = Planning(program, options.tables, options.patience, place, say)
+        end.callback(planning.end)
         answering = Answering(planning, options.actions, options.most, say)
         answering.reread()
-        try:
-            asyncio.run(served(options.addresses, answering))
-        finally:
-            planning.end()
+        asyncio.run(served(options.addresses, answering, end))
