@@ -45,7 +45,8 @@ def socketmap_requests(text):
 
 def socketmap_answer(answering, request):
     name, _, key = request.decode('latin-1').partition(' ')
-    reply = answering.reply(name, key).encode('latin-1')
+    # why there is no answer may name a file of any letters
+    reply = answering.reply(name, key).encode('latin-1', 'replace')
     return b'%d:%b,' % (len(reply), reply)
 
 
