@@ -129,15 +129,15 @@ class Planner:
 
     def _start(self) -> None:
         self._process = process = subprocess.Popen(self._words, stdin=subprocess.PIPE, stdout=subprocess.PIPE, bufsize=0)
-        assert process.stdin and process.stdout
-        self._input, self._output = process.stdin.fileno(), process.stdout.fileno()
-        os.set_blocking(self._input, False)
-        self._ready = select.poll()
-        self._ready.register(self._input, select.POLLOUT)
-        self._ready.register(self._output, select.POLLIN)
-        # what the planner didn't take yet; what it wrote, and from where on that isn't looked at
-        self._unsent, self._text, self._place = memoryview(b''), b'', 0
         try:
+            assert process.stdin and process.stdout
+            self._input, self._output = process.stdin.fileno(), process.stdout.fileno()
+            os.set_blocking(self._input, False)
+            self._ready = select.poll()
+            self._ready.register(self._input, select.POLLOUT)
+            self._ready.register(self._output, select.POLLIN)
+            # what the planner didn't take yet; what it wrote, and from where on that isn't looked at
+            self._unsent, self._text, self._place = memoryview(b''), b'', 0
             count = self._behind(b'tables ').removesuffix(b' findings')
             if not count.isdigit():
                 raise PlannerError(f'the planner wrote {count!r} of its tables')
@@ -215,8 +215,11 @@ class Planner:
             # a refusal, or what is read ends here
             if self._until(b'\n') + b'\n' != name:
                 raise PlannerError('the planner answered another envelope')
-            if self._until(b' ') == b'refused':
+            word = self._until(b' ')
+            if word == b'refused':
                 return Refusal(self._until(b'\n'))
+            if word != b'plan':
+                raise PlannerError(f'the planner wrote {word!r}')
         return _plan(self._until(b'\nend\n'))
 
     def _tables(self, _: bytes) -> Union[Tables, Refusal]:
@@ -233,7 +236,7 @@ def _plan(text: bytes) -> Plan:
     front, *findings = text.split(b'\nfinding ')
     head, *parts = front.split(b'\ntransaction ')
     if _LF in head or findings and _LF in b''.join(findings):
-        raise PlannerError(f'the planner wrote {text!r}')
+        raise PlannerError(f'the planner wrote {text[:100]!r}')
     return Plan([_transaction(part) for part in parts], findings)
 
 
@@ -247,5 +250,5 @@ def _transaction(text: bytes) -> Transaction:
     recipients = paths[:-1].split(b'>\nto <')
     # each line was taken for what it is
     if text.count(b'\n') != 2 + len(hosts) + len(recipients):
-        raise PlannerError(f'the planner wrote {text!r}')
+        raise PlannerError(f'the planner wrote {text[:100]!r}')
     return Transaction(sender, transport, nexthop, hosts, recipients)
