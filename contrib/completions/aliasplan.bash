@@ -10,7 +10,7 @@ _aliasplan() {
       [[ $word == = ]] || option=
     else
       case $word in
-        --workers | --cut | --max-* | --form | --tables | --settings | --aliases | --mailboxes | --transport | --mx | --envelope) option=$word ;;
+        --workers | --cut | --max-* | --form | --from | --to | --tables | --settings | --aliases | --mailboxes | --transport | --mx | --envelope) option=$word ;;
         -?*) ;;
         *) if [[ -z $command ]]; then command=$word; else operands+=1; fi ;;
       esac
@@ -21,15 +21,16 @@ _aliasplan() {
   local words=
   case $option:$command:$operands:$current in
     --form:*) words='plan wire json' ;;
-    --workers:* | --cut:* | --max-*) ;;
+    --workers:* | --cut:* | --max-* | --from:* | --to:*) ;;
     --*:*) compopt -o default ;;
-    :plan:*:-*) words='--workers --cut --max-bytes --max-names --max-owners --max-pairs --form --returns --each --tables --verbose -v --help -h' ;;
-    :explain:*:-* | :domains:*:-*) words='--workers --cut --max-bytes --max-names --max-owners --max-pairs --verbose -v --help -h' ;;
-    :check:*:-*) words='--all --workers --cut --max-bytes --max-names --max-owners --max-pairs --verbose -v --help -h' ;;
+    :plan:*:-*) words='--workers --cut --max-bytes --max-names --max-owners --max-pairs --form --returns --each --tables --from --to --settings --aliases --mailboxes --transport --mx --envelope --verbose -v --help -h' ;;
+    :explain:*:-* | :domains:*:-*) words='--workers --cut --max-bytes --max-names --max-owners --max-pairs --from --to --settings --aliases --mailboxes --transport --mx --envelope --verbose -v --help -h' ;;
+    :expand:*:-*) words='--senders --workers --cut --max-bytes --max-names --max-owners --max-pairs --settings --aliases --mailboxes --transport --mx --envelope --verbose -v --help -h' ;;
+    :check:*:-*) words='--all --workers --cut --max-bytes --max-names --max-owners --max-pairs --settings --aliases --mailboxes --transport --mx --envelope --verbose -v --help -h' ;;
     :gather:*:-*) words='--settings --aliases --mailboxes --transport --mx --envelope --verbose -v --help -h' ;;
-    ::*:-*) words='--help -h --version -V' ;;
-    ::* | :help:0:*) words='plan explain check domains gather help' ;;
-    :plan:0:* | :check:0:* | :domains:0:* | :explain:1:*) compopt -o default ;;
+    ::*:-*) words='--verbose -v --help -h --version -V' ;;
+    ::* | :help:0:*) words='plan explain expand check domains gather help' ;;
+    :plan:0:* | :check:0:* | :domains:0:* | :explain:1:* | :expand:[1-9]*:*) compopt -o default ;;
   esac
   mapfile -t COMPREPLY < <(compgen -W "$words" -- "$current")
 }

@@ -1,7 +1,7 @@
 -- What the process ends with.
 use Rattle.std.specs.Prelude.{◌≡◌, ◌≢◌, ℕ}
 use Rattle.aliasplan_words.specs.declared.request.Request.{Request}
-use Rattle.aliasplan_words.specs.declared.request.Request.TheVariants.{Plan, Each, Domains, Check, Explain, Gather, Help, Unknown, Fault}
+use Rattle.aliasplan_words.specs.declared.request.Request.TheVariants.{Plan, Each, Domains, Check, Explain, Expand, Gather, Help, Unknown, Fault}
 use Rattle.aliasplan_command.specs.declared.status.Status.{Status}
 use Rattle.aliasplan_command.specs.declared.status.Status.TheVariants.{Done, Found, Refused, OutOfMemory, Broken, CommandLine}
 use Rattle.relay_job.specs.declared.fault.RunFault.{RunFault}
@@ -20,7 +20,7 @@ code_of TooManyPairs = 2
 code_of Write = 4
 code_of Memory = 3
 
--- 0 and 1 where the answer is written: a plan without findings and with them, an address that is in the plan and one that isn't; 5 where the command line asks for nothing that there is
+-- 0 and 1 where the answer is written: a plan without findings and with them, an address that is in the plan and one that isn't, an expansion that has addresses and one that has none; 5 where the command line asks for nothing that there is
 abbrev pub code_after : Status → ℕ
 code_after Done = 0
 code_after Found = 1
@@ -29,13 +29,14 @@ code_after OutOfMemory = 3
 code_after Broken = 4
 code_after CommandLine = 5
 
--- the command line is at fault where it asks for nothing that there is, and only there; only a plan and a check have findings, and only an explanation is of an address that isn't in the plan
+-- the command line is at fault where it asks for nothing that there is, and only there; only a plan and a check have findings, only an explanation is of an address that isn't in the plan, and only an expansion has no address
 abbrev pub IsStatusOf : Request → Status → Type 0
-IsStatusOf (Plan work output path detail) status = status ≢ CommandLine
+IsStatusOf (Plan work output job detail) status = status ≢ CommandLine
 IsStatusOf (Each work tables path detail) status = status ≢ CommandLine
-IsStatusOf (Domains work path detail) status = (status ≢ Found) × (status ≢ CommandLine)
-IsStatusOf (Check work scope path detail) status = status ≢ CommandLine
-IsStatusOf (Explain work asked path detail) status = status ≢ CommandLine
+IsStatusOf (Domains work job detail) status = (status ≢ Found) × (status ≢ CommandLine)
+IsStatusOf (Check work scope job detail) status = status ≢ CommandLine
+IsStatusOf (Explain work asked job detail) status = status ≢ CommandLine
+IsStatusOf (Expand work expansion job detail) status = status ≢ CommandLine
 IsStatusOf (Gather paths detail) status = (status ≢ Found) × (status ≢ CommandLine)
 IsStatusOf Help status = status ≡ Done
 IsStatusOf Unknown status = status ≡ CommandLine

@@ -5,18 +5,21 @@ ghost use Rattle.aliasplan_command.specs.Statuses.{code_of, code_after, IsStatus
 
 use crate::check_run::run_check;
 use crate::each_run::answer_each;
-use crate::explaining::{explain_file, explain_job, shown};
+use crate::explaining::{explain_alias_file, explain_job, shown};
 use crate::explaining_items::explain_items;
 use crate::file_source;
 use crate::file_source::{FileSource, MOST};
+use crate::headed::Headed;
+use crate::job_texts::{text_of_job, ungathered, unopened};
 use crate::standard_input::StandardInput;
+use crate::standard_output::StandardOutput;
 use crate::status::Status;
 use aliasplan::{
-    Crew, Device, Feed, Gate, Limits, NoGate, Paths, RunFault, Sink, SourceFault, gather, run,
-    run_domains, run_returns,
+    Crew, Device, Feed, Gate, Limits, NoGate, Paths, RunFault, Sink, gather, run, run_domains,
+    run_returns,
 };
-use aliasplan_explain::run_explain;
-use aliasplan_words::{Detail, Output, Request, Work};
+use aliasplan_explain::{run_expand, run_explain};
+use aliasplan_words::{Detail, Expansion, JobSource, NamedJob, Output, Request, Work};
 use relay_explain::Asked;
 use relay_text::Text;
 use std::io;
@@ -65,6 +68,33 @@ fn explained<G: Gate, R: Threads + Sync, F: Feed, S: Sink>(
     Ok(status_where(in_plan))
 }
 
+/// What a run ends with that wrote so many lines of an expansion.
+fn status_of_lines(lines: usize) -> Status
+    ensures { (lines ≢ 0 → result ≡ Status.Done) × (lines ≡ 0 → result ≡ Status.Found) }
+{
+    if lines == 0 {
+        Status::Found
+    } else {
+        Status::Done
+    }
+}
+
+/// What becomes of names and addresses that are expanded by the job that a reader gives.
+fn expanded<G: Gate, R: Threads + Sync, F: Feed, S: Sink>(
+    crew: &Crew<G, R>,
+    reader: &mut F,
+    writer: &mut S,
+    expansion: &Expansion,
+) -> Result<Status, RunFault>
+    requires reader { (F.has_failed reader.old ≡ false) × (F.has_ended reader.old ≡ false) }
+    requires writer { S.has_failed writer.old ≡ false }
+    ensures { IfOk result (λ status. status ≢ Status.CommandLine) }
+{
+    let asked = expansion.asked.as_slice();
+    let lines = run_expand(crew, reader, writer, asked, expansion.with_senders)?;
+    Ok(status_of_lines(lines))
+}
+
 /// What becomes of the answer to the job that a reader gives, which is written.
 fn written<G: Gate, R: AllocGlobal + Threads + Sync, F: Feed, S: Sink>(
     crew: &Crew<G, R>,
@@ -96,11 +126,12 @@ fn written<G: Gate, R: AllocGlobal + Threads + Sync, F: Feed, S: Sink>(
             return Ok(status_of(findings));
         }
         Output::Explain(asked) => return explained(crew, reader, writer, asked),
+        Output::Expand(expansion) => return expanded(crew, reader, writer, expansion),
     };
     Ok(status_of(summary.findings))
 }
 
-/// What becomes of the answer to a job on standard output.
+/// What becomes of the answer to a job on standard output. Where the reader of that has gone away, nothing is to be said.
 fn planned<R: Print + Eprint + AllocGlobal + Threads + Sync, J: Read + Drop>(
     rt: &R,
     job: J,
@@ -112,7 +143,7 @@ fn planned<R: Print + Eprint + AllocGlobal + Threads + Sync, J: Read + Drop>(
     ensures domains { output.entry ≡ Output.Domains → IfOk result (λ status. status ≢ Status.Found) }
 {
     let mut reader = Device::new(job);
-    let mut writer = Device::new(io::writer(rt));
+    let mut standard_output = StandardOutput::new(io::writer(rt));
     let crew = Crew {
         rt,
         alloc: rt.alloc(),
@@ -120,7 +151,11 @@ fn planned<R: Print + Eprint + AllocGlobal + Threads + Sync, J: Read + Drop>(
         limits: work.limits,
         gate: &NoGate,
     };
-    written(&crew, &mut reader, &mut writer, output)
+    let mut writer = Device::new(&mut standard_output);
+    match written(&crew, &mut reader, &mut writer, output) {
+        Err(RunFault::Write) if standard_output.has_lost_reader() => Ok(Status::Broken),
+        answer => answer,
+    }
 }
 
 /// Answers to the job that a reader gives.
@@ -134,17 +169,23 @@ fn plan<R: Print + Eprint + AllocGlobal + Threads + Sync, J: Read + Drop>(
     ensures asked { result ≢ Status.CommandLine }
     ensures domains { output.entry ≡ Output.Domains → result ≢ Status.Found }
 {
-    match planned(rt, job, work, output) {
+    let mut reader = Headed::new(job, Vec::new(rt.alloc()));
+    match planned(rt, &mut reader, work, output) {
         Ok(status) => status,
-        Err(fault) => refused(rt, fault),
+        Err(fault) => {
+            let status = refused(rt, fault);
+            explain_alias_file(rt, reader.head(), fault);
+            status
+        }
     }
 }
 
 /// All bytes that a reader of this name gives, or what the process ends with, which is said.
-fn read_whole<R: Eprint + AllocGlobal, J: Read + Drop>(
+pub(crate) fn read_whole<R: Eprint + AllocGlobal, J: Read + Drop>(
     rt: &R,
     job: J,
     name: &str,
+    detail: Detail,
 ) -> Result<Vec<u8>, Status>
     ensures { IfErr result (λ status. (status ≢ Status.Found) × (status ≢ Status.CommandLine)) }
 {
@@ -154,7 +195,9 @@ fn read_whole<R: Eprint + AllocGlobal, J: Read + Drop>(
         Err(error) if error.kind() == ErrorKind::OutOfMemory => Err(refused(rt, RunFault::Memory)),
         Err(error) => {
             let status = refused(rt, RunFault::Read);
-            let _ = eprintln!(rt; "aliasplan: {name}: {error}");
+            if detail == Detail::Culprit {
+                let _ = eprintln!(rt; "aliasplan: {name}: {error}");
+            }
             Err(status)
         }
     }
@@ -173,7 +216,9 @@ fn plan_bytes<R: Print + Eprint + AllocGlobal + Threads + Sync>(
 {
     match planned(rt, bytes, work, output) {
         Ok(status) => {
-            if status == Status::Found && !matches!(output, Output::Explain(_)) {
+            if status == Status::Found
+                && !matches!(output, Output::Explain(_) | Output::Expand(_))
+            {
                 explain_items(rt, bytes);
             }
             status
@@ -181,6 +226,7 @@ fn plan_bytes<R: Print + Eprint + AllocGlobal + Threads + Sync>(
         Err(fault) => {
             let status = refused(rt, fault);
             explain_job(rt, bytes, fault);
+            explain_alias_file(rt, bytes, fault);
             status
         }
     }
@@ -199,7 +245,7 @@ fn plan_verbosely<R: Print + Eprint + AllocGlobal + Threads + Sync, J: Read + Dr
     ensures asked { result ≢ Status.CommandLine }
     ensures domains { output.entry ≡ Output.Domains → result ≢ Status.Found }
 {
-    match read_whole(rt, job, name) {
+    match read_whole(rt, job, name, Detail::Culprit) {
         Ok(bytes) => plan_bytes(rt, bytes.as_slice(), work, output),
         Err(status) => status,
     }
@@ -240,21 +286,14 @@ fn plan_file<R: Files + Print + Eprint + AllocGlobal + Threads + Sync>(
             Detail::Line => plan(rt, file, work, output),
             Detail::Culprit => plan_verbosely(rt, file, shown(path.as_bytes()), work, output),
         },
-        Err(SourceFault::Memory) => refused(rt, RunFault::Memory),
-        Err(_) => {
-            let status = refused(rt, RunFault::Read);
-            if detail == Detail::Culprit {
-                explain_file(rt, path.as_bytes());
-            }
-            status
-        }
+        Err(fault) => unopened(rt, path, fault, detail),
     }
 }
 
-/// Answers to the job in the file of a path, or on standard input where there is none.
-fn plan_named<R: Input + Files + Print + Eprint + AllocGlobal + Threads + Sync>(
+/// Answers to a job whose text is made before.
+fn plan_made<R: Input + Files + Print + Eprint + AllocGlobal + Threads + Sync>(
     rt: &R,
-    path: Option<&Text>,
+    job: &NamedJob,
     work: Work,
     output: Output<'_>,
     detail: Detail,
@@ -263,9 +302,31 @@ fn plan_named<R: Input + Files + Print + Eprint + AllocGlobal + Threads + Sync>(
     ensures asked { result ≢ Status.CommandLine }
     ensures domains { output.entry ≡ Output.Domains → result ≢ Status.Found }
 {
-    match path {
-        None => plan_input(rt, work, output, detail),
-        Some(path) => plan_file(rt, path, work, output, detail),
+    match text_of_job(rt, job, work.limits.bytes, detail) {
+        Ok(text) => match detail {
+            Detail::Line => plan(rt, text.as_bytes(), work, output),
+            Detail::Culprit => plan_bytes(rt, text.as_bytes(), work, output),
+        },
+        Err(status) => status,
+    }
+}
+
+/// Answers to a job by its name. One in a file or on standard input is read as it comes, unless it gets another envelope.
+fn plan_named<R: Input + Files + Print + Eprint + AllocGlobal + Threads + Sync>(
+    rt: &R,
+    job: &NamedJob,
+    work: Work,
+    output: Output<'_>,
+    detail: Detail,
+) -> Status
+    requires { IsWork work }
+    ensures asked { result ≢ Status.CommandLine }
+    ensures domains { output.entry ≡ Output.Domains → result ≢ Status.Found }
+{
+    match (&job.source, &job.envelope) {
+        (JobSource::Input, None) => plan_input(rt, work, output, detail),
+        (JobSource::File(path), None) => plan_file(rt, path, work, output, detail),
+        _ => plan_made(rt, job, work, output, detail),
     }
 }
 
@@ -282,14 +343,7 @@ fn answer_each_in<R: Files + Print + Eprint + AllocGlobal + Threads + Sync>(
 {
     match file_source::open(rt, path.as_bytes()) {
         Ok(file) => answer_each(rt, work, tables, file),
-        Err(SourceFault::Memory) => refused(rt, RunFault::Memory),
-        Err(_) => {
-            let status = refused(rt, RunFault::Read);
-            if detail == Detail::Culprit {
-                explain_file(rt, path.as_bytes());
-            }
-            status
-        }
+        Err(fault) => unopened(rt, path, fault, detail),
     }
 }
 
@@ -318,18 +372,14 @@ fn gather_job<R: Files + Print + Eprint + AllocGlobal>(
     ensures { (result ≢ Status.Found) × (result ≢ Status.CommandLine) }
 {
     let mut source = FileSource::new(rt);
-    let mut writer = Device::new(io::writer(rt));
+    let mut standard_output = StandardOutput::new(io::writer(rt));
+    let mut writer = Device::new(&mut standard_output);
     let most = Limits::default().bytes;
-    let Err(fault) = gather(rt.alloc(), &mut source, paths, &mut writer, most) else {
-        return Status::Done;
-    };
-    let status = refused(rt, fault);
-    if detail == Detail::Culprit && fault == RunFault::Read {
-        if let Some(path) = source.failed() {
-            explain_file(rt, path);
-        }
+    match gather(rt.alloc(), &mut source, paths, &mut writer, most) {
+        Ok(()) => Status::Done,
+        Err(RunFault::Write) if standard_output.has_lost_reader() => Status::Broken,
+        Err(fault) => ungathered(rt, &source, fault, detail),
     }
-    status
 }
 
 /// Answers to a request: writes what is asked for on standard output, and says on standard error why it can't.
@@ -341,20 +391,21 @@ pub fn answer<R: Input + Files + Print + Eprint + AllocGlobal + Threads + Sync>(
     ensures { IsStatusOf request.now result }
 {
     match request {
-        Request::Plan(work, output, path, detail) => {
-            plan_named(rt, path.as_ref(), *work, *output, *detail)
-        }
+        Request::Plan(work, output, job, detail) => plan_named(rt, job, *work, *output, *detail),
         Request::Each(work, tables, path, detail) => {
             answer_each_named(rt, path.as_ref(), *work, tables.as_ref(), *detail)
         }
-        Request::Domains(work, path, detail) => {
-            plan_named(rt, path.as_ref(), *work, Output::Domains, *detail)
+        Request::Domains(work, job, detail) => {
+            plan_named(rt, job, *work, Output::Domains, *detail)
         }
-        Request::Check(work, scope, path, detail) => {
-            plan_named(rt, path.as_ref(), *work, Output::Check(*scope), *detail)
+        Request::Check(work, scope, job, detail) => {
+            plan_named(rt, job, *work, Output::Check(*scope), *detail)
         }
-        Request::Explain(work, asked, path, detail) => {
-            plan_named(rt, path.as_ref(), *work, Output::Explain(asked), *detail)
+        Request::Explain(work, asked, job, detail) => {
+            plan_named(rt, job, *work, Output::Explain(asked), *detail)
+        }
+        Request::Expand(work, expansion, job, detail) => {
+            plan_named(rt, job, *work, Output::Expand(expansion), *detail)
         }
         Request::Gather(paths, detail) => gather_job(rt, paths, *detail),
         Request::Help => Status::Done,

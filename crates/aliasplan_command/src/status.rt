@@ -8,9 +8,10 @@ use relay_job::RunFault;
 #[derive(Clone, Copy, Debug, PartialEq, Eq)]
 pub enum Status {
     /// The plan is written and has no findings, or the domains are written, or the job is gathered, or an address is explained that is in
-    /// the plan.
+    /// the plan, or names and addresses are expanded to some address.
     Done,
-    /// The plan is written and has findings, or an address is explained that isn't in the plan.
+    /// The plan is written and has findings, or an address is explained that isn't in the plan, or names and addresses are
+    /// expanded to none.
     Found,
     /// The job is refused.
     Refused,

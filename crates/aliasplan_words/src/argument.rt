@@ -34,7 +34,7 @@ fn given<'a>(arg: Arg<'a>, kind: &Kind) -> Arg<'a> {
 fn placed<'a>(arg: Arg<'a>, argument: &Argument) -> Arg<'a> {
     match argument.position {
         Position::Option => arg.long(argument.name),
-        Position::LetteredOption(letter) => arg.long(argument.name).short(letter),
+        Position::GlobalOption(letter) => arg.long(argument.name).short(letter).global(true),
         Position::Operand => arg,
         Position::RequiredOperand => arg.required(true),
     }

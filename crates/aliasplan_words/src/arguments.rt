@@ -82,7 +82,7 @@ pub(crate) const ALL: Argument = Argument {
 
 pub(crate) const VERBOSE: Argument = Argument {
     name: "verbose",
-    position: Position::LetteredOption('v'),
+    position: Position::GlobalOption('v'),
     kind: Kind::Flag,
     help: "Where there is a fault, says on a second line which line or file has it, and why",
 };
@@ -92,6 +92,34 @@ pub(crate) const ADDRESS: Argument = Argument {
     position: Position::RequiredOperand,
     kind: Kind::Address,
     help: "The address or local name that is asked for",
+};
+
+pub(crate) const FROM: Argument = Argument {
+    name: "from",
+    position: Position::Option,
+    kind: Kind::Path,
+    help: "With --to: the sender, in place of the envelope's; <> is the null sender, as where it isn't said",
+};
+
+pub(crate) const TO: Argument = Argument {
+    name: "to",
+    position: Position::Option,
+    kind: Kind::Paths,
+    help: "A recipient, in place of the envelope's; a name without a domain is one at the origin",
+};
+
+pub(crate) const SENDERS: Argument = Argument {
+    name: "senders",
+    position: Position::Option,
+    kind: Kind::Flag,
+    help: "Writes each address behind each sender under which it is reached, with a tab between them",
+};
+
+pub(crate) const ADDRESSES: Argument = Argument {
+    name: "addresses",
+    position: Position::RequiredOperand,
+    kind: Kind::Addresses,
+    help: "The addresses and local names, and behind them FILE, which the job is read from; - is standard input, as is no FILE",
 };
 
 pub(crate) const JOB_FILE: Argument = Argument {

@@ -1,9 +1,11 @@
 //! The commands of the program, each with the arguments that it takes.
 use crate::arguments::{
-    ADDRESS, ALIASES, ALL, CUT, EACH, ENVELOPE, FORM, JOB_FILE, MAILBOXES, MAX_BYTES, MAX_NAMES,
-    MAX_OWNERS, MAX_PAIRS, MX, RETURNS, SETTINGS, TABLES, TRANSPORT, VERBOSE, WORKERS,
+    ADDRESS, ADDRESSES, ALL, EACH, FORM, JOB_FILE, RETURNS, SENDERS, TABLES, VERBOSE,
 };
-use crate::help::{AFTER_CHECK, AFTER_DOMAINS, AFTER_EXPLAIN, AFTER_GATHER, AFTER_PLAN};
+use crate::group::Group;
+use crate::help::{
+    AFTER_CHECK, AFTER_DOMAINS, AFTER_EXPAND, AFTER_EXPLAIN, AFTER_GATHER, AFTER_PLAN,
+};
 use crate::subcommand::Subcommand;
 use clap::Command;
 use std::alloc::{AllocError, Global};
@@ -12,48 +14,48 @@ use std::alloc::{AllocError, Global};
 const VERSION: &str = "0.1.0, proved in logic dac8208d650f15bf of the Rattle kit";
 
 /// The commands, and the arguments of each, in the order in which the help has them.
-const SUBCOMMANDS: [Subcommand; 5] = [
+const SUBCOMMANDS: [Subcommand; 6] = [
     Subcommand {
         name: "plan",
         about: "Reads a job and writes its plan on standard output",
         after_help: AFTER_PLAN,
-        arguments: &[
-            WORKERS, CUT, MAX_BYTES, MAX_NAMES, MAX_OWNERS, MAX_PAIRS, FORM, RETURNS, EACH, TABLES,
-            VERBOSE, JOB_FILE,
-        ],
+        arguments: &[FORM, RETURNS, EACH, TABLES, JOB_FILE],
+        groups: &[Group::Work, Group::Envelope, Group::Files],
     },
     Subcommand {
         name: "explain",
         about: "Reads a job and writes why an address is in its plan, or isn't",
         after_help: AFTER_EXPLAIN,
-        arguments: &[
-            WORKERS, CUT, MAX_BYTES, MAX_NAMES, MAX_OWNERS, MAX_PAIRS, VERBOSE, ADDRESS, JOB_FILE,
-        ],
+        arguments: &[ADDRESS, JOB_FILE],
+        groups: &[Group::Work, Group::Envelope, Group::Files],
+    },
+    Subcommand {
+        name: "expand",
+        about: "Reads a job and writes the addresses that names and addresses expand to",
+        after_help: AFTER_EXPAND,
+        arguments: &[SENDERS, ADDRESSES],
+        groups: &[Group::Work, Group::Files],
     },
     Subcommand {
         name: "check",
         about: "Reads a job and writes what is wrong with its files and tables",
         after_help: AFTER_CHECK,
-        arguments: &[
-            ALL, WORKERS, CUT, MAX_BYTES, MAX_NAMES, MAX_OWNERS, MAX_PAIRS, VERBOSE, JOB_FILE,
-        ],
+        arguments: &[ALL, JOB_FILE],
+        groups: &[Group::Work, Group::Files],
     },
     Subcommand {
         name: "domains",
         about: "Reads a job and writes the names whose mail exchangers it asks for",
         after_help: AFTER_DOMAINS,
-        arguments: &[
-            WORKERS, CUT, MAX_BYTES, MAX_NAMES, MAX_OWNERS, MAX_PAIRS, VERBOSE, JOB_FILE,
-        ],
+        arguments: &[JOB_FILE],
+        groups: &[Group::Work, Group::Envelope, Group::Files],
     },
     Subcommand {
         name: "gather",
         about: "Writes the job of files that lie apart on standard output",
         after_help: AFTER_GATHER,
-        // Each file has the name of its section.
-        arguments: &[
-            SETTINGS, ALIASES, MAILBOXES, TRANSPORT, MX, ENVELOPE, VERBOSE,
-        ],
+        arguments: &[],
+        groups: &[Group::Files],
     },
 ];
 
@@ -62,7 +64,8 @@ fn program<'a>(alloc: Global) -> Result<Command<'a>, AllocError> {
         .about("Plans the delivery of a message to aliases and mailing lists")
         .version(VERSION)
         .subcommand_required(true)
-        .bin_name("aliasplan")
+        .bin_name("aliasplan")?
+        .arg(VERBOSE.to_clap(alloc))
 }
 
 /// The program's command with these below it.

@@ -12,6 +12,12 @@ pub(crate) enum Kind {
     Form,
     /// An address or a local name.
     Address,
+    /// Addresses and local names, behind which the path of a file may stand.
+    Addresses,
+    /// A path as in SMTP.
+    Path,
+    /// A path as in SMTP each time that it stands there.
+    Paths,
     /// The path of a file.
     File,
     /// The path of a file each time that it stands there.
@@ -23,7 +29,7 @@ impl Kind {
     pub(crate) fn action(&self) -> ArgAction {
         match self {
             Kind::Flag => ArgAction::SetTrue,
-            Kind::Files => ArgAction::Append,
+            Kind::Files | Kind::Paths | Kind::Addresses => ArgAction::Append,
             _ => ArgAction::Set,
         }
     }
@@ -34,7 +40,8 @@ impl Kind {
             Kind::Flag => &[],
             Kind::Number(_) => &["N"],
             Kind::Form => &["FORM"],
-            Kind::Address => &["ADDRESS"],
+            Kind::Address | Kind::Addresses => &["ADDRESS"],
+            Kind::Path | Kind::Paths => &["PATH"],
             Kind::File | Kind::Files => &["FILE"],
         }
     }

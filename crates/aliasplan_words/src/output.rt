@@ -1,4 +1,5 @@
 //! The kinds of answer to a job.
+use crate::expansion::Expansion;
 use crate::scope::Scope;
 use relay_explain::Asked;
 
@@ -15,4 +16,6 @@ pub enum Output<'a> {
     Check(Scope),
     /// Why a name or an address is in its plan, or isn't.
     Explain(&'a Asked),
+    /// What names and addresses expand to.
+    Expand(&'a Expansion),
 }

@@ -4,8 +4,8 @@
 pub(crate) enum Position {
     /// Behind its long name.
     Option,
-    /// Behind its long name or this letter.
-    LetteredOption(char),
+    /// Behind its long name or this letter, in front of a command or behind it.
+    GlobalOption(char),
     /// By itself, if at all.
     Operand,
     /// By itself.

@@ -1,7 +1,7 @@
 //! The words of the command line, from the first to the request that they make.
 ghost use Rattle.aliasplan_words.specs.Requests.{IsRequest};
 
-use crate::asking::{explain_request, plan_request, request_of};
+use crate::asking::{gather_request, job_request};
 use crate::commands::command;
 use crate::refusing::{request_of_error, request_without_words};
 use crate::request::Request;
@@ -24,9 +24,8 @@ fn asked_by<R: Eprint + AllocGlobal>(rt: &R, matches: &ArgMatches<'_>, key: Text
     ensures { IsRequest result }
 {
     match matches.subcommand() {
-        Some(("plan", words)) => plan_request(rt, words, key),
-        Some(("explain", words)) => explain_request(rt, words, key),
-        Some((name, words)) => request_of(rt.alloc(), name, words, key),
+        Some(("gather", words)) => gather_request(rt.alloc(), words),
+        Some((name, words)) => job_request(rt, name, words, key),
         None => Request::Unknown,
     }
 }

@@ -5,13 +5,41 @@ ghost use Rattle.std.specs.declared.io.ErrorKind.TheVariants.{InvalidData};
 ghost use Rattle.clap.specs.Values.{kind_of};
 
 use crate::request::Request;
+use crate::values::names_files;
 use clap::ArgMatches;
 use clap::error::ErrorKind;
 use relay_job::RunFault;
 use std::io;
 
+/// Why words that say which job is read can't stand side by side, if they can't.
+fn clash_of_job(words: &ArgMatches<'_>) -> Option<&'static str> {
+    let has_sender = words.contains_id("from");
+    let has_recipient = words.contains_id("to");
+    if words.contains_id("file") && names_files(words) {
+        Some(
+            "FILE stands without --settings, --aliases, --mailboxes, --transport, --mx and --envelope",
+        )
+    } else if words.contains_id("envelope") && (has_sender || has_recipient) {
+        Some("--from and --to stand without --envelope")
+    } else if has_sender && !has_recipient {
+        Some("--from stands with --to alone")
+    } else if words.get_flag("each") && (has_recipient || names_files(words)) {
+        Some("--each takes no --from and --to, and no files that lie apart")
+    } else {
+        None
+    }
+}
+
+/// Why words after a command that reads a job can't stand side by side, if they can't.
+pub(crate) fn clash_of(words: &ArgMatches<'_>) -> Option<&'static str> {
+    match clash_of_plan(words) {
+        Some(clash) => Some(clash),
+        None => clash_of_job(words),
+    }
+}
+
 /// Why words after `plan` can't stand side by side, if they can't.
-pub(crate) fn clash_of(plan: &ArgMatches<'_>) -> Option<&'static str> {
+fn clash_of_plan(plan: &ArgMatches<'_>) -> Option<&'static str> {
     let each = plan.get_flag("each");
     if plan.get_flag("returns") && matches!(plan.get_str("form"), Some("json")) {
         Some("--returns has no JSON form")

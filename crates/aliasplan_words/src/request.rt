@@ -1,5 +1,7 @@
 //! All that the program can be asked for.
 use crate::detail::Detail;
+use crate::expansion::Expansion;
+use crate::named_job::NamedJob;
 use crate::output::Output;
 use crate::scope::Scope;
 use crate::work::Work;
@@ -11,17 +13,19 @@ use relay_text::Text;
 /// What the command line asks for.
 #[derive(Drop)]
 pub enum Request {
-    /// A plan of the job in the file of this path, or on standard input where there is none.
-    Plan(Work, Output<'static>, Option<Text>, Detail),
+    /// A plan of a job.
+    Plan(Work, Output<'static>, NamedJob, Detail),
     /// The plans of envelopes, by the tables in the file of the first path, or where there is none, by those in front of the envelopes. These
-    /// are read likewise.
+    /// are in the file of the second path, or on standard input where there is none.
     Each(Work, Option<Text>, Option<Text>, Detail),
-    /// The domains that the job asks for, which is read likewise.
-    Domains(Work, Option<Text>, Detail),
-    /// What is wrong with the job's files and tables, which is read likewise.
-    Check(Work, Scope, Option<Text>, Detail),
-    /// Why a name or an address is in the job's plan, or isn't. The job is read likewise.
-    Explain(Work, Asked, Option<Text>, Detail),
+    /// The domains that a job asks for.
+    Domains(Work, NamedJob, Detail),
+    /// What is wrong with a job's files and tables.
+    Check(Work, Scope, NamedJob, Detail),
+    /// Why a name or an address is in a job's plan, or isn't.
+    Explain(Work, Asked, NamedJob, Detail),
+    /// What names and addresses expand to by a job's files and tables.
+    Expand(Work, Expansion, NamedJob, Detail),
     /// A job of the files of these paths.
     Gather(Paths, Detail),
     /// The help or the version, which is printed.

@@ -1,9 +1,11 @@
 //! What single words after a command say.
-ghost use Rattle.std.specs.Prelude.{◌≤◌};
+ghost use Rattle.std.specs.Prelude.{◌≡◌, ◌<◌, ◌≤◌, ◌++◌, true, false, length, None, IsSome};
+ghost use Rattle.std.specs.Option.{option_to_list};
 ghost use Rattle.relay_planning.specs.Limits.{AreOptions, AreLimits};
 ghost use Rattle.aliasplan_words.specs.Requests.{IsWork};
 
 use crate::detail::Detail;
+use crate::named_job::JobSource;
 use crate::output::Output;
 use crate::work::Work;
 use clap::ArgMatches;
@@ -107,18 +109,62 @@ fn paths_named(alloc: Global, words: &ArgMatches<'_>, name: &str) -> Result<Seq<
     Ok(Seq::of(paths))
 }
 
-/// The path of the job, `None` for standard input.
-pub(crate) fn job_path_of(
-    alloc: Global,
-    words: &ArgMatches<'_>,
-) -> Result<Option<Text>, AllocError> {
-    match words.get_str("file") {
-        Some("-") => Ok(None),
-        _ => path_of(alloc, words, "file"),
+/// The path of the job that a word names, `None` for standard input.
+pub(crate) fn job_path(alloc: Global, word: Option<&str>) -> Result<Option<Text>, AllocError> {
+    match word {
+        None | Some("-") => Ok(None),
+        Some(path) => Ok(Some(Text::copy_of(alloc, path.as_bytes())?)),
     }
 }
 
-/// The paths that the words after `gather` say.
+/// The options that name files which lie apart.
+const APART: [&str; 6] = [
+    "settings",
+    "aliases",
+    "mailboxes",
+    "transport",
+    "mx",
+    "envelope",
+];
+
+/// Whether the files that lie apart are named.
+pub(crate) fn names_files(words: &ArgMatches<'_>) -> bool {
+    APART.iter().any(|name| words.contains_id(name))
+}
+
+/// The operands of `expand` that are names and addresses, and the one that names a file: the last of two or more, where files that lie
+/// apart aren't named.
+pub(crate) fn names_and_file<'w>(
+    operands: &'w [&'w str],
+    has_files: bool,
+) -> (&'w [&'w str], Option<&'w str>)
+    ensures apart { has_files ≡ true → (result.0.now ≡ operands.entry.now) × (result.1 ≡ None) }
+    ensures name { length operands.entry.now ≤ 1 → (result.0.now ≡ operands.entry.now) × (result.1 ≡ None) }
+    ensures file { has_files ≡ false → 1 < length operands.entry.now → operands.entry.now ≡ result.0.now ++ option_to_list result.1 }
+    ensures named { has_files ≡ false → 1 < length operands.entry.now → IsSome result.1 }
+{
+    match operands.split_last() {
+        Some((file, names)) if !has_files && !names.is_empty() => (names, Some(*file)),
+        _ => (operands, None),
+    }
+}
+
+/// Where a job comes from, whose file this operand names where files that lie apart aren't named.
+pub(crate) fn source_of(
+    alloc: Global,
+    words: &ArgMatches<'_>,
+    file: Option<&str>,
+) -> Result<JobSource, AllocError> {
+    if names_files(words) {
+        return Ok(JobSource::Apart(paths_of(alloc, words)?));
+    }
+    Ok(match job_path(alloc, file)? {
+        Some(path) => JobSource::File(path),
+        None => JobSource::Input,
+    })
+}
+
+/// The paths of files that lie apart which words say.
 pub(crate) fn paths_of(alloc: Global, gather: &ArgMatches<'_>) -> Result<Paths, AllocError> {
     Ok(Paths {
         settings: path_of(alloc, gather, "settings")?,

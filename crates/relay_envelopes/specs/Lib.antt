@@ -1,4 +1,5 @@
 pub mod Headings
+pub mod Replaced
 pub mod Sections
 pub mod EachText
 pub mod EachJson

@@ -2,8 +2,8 @@
 //!
 //! Settings, files and tables stand first, as in a job. Behind them each envelope has a section, whose heading has an ID in place of
 //! nothing behind `%envelope`, and which `%end` may end. `heading` reads the ID of a heading, `parts` finds where the tables end and the section of each envelope
-//! stands; `writing` has the lines that stand round the plans of envelopes, and `json_lines` the objects that stand in their place. `joining` has the law that makes a job of the tables and a
-//! section.
+//! stands; `writing` has the lines that stand round the plans of envelopes, and `json_lines` the objects that stand in their place.
+//! `joining` has the law that makes a job of the tables and a section, and `replacing` gives a job another envelope.
 #![tactic(auto)]
 
 pub mod counts;
@@ -12,6 +12,7 @@ pub mod joining;
 pub mod json_lines;
 pub mod parts;
 pub mod refusal;
+pub mod replacing;
 pub mod section;
 pub mod writing;
 
@@ -24,5 +25,6 @@ pub use json_lines::{
 };
 pub use parts::{envelopes_place, find_envelopes};
 pub use refusal::Refusal;
+pub use replacing::replace_envelope;
 pub use section::EnvelopeSection;
 pub use writing::{put_done, put_envelope, put_refusal, put_tables};

@@ -1,0 +1,11 @@
+//! What is to be expanded.
+use relay_explain::Asked;
+use relay_text::Seq;
+
+/// Names and addresses that are to be expanded.
+#[derive(Drop)]
+pub struct Expansion {
+    pub asked: Seq<Asked>,
+    /// Whether each address stands behind its sender.
+    pub with_senders: bool,
+}
