@@ -1,47 +1,46 @@
 -- What a run over envelopes that come beside the tables has written, and why it refuses.
-use Rattle.std.proofs.Common.{◌≡◌, ℕ, ◌+◌, false, List, [], ◌∷◌, ◌++◌, length, map, take, inl, inr, Option, Some, None, Ok, Err, refl, sym, ap, subst, ◌∙◌, arith}
-use Rattle.std.specs.List.{Contains, flat_map}
+use Rattle.std.proofs.Common.{◌≡◌, ◌≤◌, ℕ, ◌+◌, ◌-◌, ◌^◌, Bool, true, false, not, cond, ◌&&◌, List, [], ◌∷◌, ◌++◌, length, map, take, Option, Some, None, Ok, Err, refl, sym, ap, subst, ◌∙◌}
+use Rattle.std.specs.List.{list_all, list_any, flat_map, fold}
 use Rattle.std.specs.Option.{IfSome}
 use Rattle.std.specs.Result.{IfOk, IfErr}
 use Rattle.std.specs.declared.result.Result.{Result}
 use Rattle.std.specs.Io.KnownBytes.{Appends}
 use Rattle.std.proofs.KnownBytes.{Appends-nil, Appends-trans}
 use Rattle.std.proofs.Math.Seq.{take-append-add}
-use Rattle.std.proofs.lemmas.List.{append-nil}
-use Rattle.std.proofs.lemmas.List.Elements.{All-head, Contains-push_cases}
+use Rattle.std.proofs.lemmas.List.{append-nil, map-append}
+use Rattle.std.proofs.lemmas.List.Concat.{flat_map-append}
+use Rattle.relay_text.specs.Bytes.{is_white}
 use Rattle.relay_job.specs.declared.job.Job.{Job}
 use Rattle.relay_job.specs.declared.fault.RunFault.{RunFault}
 use Rattle.relay_job.specs.declared.fault.RunFault.TheVariants.{Read, TooLong, BadJob, BadSetting, BadEnvelope, TooManyNames, TooManyOwners, TooManyPairs, Write, Memory}
-use Rattle.relay_job.specs.JobText.{job_lines, job_unless, sections_of}
+use Rattle.relay_job.specs.JobText.{JobLine, job_lines, text_of, job_unless, sections_of}
 use Rattle.relay_job.specs.Tables.{without_envelope, tables_fault, tables_of, AreTablesWithin}
+use Rattle.relay_job.proofs.JoinedLines.{neither-any}
 use Rattle.relay_envelopes.specs.declared.counts.EnvelopeCounts.{EnvelopeCounts}
-use Rattle.relay_envelopes.specs.Sections.{Section, bad_envelopes}
+use Rattle.relay_envelopes.specs.declared.kind.LineKind.TheVariants.{Tables, Envelope, End, Blank, Other}
+use Rattle.relay_envelopes.specs.Headings.{is_envelope_word, is_end, is_tables}
+use Rattle.relay_envelopes.specs.Kinds.{is_long, kind_of}
+use Rattle.relay_envelopes.specs.Sections.{Section}
 use Rattle.aliasplan_each.specs.Forms.{tables_text_in, done_text_in}
 use Rattle.relay_planning.specs.declared.options.Form.{Form}
 use Rattle.relay_planning.specs.declared.options.Limits.{Limits}
-use Rattle.aliasplan.specs.Outcomes.{AreTableCountsWithin, HasRefusedTables}
+use Rattle.aliasplan.specs.Outcomes.{AreTableCountsWithin, HasRefusedTables, IsReadFault}
 use Rattle.aliasplan.specs.Transfers.{Fronts}
 use Rattle.aliasplan_each.specs.declared.summary.EachSummary.{EachSummary}
-use Rattle.aliasplan_each.specs.Blocks.{Block, no_counts, AreBlocks}
+use Rattle.aliasplan_each.specs.Asks.{Ask, planned, asked_at, section_of, behind, asks_from, asks_in, has_tables, sections_in}
+use Rattle.aliasplan_each.specs.Asks.Ask.{plan}
+use Rattle.aliasplan_each.specs.Blocks.{Block, no_counts, with_outcome, AreBlocks}
 use Rattle.aliasplan_each.specs.Blocks as blocks
 use Rattle.aliasplan_each.specs.Runs.{IsEachAnswer}
-use Rattle.aliasplan_each.specs.Beside.{sections_in, PlansBeside, RefusesBeside, IsDue, WritesBesideFront}
+use Rattle.aliasplan_each.specs.Beside.{PlansBeside, RefusesBeside, IsDue, WritesBesideFront}
 use Rattle.aliasplan_each.specs.Beside.IsDue.{nothing as due_nothing, some as due_some, whole as due_whole}
 use Rattle.aliasplan_each.specs.BesideSteps.{IsWriteFault, WritesFindings, FrontsFindings}
-use Rattle.aliasplan_each.specs.Feeding.{RefusesLines}
 use Rattle.aliasplan_each.specs.Given.{Given}
-use Rattle.aliasplan_each.specs.Replies.{Ask, Reply, plans_in, asks_in, texts_of, counts_of, coming_behind, AreReplies, AnswersAsks, PlansChanging, IsDueChanging, WritesChangingFront, RefusesChanging}
-use Rattle.aliasplan_each.specs.Replies.Ask.{plan, change}
+use Rattle.aliasplan_each.specs.Replies.{Reply, texts_of, with_reply, counts_of, coming_behind, AreReplies, AnswersAsks, PlansChanging, IsDueChanging, WritesChangingFront}
 use Rattle.aliasplan_each.specs.Replies.Reply.{block, changed}
 use Rattle.aliasplan_each.specs.Replies.IsDueChanging.{nothing, some, whole}
-use Rattle.aliasplan_each.specs.Replies.RefusesChanging.{stretch, many}
-use Rattle.aliasplan_each.specs.ReplySteps.{RepliesToAll, FrontsReplies, RefusesStretches}
-use Rattle.aliasplan_each.specs.ReplySteps.RefusesStretches.{stretch as stretch_so, many as many_so, other as other_so}
-use Rattle.aliasplan_each.specs.Stretches.{has_tables, first_stretch, later_stretches, stretches_of}
+use Rattle.aliasplan_each.specs.ReplySteps.{RepliesToAll, FrontsReplies}
 use Rattle.aliasplan_each.proofs.BesideFacts.{AreBlocks-none, AreBlocks-one, AreBlocks-more}
-use Rattle.aliasplan_each.proofs.FeedingFacts.{bad-is}
-use Rattle.aliasplan_each.proofs.ReplyFacts.{replied, texts-replied, counts-replied, Contains-first}
-use Rattle.aliasplan_each.proofs.StretchFacts.{first-whole-stretch, later-none}
 
 -- Tables that a text alone gives have no envelope.
 alone : (fault : Option RunFault) (read tables : Job) → job_unless fault (without_envelope read) ≡ Ok tables → without_envelope tables ≡ tables
@@ -122,7 +121,6 @@ module _ (limits : Limits) (form : Form) (tables : Job) (coming : ℕ → Given)
     pub plans : AreTableCountsWithin limits tables → Appends late new (done_text_in form counts) → PlansChanging limits form tables coming input old new (record { findings = count; counts = counts })
     plans few w = record {
       few = few;
-      unbroken = k.unbroken;
       text = body;
       due = answered;
       written = Appends-trans old late new body (done_text_in form counts) begun w;
@@ -142,7 +140,7 @@ module _ (limits : Limits) (tables : Job) (input : List ℕ) where
   refused-tables (BadEnvelope number) h = absurd h
   refused-tables TooManyPairs h = absurd h
 
-  refused-write : (fault : RunFault) → IsWriteFault fault → RefusesBeside limits tables input fault
+  pub refused-write : (fault : RunFault) → IsWriteFault fault → RefusesBeside limits tables input fault
   refused-write Write h = tt
   refused-write Memory h = tt
   refused-write Read h = absurd h
@@ -154,29 +152,34 @@ module _ (limits : Limits) (tables : Job) (input : List ℕ) where
   refused-write TooManyOwners h = absurd h
   refused-write TooManyPairs h = absurd h
 
-  refused-lines : (fault : RunFault) → RefusesLines limits.bytes None (job_lines input) fault → RefusesBeside limits tables input fault
-  refused-lines Read h = tt
-  refused-lines TooLong h = h
-  refused-lines (BadJob number) h = bad-is (job_lines input) ∙ h
-  refused-lines (BadSetting number) h = absurd h
-  refused-lines (BadEnvelope number) h = absurd h
-  refused-lines TooManyNames h = absurd h
-  refused-lines TooManyOwners h = absurd h
-  refused-lines TooManyPairs h = absurd h
-  refused-lines Write h = absurd h
-  refused-lines Memory h = tt
+  pub refused-read : (fault : RunFault) → IsReadFault fault → (fault ≡ TooLong → 2 ^ 64 - 1 ≤ length input) → RefusesBeside limits tables input fault
+  refused-read Read h long = tt
+  refused-read Memory h long = tt
+  refused-read TooLong h long = long refl
+  refused-read Write h long = absurd h
+  refused-read (BadJob number) h long = absurd h
+  refused-read (BadSetting number) h long = absurd h
+  refused-read (BadEnvelope number) h long = absurd h
+  refused-read TooManyNames h long = absurd h
+  refused-read TooManyOwners h long = absurd h
+  refused-read TooManyPairs h long = absurd h
 
-module _ (limits : Limits) (tables : Job) (input : List ℕ) where
-  first-within : (fault : RunFault) → RefusesBeside limits tables (first_stretch limits.bytes input) fault → RefusesChanging limits tables input fault
-  first-within fault h = stretch (first_stretch limits.bytes input) (Contains-first (first_stretch limits.bytes input) (later_stretches limits.bytes input)) h
+-- the same of bytes that may be known
+pub known-read : (limits : Limits) (tables : Job) (remaining : Option (List ℕ)) (fault : RunFault) → IsReadFault fault → (fault ≡ TooLong → IfSome remaining (λ input. 2 ^ 64 - 1 ≤ length input)) → IfSome remaining (λ input. RefusesBeside limits tables input fault)
+known-read limits tables None fault h long = tt
+known-read limits tables (Some input) fault h long = refused-read limits tables input fault h long
 
-  pub changing-tables : (fault : RunFault) → HasRefusedTables limits tables fault → RefusesChanging limits tables input fault
-  changing-tables fault h = first-within fault (refused-tables limits tables (first_stretch limits.bytes input) fault h)
+-- The blocks of some replies, and the replies that are blocks.
+abbrev replied : List Block → List Reply
+replied bs = map block bs
 
-  pub changing-refused : (fault : RunFault) → RefusesStretches limits input fault → RefusesChanging limits tables input fault
-  changing-refused fault (stretch_so bytes is h) = stretch bytes is (refused-lines limits tables bytes fault h)
-  changing-refused fault (many_so is h) = many is h
-  changing-refused fault (other_so h) = first-within fault (refused-write limits tables (first_stretch limits.bytes input) fault h)
+texts-replied : (bs : List Block) → texts_of (replied bs) ≡ blocks.texts_of bs
+texts-replied [] = refl
+texts-replied (b ∷ bs) = ap (λ l. b.text ++ l) (texts-replied bs)
+
+counts-replied : (counts : EnvelopeCounts) (bs : List Block) → fold with_reply counts (replied bs) ≡ fold (λ counts b. with_outcome counts b.outcome) counts bs
+counts-replied counts [] = refl
+counts-replied counts (b ∷ bs) = counts-replied (with_outcome counts b.outcome) bs
 
 -- Replies to envelopes alone are blocks.
 module _ (limits : Limits) (form : Form) (tables : Job) where
@@ -244,66 +247,65 @@ module _ (limits : Limits) (form : Form) (tables : Job) where
         })
     plain-due sections text (whole summary front h e) = due_whole summary (rw e (plain-answer sections front summary h))
 
--- Where there is no `%tables`, there is one stretch, and each reply is a block.
-module _ (limits : Limits) (tables : Job) (input : List ℕ) (none : has_tables limits.bytes input ≡ false) where
-  abbrev first-is : first_stretch limits.bytes input ≡ input
-  first-is = first-whole-stretch limits.bytes input none
+-- Where there is no `%tables`, only envelopes are asked for.
+abbrev alone_of : List Ask → List Ask
+alone_of asks = map plan (flat_map section_of asks)
 
-  abbrev later-is : later_stretches limits.bytes input ≡ []
-  later-is = later-none limits.bytes input none
+alone-append : (a b : List Ask) → alone_of (a ++ b) ≡ alone_of a ++ alone_of b
+alone-append a b = ap (map plan) (flat_map-append section_of a b) ∙ map-append plan (flat_map section_of a) (flat_map section_of b)
 
-  only-stretch : (bytes : List ℕ) → Contains (stretches_of limits.bytes input) bytes → input ≡ bytes
-  only-stretch bytes h = elim (Contains-push_cases [] input bytes (subst (λ (ss : List (List ℕ)). Contains ss bytes) (ap (λ l. l ∷ later_stretches limits.bytes input) first-is ∙ ap (λ ss. input ∷ ss) later-is) h)) [
-    | inl gone ↦ absurd (let never : ⊥ = omega (arith, gone.1) in never)
-    | inr is ↦ is
-  ]
+alone-planned : (begun : Option Section) → alone_of (planned begun) ≡ planned begun
+alone-planned None = refl
+alone-planned (Some s) = refl
 
-  pub plain-refused : (fault : RunFault) → RefusesChanging limits tables input fault → RefusesBeside limits tables input fault
-  plain-refused fault (stretch bytes is h) = subst (λ l. RefusesBeside limits tables l fault) (sym (only-stretch bytes is)) h
-  plain-refused fault (many is h) = absurd (let never : ⊥ = omega (arith, h, ap length later-is) in never)
+module _ (max : ℕ) where
+  abbrev turns : JobLine → Bool
+  turns l = not (is_long max l) && is_tables (text_of l)
 
-  asks-are : asks_in limits.bytes input ≡ map plan (sections_in input)
-  asks-are = ap (λ l. plans_in l ++ flat_map (λ s. change ∷ plans_in s) (later_stretches limits.bytes input)) first-is ∙ ap (λ ss. plans_in input ++ flat_map (λ s. change ∷ plans_in s) ss) later-is ∙ append-nil (plans_in input)
+  alone-line : (x : JobLine) (begun : Option Section) → turns x ≡ false → alone_of (asked_at (kind_of max x) begun) ≡ asked_at (kind_of max x) begun
+  alone-line x begun h = at (is_long max x) (is_tables (text_of x)) (is_envelope_word (text_of x)) (is_end (text_of x)) (list_all is_white (text_of x)) h where
+    at : (a b c d e : Bool) → (not a && b) ≡ false → alone_of (asked_at (cond a Other (cond b Tables (cond c Envelope (cond d End (cond e Blank Other))))) begun) ≡ asked_at (cond a Other (cond b Tables (cond c Envelope (cond d End (cond e Blank Other))))) begun
+    at true b c d e h = refl
+    at false true c d e h = absurd (let no : ⊥ = cc in no)
+    at false false true d e h = alone-planned begun
+    at false false false true e h = alone-planned begun
+    at false false false false true h = refl
+    at false false false false false h = refl
 
-  module _ (form : Form) (coming : ℕ → Given) where
-    pub plain-plans : (old new : Option (List ℕ)) (summary : EachSummary) → PlansChanging limits form tables coming input old new summary → PlansBeside limits form tables input old new summary
-    plain-plans old new summary h = record {
-      few = h.few;
-      unbroken = subst (λ l. bad_envelopes false (job_lines l) ≡ None) first-is (All-head (λ s. bad_envelopes false (job_lines s) ≡ None) (first_stretch limits.bytes input) (later_stretches limits.bytes input) h.unbroken);
-      text = h.text ++ done_text_in form summary.counts;
-      due = plain-answer limits form tables coming (sections_in input) h.text summary (rw asks-are at h.due);
-      written = h.written;
-    }
+  alone-lines : (begun : Option Section) (lines : List JobLine) → list_any turns lines ≡ false → alone_of (asks_from max begun lines) ≡ asks_from max begun lines
+  alone-lines begun [] h = alone-planned begun
+  alone-lines begun (x ∷ xs) h =
+      let p = neither-any (turns x) (list_any turns xs) h in
+      alone-append (asked_at (kind_of max x) begun) (asks_from max (behind max (kind_of max x) begun x) xs)
+      ∙ ap (λ l. l ++ alone_of (asks_from max (behind max (kind_of max x) begun x) xs)) (alone-line x begun p.0)
+      ∙ ap (λ l. asked_at (kind_of max x) begun ++ l) (alone-lines (behind max (kind_of max x) begun x) xs p.1)
 
-    pub plain-front : (old new : Option (List ℕ)) → WritesChangingFront limits form tables coming input old new → WritesBesideFront limits form tables input old new
-    plain-front old new h = record {
-      text = h.text;
-      due = plain-due limits form tables coming (sections_in input) h.text (rw asks-are at h.due);
-      count = h.count;
-      written = h.written;
-    }
+module _ (limits : Limits) (tables : Job) (input : List ℕ) (none : has_tables limits.bytes input ≡ false) (form : Form) (coming : ℕ → Given) where
+  asks-are : asks_in limits.bytes input ≡ map plan (sections_in limits.bytes input)
+  asks-are = sym (alone-lines limits.bytes None (job_lines input) none)
+
+  pub plain-plans : (old new : Option (List ℕ)) (summary : EachSummary) → PlansChanging limits form tables coming input old new summary → PlansBeside limits form tables input old new summary
+  plain-plans old new summary h = record {
+    few = h.few;
+    text = h.text ++ done_text_in form summary.counts;
+    due = plain-answer limits form tables coming (sections_in limits.bytes input) h.text summary (rw asks-are at h.due);
+    written = h.written;
+  }
+
+  pub plain-front : (old new : Option (List ℕ)) → WritesChangingFront limits form tables coming input old new → WritesBesideFront limits form tables input old new
+  plain-front old new h = record {
+    text = h.text;
+    due = plain-due limits form tables coming (sections_in limits.bytes input) h.text (rw asks-are at h.due);
+    count = h.count;
+    written = h.written;
+  }
 
 -- What a run ends with, of bytes that may be known.
-module _ (limits : Limits) (tables : Job) (remaining : Option (List ℕ)) where
-  pub known-tables : (fault : RunFault) → HasRefusedTables limits tables fault → IfSome remaining (λ input. has_tables limits.bytes input ≡ false → RefusesBeside limits tables input fault)
-  known-tables fault h = at remaining where
-    at : (remaining : Option (List ℕ)) → IfSome remaining (λ input. has_tables limits.bytes input ≡ false → RefusesBeside limits tables input fault)
-    at None = tt
-    at (Some input) = λ none. refused-tables limits tables input fault h
+module _ (limits : Limits) (tables : Job) (remaining : Option (List ℕ)) (form : Form) (coming : ℕ → Given) (old new : Option (List ℕ)) where
+  pub known-plain : (r : Result EachSummary RunFault) → IfOk r (λ summary. IfSome remaining (λ input. PlansChanging limits form tables coming input old new summary)) → IfOk r (λ summary. IfSome remaining (λ input. has_tables limits.bytes input ≡ false → PlansBeside limits form tables input old new summary))
+  known-plain (Ok summary) h = if_some_more remaining h (λ input k none. plain-plans limits tables input none form coming old new summary k)
+  known-plain (Err fault) h = tt
 
-  pub known-refused : (r : Result EachSummary RunFault) → IfErr r (λ fault. IfSome remaining (λ input. RefusesStretches limits input fault)) → IfErr r (λ fault. IfSome remaining (λ input. RefusesChanging limits tables input fault))
-  known-refused (Ok summary) h = tt
-  known-refused (Err fault) h = if_some_more remaining h (λ input k. changing-refused limits tables input fault k)
-
-  pub known-plain_refused : (r : Result EachSummary RunFault) → IfErr r (λ fault. IfSome remaining (λ input. RefusesStretches limits input fault)) → IfErr r (λ fault. IfSome remaining (λ input. has_tables limits.bytes input ≡ false → RefusesBeside limits tables input fault))
-  known-plain_refused (Ok summary) h = tt
-  known-plain_refused (Err fault) h = if_some_more remaining h (λ input k none. plain-refused limits tables input none fault (changing-refused limits tables input fault k))
-
-  module _ (form : Form) (coming : ℕ → Given) (old new : Option (List ℕ)) where
-    pub known-plain : (r : Result EachSummary RunFault) → IfOk r (λ summary. IfSome remaining (λ input. PlansChanging limits form tables coming input old new summary)) → IfOk r (λ summary. IfSome remaining (λ input. has_tables limits.bytes input ≡ false → PlansBeside limits form tables input old new summary))
-    known-plain (Ok summary) h = if_some_more remaining h (λ input k none. plain-plans limits tables input none form coming old new summary k)
-    known-plain (Err fault) h = tt
-
-    pub known-plain_front : (r : Result EachSummary RunFault) → IfErr r (λ fault. IfSome remaining (λ input. WritesChangingFront limits form tables coming input old new)) → IfErr r (λ fault. IfSome remaining (λ input. has_tables limits.bytes input ≡ false → WritesBesideFront limits form tables input old new))
-    known-plain_front (Ok summary) h = tt
-    known-plain_front (Err fault) h = if_some_more remaining h (λ input k none. plain-front limits tables input none form coming old new k)
+  pub known-plain_front : (r : Result EachSummary RunFault) → IfErr r (λ fault. IfSome remaining (λ input. WritesChangingFront limits form tables coming input old new)) → IfErr r (λ fault. IfSome remaining (λ input. has_tables limits.bytes input ≡ false → WritesBesideFront limits form tables input old new))
+  known-plain_front (Ok summary) h = tt
+  known-plain_front (Err fault) h = if_some_more remaining h (λ input k none. plain-front limits tables input none form coming old new k)

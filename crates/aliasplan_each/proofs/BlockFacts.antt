@@ -1,8 +1,10 @@
 -- What becomes of an envelope, and how blocks make an answer.
-use Rattle.std.proofs.Common.{◌≡◌, ℕ, zero, suc, ◌+◌, ◌<◌, List, [], ◌∷◌, ◌++◌, map, take, get_or, slice_get, Option, Some, None, Result, Ok, Err, OnOk, sym, ap, ◌∙◌, subst, append_assoc, length, refl}
+use Rattle.std.proofs.Common.{◌≡◌, ℕ, zero, suc, ◌+◌, ◌<◌, ◌≤◌, inl, inr, List, [], ◌∷◌, ◌++◌, map, take, get_or, slice_get, Option, Some, None, Result, Ok, Err, OnOk, sym, ap, ◌∙◌, subst, append_assoc, length, refl, arith}
 use Rattle.std.specs.Option.{option_map}
 use Rattle.std.specs.List.{fold}
-use Rattle.std.proofs.lemmas.List.{append-nil, map_more}
+use Rattle.std.specs.Result.{IfErr}
+use Rattle.std.proofs.lemmas.Bool.{lt-ltb, le-ltb, cases_lt}
+use Rattle.std.proofs.lemmas.List.{append-nil, map_more, take_all, length-take}
 use Rattle.std.proofs.lemmas.List.Concat.{flat_map-append}
 use Rattle.std.proofs.lemmas.Option.{same_Some}
 use Rattle.relay_wire.specs.declared.plan.Plan.{Plan}
@@ -12,7 +14,7 @@ use Rattle.relay_job.specs.declared.fault.RunFault.{RunFault}
 use Rattle.relay_job.specs.declared.fault.RunFault.TheVariants.{Read, TooLong, BadJob, BadSetting, BadEnvelope, TooManyNames, TooManyOwners, TooManyPairs, Write, Memory}
 use Rattle.relay_job.specs.Envelopes.{envelope_of, envelope_by, envelope_commands, envelope_unless}
 use Rattle.relay_job.specs.JobParts.{first_bad_command}
-use Rattle.relay_job.specs.JobAnswers.{Fails}
+use Rattle.relay_job.specs.JobAnswers.{Fails, Answers}
 use Rattle.relay_envelopes.specs.declared.refusal.Refusal.{Refusal}
 use Rattle.relay_envelopes.specs.declared.refusal.Refusal.TheVariants as refusals
 use Rattle.relay_envelopes.specs.declared.counts.EnvelopeCounts.{EnvelopeCounts}
@@ -23,8 +25,9 @@ use Rattle.relay_envelopes.specs.EachText.{with_planned, with_refused}
 use Rattle.relay_planning.specs.declared.options.Form.{Form}
 use Rattle.relay_planning.specs.declared.options.Limits.{Limits}
 use Rattle.aliasplan_each.specs.Forms.{planned_text_in, refused_text_in}
-use Rattle.aliasplan_each.specs.Blocks.{Block, refusal_of, IsOwnPlan, IsRefusedFor, IsSectionFault, IsBlock, Grows, GrowsByAll, with_outcome, texts_of}
+use Rattle.aliasplan_each.specs.Blocks.{Block, Outcome, refusal_of, section_envelope, IsOutcome, IsOwnPlan, IsRefusedFor, IsSectionFault, IsBlock, Grows, GrowsByAll, with_outcome, texts_of}
 use Rattle.aliasplan_each.specs.Blocks.Outcome.{planned, refused}
+use Rattle.aliasplan_each.specs.Feeding.{kept}
 
 -- what follows from two facts of a value
 pub on_ok_both : {T E P Q R : Type 0} (r : Result T E) → OnOk r P → OnOk r Q → (P → Q → R) → OnOk r R
@@ -53,27 +56,40 @@ unfolding envelope_of
 fault_of_envelope origin text fault h = bad-alone (first_bad_command origin 0 (envelope_commands text)) (envelope_by origin (envelope_commands text)) fault h
 
 module _ (limits : Limits) (tables : Job) (section : Section) where
-  -- a section that is no envelope
-  pub fault_of_section : (fault : RunFault) → Fails fault (envelope_of tables.settings.origin section.bytes) → IsSectionFault limits tables section fault
-  fault_of_section (BadEnvelope number) h = h
-  fault_of_section Memory h = tt
-  fault_of_section Read h = absurd (fault_of_envelope tables.settings.origin section.bytes Read h)
-  fault_of_section TooLong h = absurd (fault_of_envelope tables.settings.origin section.bytes TooLong h)
-  fault_of_section (BadJob number) h = absurd (fault_of_envelope tables.settings.origin section.bytes (BadJob number) h)
-  fault_of_section (BadSetting number) h = absurd (fault_of_envelope tables.settings.origin section.bytes (BadSetting number) h)
-  fault_of_section TooManyNames h = absurd (fault_of_envelope tables.settings.origin section.bytes TooManyNames h)
-  fault_of_section TooManyOwners h = absurd (fault_of_envelope tables.settings.origin section.bytes TooManyOwners h)
-  fault_of_section TooManyPairs h = absurd (fault_of_envelope tables.settings.origin section.bytes TooManyPairs h)
-  fault_of_section Write h = absurd (fault_of_envelope tables.settings.origin section.bytes Write h)
+  -- a section that is too long, or is no envelope
+  pub long_section : limits.bytes < length section.bytes → IsSectionFault limits tables section TooLong
+  long_section h = rw (lt-ltb _ _ h) refl
+
+  pub short_section : length section.bytes ≤ limits.bytes → section_envelope limits tables section ≡ envelope_of tables.settings.origin section.bytes
+  short_section h = rw (le-ltb _ _ h) refl
+
+  fault_of_envelope_in : (fault : RunFault) → section_envelope limits tables section ≡ envelope_of tables.settings.origin section.bytes → Fails fault (envelope_of tables.settings.origin section.bytes) → IsSectionFault limits tables section fault
+  fault_of_envelope_in (BadEnvelope number) e h = e ∙ h
+  fault_of_envelope_in Memory e h = tt
+  fault_of_envelope_in Read e h = absurd (fault_of_envelope tables.settings.origin section.bytes Read h)
+  fault_of_envelope_in TooLong e h = absurd (fault_of_envelope tables.settings.origin section.bytes TooLong h)
+  fault_of_envelope_in (BadJob number) e h = absurd (fault_of_envelope tables.settings.origin section.bytes (BadJob number) h)
+  fault_of_envelope_in (BadSetting number) e h = absurd (fault_of_envelope tables.settings.origin section.bytes (BadSetting number) h)
+  fault_of_envelope_in TooManyNames e h = absurd (fault_of_envelope tables.settings.origin section.bytes TooManyNames h)
+  fault_of_envelope_in TooManyOwners e h = absurd (fault_of_envelope tables.settings.origin section.bytes TooManyOwners h)
+  fault_of_envelope_in TooManyPairs e h = absurd (fault_of_envelope tables.settings.origin section.bytes TooManyPairs h)
+  fault_of_envelope_in Write e h = absurd (fault_of_envelope tables.settings.origin section.bytes Write h)
+
+  pub fault_of_section : (fault : RunFault) → length section.bytes ≤ limits.bytes → Fails fault (envelope_of tables.settings.origin section.bytes) → IsSectionFault limits tables section fault
+  fault_of_section fault h f = fault_of_envelope_in fault (short_section h) f
+
+  pub answers_fault : (r : Result Envelope RunFault) → length section.bytes ≤ limits.bytes → Answers r (envelope_of tables.settings.origin section.bytes) → IfErr r (IsSectionFault limits tables section)
+  answers_fault (Ok envelope) h a = tt
+  answers_fault (Err fault) h a = fault_of_section fault h a
 
   refused_for : (fault : RunFault) (refusal : Refusal) → IsSectionFault limits tables section fault → refusal_of fault ≡ Some refusal → IsRefusedFor limits tables section refusal
   refused_for (BadEnvelope number) refusal h e = let same : refusals.BadEnvelope number ≡ refusal = cc in subst (IsRefusedFor limits tables section) same h
   refused_for TooManyNames refusal h e = let same : refusals.TooManyNames ≡ refusal = cc in subst (IsRefusedFor limits tables section) same h
   refused_for TooManyOwners refusal h e = let same : refusals.TooManyOwners ≡ refusal = cc in subst (IsRefusedFor limits tables section) same h
   refused_for TooManyPairs refusal h e = let same : refusals.TooManyPairs ≡ refusal = cc in subst (IsRefusedFor limits tables section) same h
+  refused_for TooLong refusal h e = let same : refusals.TooLong ≡ refusal = cc in subst (IsRefusedFor limits tables section) same h
   refused_for Memory refusal h e = absurd (let no : ⊥ = cc in no)
   refused_for Read refusal h e = absurd h
-  refused_for TooLong refusal h e = absurd h
   refused_for (BadJob number) refusal h e = absurd h
   refused_for (BadSetting number) refusal h e = absurd h
   refused_for Write refusal h e = absurd h
@@ -95,6 +111,50 @@ module _ (limits : Limits) (tables : Job) (section : Section) where
       written = more;
       counted = counted;
     }
+
+-- Sections of which the same is kept have the same blocks.
+module _ (limits : Limits) (form : Form) (tables : Job) (s t : Section) (same : kept limits.bytes s ≡ kept limits.bytes t) where
+  cut-envelope : (s : Section) → section_envelope limits tables (kept limits.bytes s) ≡ section_envelope limits tables s
+  cut-envelope s = elim (cases_lt limits.bytes (length s.bytes)) [
+    | inl long ↦ (
+        let cut : limits.bytes < length (take (limits.bytes + 1) s.bytes) = omega (arith, length-take (limits.bytes + 1) s.bytes, long) in
+        long_section limits tables (kept limits.bytes s) cut ∙ sym (long_section limits tables s long)
+        )
+    | inr short ↦ (
+        let all : take (limits.bytes + 1) s.bytes ≡ s.bytes = take_all (limits.bytes + 1) s.bytes (omega (arith, short)) in
+        ap (λ (l : List ℕ). section_envelope limits tables (record { line = s.line; id = s.id; bytes = l })) all
+        )
+  ]
+
+  alike : section_envelope limits tables t ≡ section_envelope limits tables s
+  alike = sym (cut-envelope t) ∙ ap (section_envelope limits tables) (sym same) ∙ cut-envelope s
+
+  ids : s.id ≡ t.id
+  ids = ap (λ (q : Section). q.id) same
+
+  refused-kept : (refusal : Refusal) → IsRefusedFor limits tables s refusal → IsRefusedFor limits tables t refusal
+  refused-kept (refusals.BadEnvelope number) h = alike ∙ h
+  refused-kept refusals.TooLong h = alike ∙ h
+  refused-kept refusals.TooManyNames h = record { envelope = h.envelope; read = alike ∙ h.read; refused = h.refused }
+  refused-kept refusals.TooManyOwners h = record { envelope = h.envelope; read = alike ∙ h.read; refused = h.refused }
+  refused-kept refusals.TooManyPairs h = record { envelope = h.envelope; read = alike ∙ h.read; refused = h.refused }
+
+  outcome-kept : (text : List ℕ) (outcome : Outcome) → IsOutcome limits form tables s text outcome → IsOutcome limits form tables t text outcome
+  outcome-kept text (planned findings) h = record {
+    envelope = h.envelope;
+    read = alike ∙ h.read;
+    within = h.within;
+    plan = h.plan;
+    planned = h.planned;
+    sound = h.sound;
+    fewest = h.fewest;
+    written = h.written ∙ ap (λ id. planned_text_in form id h.plan) ids;
+    counted = h.counted;
+  }
+  outcome-kept text (refused refusal) h = record { refused = refused-kept refusal h.refused; written = h.written ∙ ap (λ id. refused_text_in form id refusal) ids }
+
+  pub IsBlock-kept : (b : Block) → IsBlock limits form tables s b → IsBlock limits form tables t b
+  IsBlock-kept b h = outcome-kept b.text b.outcome h
 
 abbrev pub with_block : EnvelopeCounts → Block → EnvelopeCounts
 with_block counts block = with_outcome counts block.outcome

@@ -1,225 +1,215 @@
--- What a line does to the sections that are to come.
-use Rattle.std.proofs.Common.{◌≡◌, ◌<◌, ◌≤◌, ℕ, ◌+◌, ◌-◌, ◌^◌, Bool, true, false, not, cond, ◌&&◌, ◌||◌, List, [], ◌∷◌, ◌++◌, length, Option, Some, None, refl, sym, ap, ◌∙◌, arith, append_assoc}
-use Rattle.std.specs.List.{list_any, list_all, flat_map, slice_get}
-use Rattle.std.specs.Option.{is_some, is_none, option_map, IfSome}
+-- What a line does to what is to come.
+use Rattle.std.proofs.Common.{◌≡◌, ◌<◌, ◌≤◌, ℕ, zero, suc, ◌+◌, ◌-◌, ◌^◌, Bool, true, false, ltb, inl, inr, List, [], ◌∷◌, ◌++◌, length, map, take, Option, Some, None, refl, sym, ap, ◌∙◌, arith, append_assoc}
+use Rattle.std.specs.Prelude.{codes}
+use Rattle.std.specs.List.{flat_map}
+use Rattle.std.specs.Option.{IfSome}
 use Rattle.std.specs.Io.KnownBytes.{Keeps, IsAtEnd}
-use Rattle.std.proofs.lemmas.Bool.{lt-ltb}
-use Rattle.std.proofs.lemmas.List.{append-nil}
-use Rattle.std.proofs.lemmas.List.Folds.{list_any-append}
-use Rattle.std.proofs.lemmas.List.Sums.{fold-append}
-use Rattle.relay_text.specs.Bytes.{is_white, each_after}
-use Rattle.relay_text.specs.Lines.{raw_lines, Cut, cut_before}
-use Rattle.relay_job.specs.declared.fault.RunFault.{RunFault}
-use Rattle.relay_job.specs.declared.fault.RunFault.TheVariants.{Read, TooLong, BadJob, BadSetting, BadEnvelope, TooManyNames, TooManyOwners, TooManyPairs, Write, Memory}
-use Rattle.relay_job.specs.JobText.{JobLine, text_of, is_heading}
+use Rattle.std.proofs.lemmas.Bool.{lt-ltb, cases_lt}
+use Rattle.std.proofs.lemmas.List.{append-nil, map-append, take-take, take_all, length-take, length-append}
+use Rattle.relay_text.specs.Lines.{raw_lines}
+use Rattle.relay_job.specs.JobText.{JobLine}
 use Rattle.relay_job.specs.Places.{numbered_from}
-use Rattle.relay_envelopes.specs.Headings.{id_of, is_end}
-use Rattle.relay_envelopes.specs.Sections.{Section, id_or_none, envelopes_of, goes_on, has_begun, breaks_envelopes, bad_envelopes}
-use Rattle.relay_envelopes.proofs.SectionFacts.{named-begins, other-passed, heading-found, end-found}
-use Rattle.aliasplan_each.specs.Feeding.{content_bytes, with_more, sections_from, breaks_from, bad_from, is_long_line, is_long_section, is_long, listed, Leads, RefusesLines, Ends, Begins, IsContentTaken, IsTaken, IsUntaken, numbered, LeadsKnown, to_come}
-use Rattle.aliasplan_each.specs.Pieces.{LosesLine, IsFirstLong}
-use Rattle.aliasplan.specs.Outcomes.{IsReadFault}
+use Rattle.relay_envelopes.proofs.SectionFacts.{joined-lines}
+use Rattle.relay_envelopes.specs.declared.kind.LineKind.{LineKind}
+use Rattle.relay_envelopes.specs.declared.kind.LineKind.TheVariants.{Tables, Envelope, End, Blank, Other}
+use Rattle.relay_envelopes.specs.Kinds.{kind_of}
+use Rattle.relay_envelopes.specs.Sections.{Section}
+use Rattle.aliasplan_each.specs.Asks.{Ask, planned, content_of, stray, begun_by, with_line, asked_at, behind, asks_from}
+use Rattle.aliasplan_each.specs.Asks.Ask.{plan, change}
+use Rattle.aliasplan_each.specs.Feeding.{kept, kept_some, kept_ask, AreAlike, turned, to_come, Leads, LeadsKnown, room}
+use Rattle.aliasplan_each.specs.Pieces.{LosesLine}
+use Rattle.aliasplan_each.proofs.PieceFacts.{take-front, some-line}
 
--- the lines up to the next heading
-abbrev before : List JobLine → List JobLine
-before lines = (cut_before is_heading lines).before
+-- Of what is put together, some first elements are those of what some first elements of each make.
+take-back : {X : Type 0} (m n : ℕ) (a b : List X) → m ≤ n → take m (a ++ take n b) ≡ take m (a ++ b)
+take-back m n [] b h = take-take m n b h
+take-back zero n (x ∷ xs) b h = refl
+take-back (suc m) n (x ∷ xs) b h = ap (λ l. x ∷ l) (take-back m n xs b (omega (arith, h)))
 
-before-line : (x : JobLine) (xs : List JobLine) → before (x ∷ xs) ≡ cond (is_heading x) [] (x ∷ before xs)
-before-line x xs = at (is_heading x) where
-  at : (t : Bool) → (cond {A = Cut JobLine} t (record { before = []; pieces = (x ∷ before xs) ∷ (cut_before is_heading xs).pieces }) (record { before = x ∷ before xs; pieces = (cut_before is_heading xs).pieces })).before ≡ cond t [] (x ∷ before xs)
-  at true = refl
-  at false = refl
+pub take-both : (n : ℕ) (a b c d : List ℕ) → take n a ≡ take n b → take n c ≡ take n d → take n (a ++ c) ≡ take n (b ++ d)
+take-both n a b c d e f =
+    sym (take-front n a c) ∙ ap (λ l. take n (l ++ c)) e ∙ take-front n b c
+    ∙ sym (take-back n n b c (omega arith)) ∙ ap (λ l. take n (b ++ l)) f ∙ take-back n n b d (omega arith)
 
-content-heading : (x : JobLine) (xs : List JobLine) → is_heading x ≡ true → content_bytes (x ∷ xs) ≡ []
-content-heading x xs e = ap (flat_map (λ (l : JobLine). l.raw)) (before-line x xs ∙ ap (λ (t : Bool). cond t [] (x ∷ before xs)) e)
+module _ (max : ℕ) where
+  abbrev made : ℕ → List ℕ → List ℕ → Section
+  made number id bytes = record { line = number; id = id; bytes = bytes }
 
-content-other : (x : JobLine) (xs : List JobLine) → is_heading x ≡ false → content_bytes (x ∷ xs) ≡ x.raw ++ content_bytes xs
-content-other x xs e = ap (flat_map (λ (l : JobLine). l.raw)) (before-line x xs ∙ ap (λ (t : Bool). cond t [] (x ∷ before xs)) e)
+  -- the same line, but for what isn't kept of it
+  record SameLine (x y : JobLine) : Type 0 where
+    number : x.number ≡ y.number
+    kinds : kind_of max x ≡ kind_of max y
+    contents : take (max + 1) (content_of max x) ≡ take (max + 1) (content_of max y)
+    begins : kind_of max x ≡ Envelope → kept max (begun_by max x) ≡ kept max (begun_by max y)
 
--- Sections that lines give go on to be too long, or not.
-either : (a b c d : Bool) → (a || b) ≡ true → ((c || a) || (d || b)) ≡ true
-either true b true d h = refl
-either true b false d h = refl
-either false b true d h = refl
-either false true false true h = refl
-either false true false false h = refl
-either false false false d h = absurd (let no : ⊥ = cc in no)
+  same-line : (x : JobLine) → SameLine x x
+  same-line x = record { number = refl; kinds = refl; contents = refl; begins = λ e. refl }
 
-still_long : (max : ℕ) (x : JobLine) (left : List JobLine) (all given rest : List Section) → all ≡ given ++ rest → is_long max left rest ≡ true → is_long max (x ∷ left) all ≡ true
-still_long max x left all given rest e h =
-    ap (λ (l : List Section). is_long max (x ∷ left) l) e
-    ∙ ap (λ (t : Bool). (is_long_line max x || list_any (is_long_line max) left) || t) (list_any-append (is_long_section max) given rest)
-    ∙ either (list_any (is_long_line max) left) (list_any (is_long_section max) rest) (is_long_line max x) (list_any (is_long_section max) given) h
+  stray-same : (x y : JobLine) → SameLine x y → kept max (stray max x) ≡ kept max (stray max y)
+  stray-same x y h = ap (λ (n : ℕ). made n (codes "?") (take (max + 1) (content_of max x))) h.number ∙ ap (λ (l : List ℕ). made y.number (codes "?") l) h.contents
 
-leads : (max : ℕ) (begun : Option Section) (x : JobLine) (left : List JobLine) (given : List Section) (after : Option Section) → sections_from begun (x ∷ left) ≡ given ++ sections_from after left → breaks_from (is_some begun) x ≡ false → goes_on (is_some begun) x ≡ is_some after → Leads max begun (x ∷ left) given after left
-leads max begun x left given after e f g = record {
-  sections = e;
-  bad = ap (λ (t : Bool). cond t (Some x.number) (bad_from (goes_on (is_some begun) x) left)) f ∙ ap (λ (t : Bool). bad_from t left) g;
-  long = still_long max x left _ given (sections_from after left) e;
-}
+  with-same : (begun other : Option Section) (x y : JobLine) → kept_some max begun ≡ kept_some max other → SameLine x y → kept_some max (with_line max begun x) ≡ kept_some max (with_line max other y)
+  with-same None None x y e h = ap (λ (s : Section). Some s) (stray-same x y h)
+  with-same (Some s) (Some t) x y e h =
+      let same : kept max s ≡ kept max t = cc in
+      let line : s.line ≡ t.line = ap (λ (q : Section). q.line) same in
+      let id : s.id ≡ t.id = ap (λ (q : Section). q.id) same in
+      let bytes : take (max + 1) s.bytes ≡ take (max + 1) t.bytes = ap (λ (q : Section). q.bytes) same in
+      ap (λ (l : List ℕ). Some (made s.line s.id l)) (take-both (max + 1) s.bytes t.bytes (content_of max x) (content_of max y) bytes h.contents)
+      ∙ ap (λ (n : ℕ). Some (made n s.id (take (max + 1) (t.bytes ++ content_of max y)))) line
+      ∙ ap (λ (l : List ℕ). Some (made t.line l (take (max + 1) (t.bytes ++ content_of max y)))) id
+  with-same None (Some t) x y e h = absurd (let no : ⊥ = cc in no)
+  with-same (Some s) None x y e h = absurd (let no : ⊥ = cc in no)
 
-abbrev made : ℕ → List ℕ → List ℕ → Section
-made number id bytes = record { line = number; id = id; bytes = bytes }
+  planned-same : (begun other : Option Section) → kept_some max begun ≡ kept_some max other → AreAlike max (planned begun) (planned other)
+  planned-same None None e = refl
+  planned-same (Some s) (Some t) e = let same : kept max s ≡ kept max t = cc in ap (λ (s : Section). plan s ∷ []) same
+  planned-same None (Some t) e = absurd (let no : ⊥ = cc in no)
+  planned-same (Some s) None e = absurd (let no : ⊥ = cc in no)
 
--- A heading ends the section before it, and begins one.
-pub heading-taken : (max : ℕ) (begun given after : Option Section) (x : JobLine) (next : Section) → is_heading x ≡ true → Begins x next → given ≡ begun → after ≡ Some next → IsTaken max begun x given after
-heading-taken max begun given after x next e b f g = rw (f, g) (record { leads = at begun; fewer = omega arith }) where
-  other : is_end (text_of x) ≡ false
-  other = named-begins (text_of x) next.id b.named
+  AreAlike-both : (a b c d : List Ask) → AreAlike max a b → AreAlike max c d → AreAlike max (a ++ c) (b ++ d)
+  AreAlike-both a b c d e f =
+      map-append (kept_ask max) a c ∙ ap (λ l. l ++ map (kept_ask max) c) e ∙ ap (λ l. map (kept_ask max) b ++ l) f ∙ sym (map-append (kept_ask max) b d)
 
-  same : (left : List JobLine) → made x.number (id_or_none (id_of (text_of x))) (content_bytes left) ≡ with_more next (content_bytes left)
-  same left =
-      ap (λ (n : ℕ). made n (id_or_none (id_of (text_of x))) (content_bytes left)) (sym b.line)
-      ∙ ap (λ (o : Option (List ℕ)). made next.line (id_or_none o) (content_bytes left)) b.named
-      ∙ ap (λ (l : List ℕ). made next.line next.id (l ++ content_bytes left)) (sym b.empty)
+  behind-same : (kind : LineKind) (begun other : Option Section) (x y : JobLine) → kind_of max x ≡ kind → kept_some max begun ≡ kept_some max other → SameLine x y → kept_some max (behind max kind begun x) ≡ kept_some max (behind max kind other y)
+  behind-same Tables begun other x y k e h = refl
+  behind-same Envelope begun other x y k e h = ap (λ (s : Section). Some s) (h.begins k)
+  behind-same End None None x y k e h = with-same None None x y e h
+  behind-same End (Some s) (Some t) x y k e h = refl
+  behind-same End None (Some t) x y k e h = absurd (let no : ⊥ = cc in no)
+  behind-same End (Some s) None x y k e h = absurd (let no : ⊥ = cc in no)
+  behind-same Blank None None x y k e h = refl
+  behind-same Blank (Some s) (Some t) x y k e h = with-same (Some s) (Some t) x y e h
+  behind-same Blank None (Some t) x y k e h = absurd (let no : ⊥ = cc in no)
+  behind-same Blank (Some s) None x y k e h = absurd (let no : ⊥ = cc in no)
+  behind-same Other begun other x y k e h = with-same begun other x y e h
 
-  first : (left : List JobLine) → envelopes_of (x ∷ left) ≡ with_more next (content_bytes left) ∷ envelopes_of left
-  first left = heading-found x left e other ∙ ap (λ (s : Section). s ∷ envelopes_of left) (same left)
+  asked-same : (kind : LineKind) (begun other : Option Section) → kept_some max begun ≡ kept_some max other → AreAlike max (asked_at kind begun) (asked_at kind other)
+  asked-same Tables begun other e = AreAlike-both (planned begun) (planned other) (change ∷ []) (change ∷ []) (planned-same begun other e) refl
+  asked-same Envelope begun other e = planned-same begun other e
+  asked-same End begun other e = planned-same begun other e
+  asked-same Blank begun other e = refl
+  asked-same Other begun other e = refl
 
-  named : (t : Bool) → breaks_from t x ≡ false
-  named t = rw (e, other) (ap is_none b.named)
+  -- What isn't kept of a section that goes on changes nothing.
+  asks-same : (begun other : Option Section) (lines : List JobLine) → kept_some max begun ≡ kept_some max other → AreAlike max (asks_from max begun lines) (asks_from max other lines)
+  asks-same begun other [] e = planned-same begun other e
+  asks-same begun other (x ∷ xs) e =
+      AreAlike-both (asked_at (kind_of max x) begun) (asked_at (kind_of max x) other) _ _ (asked-same (kind_of max x) begun other e)
+      (asks-same (behind max (kind_of max x) begun x) (behind max (kind_of max x) other x) xs (behind-same (kind_of max x) begun other x x refl e (same-line x)))
 
-  goes : (t : Bool) → goes_on t x ≡ true
-  goes t = rw (e, other)
+  -- A line of which no more is had is the same.
+  cut-line : (number : ℕ) (raw : List ℕ) → SameLine (record { number = number; raw = take (max + 1) raw }) (record { number = number; raw = raw })
+  cut-line number raw = elim (cases_lt max (length raw)) [
+    | inl long ↦ (
+        let cut : max < length (take (max + 1) raw) = omega (arith, length-take (max + 1) raw, long) in
+        let whole : ltb max (length raw) ≡ true = lt-ltb _ _ long in
+        let part : ltb max (length (take (max + 1) raw)) ≡ true = lt-ltb _ _ cut in
+        record {
+          number = refl;
+          kinds = rw (whole, part) refl;
+          contents = rw (whole, part) (take-take (max + 1) (max + 1) raw (omega arith));
+          begins = λ e. absurd (let other : Other ≡ Envelope = rw part at e in let no : ⊥ = cc in no);
+        }
+        )
+    | inr short ↦ (
+        let same : take (max + 1) raw ≡ raw = take_all (max + 1) raw (omega (arith, short)) in
+        rw same (same-line (record { number = number; raw = raw }))
+        )
+  ]
 
-  at : (begun : Option Section) (left : List JobLine) → Leads max begun (x ∷ left) (listed begun) (Some next) left
-  at None left = leads max None x left [] (Some next) (first left) (named false) (goes false)
-  at (Some s) left = leads max (Some s) x left (s ∷ []) (Some next)
-      (ap (λ l. with_more s l ∷ envelopes_of (x ∷ left)) (content-heading x left e) ∙ ap (λ (l : List ℕ). made s.line s.id l ∷ envelopes_of (x ∷ left)) (append-nil s.bytes) ∙ ap (λ l. s ∷ l) (first left))
-      (named true) (goes true)
+pub LeadsKnown-start : (max number : ℕ) (asked : Bool) (begun : Option Section) (bytes : Option (List ℕ)) → LeadsKnown max number asked begun bytes [] number asked begun bytes
+LeadsKnown-start max number asked begun None = tt
+LeadsKnown-start max number asked begun (Some bytes) = record { asks = refl; fewer = omega arith }
 
--- `%end` ends the section before it, and begins none.
-pub end-taken : (max : ℕ) (begun given after : Option Section) (x : JobLine) → is_heading x ≡ true → is_end (text_of x) ≡ true → Ends begun given after → IsTaken max begun x given after
-end-taken max None given after x e f h = absurd (let some : false ≡ true = h.some in let no : ⊥ = cc in no)
-end-taken max (Some s) given after x e f h = rw (h.whole, h.none) (record {
-  leads = λ left. leads max (Some s) x left (s ∷ []) None
-      (ap (λ l. with_more s l ∷ envelopes_of (x ∷ left)) (content-heading x left e) ∙ ap (λ (l : List ℕ). made s.line s.id l ∷ envelopes_of (x ∷ left)) (append-nil s.bytes) ∙ ap (λ l. s ∷ l) (end-found x left e f))
-      (rw (e, f)) (rw (e, f));
-  fewer = omega arith;
-})
+-- A line is taken, where nothing has been given yet.
+module _ (max number : ℕ) (raw line : List ℕ) (begun given after : Option Section) (turns : Bool) (coming : List Ask) (left : List JobLine) (cut : line ≡ take (max + 1) raw)
+    (asks : planned given ++ turned turns ≡ asked_at (kind_of max (record { number = number; raw = line })) begun)
+    (goes : after ≡ kept_some max (behind max (kind_of max (record { number = number; raw = line })) begun (record { number = number; raw = line }))) where
+  abbrev x : JobLine
+  x = record { number = number; raw = line }
 
--- Another line goes to the section.
-pub content-taken : (max : ℕ) (begun after : Option Section) (x : JobLine) → is_heading x ≡ false → IsContentTaken begun x after → IsTaken max begun x None after
-content-taken max None after x e h = rw h.0 (record {
-  leads = λ left. leads max None x left [] None (other-passed x left e) (rw (e, h.1) refl) (rw e refl);
-  fewer = omega arith;
-})
-content-taken max (Some s) after x e h = rw h (record {
-  leads = λ left. leads max (Some s) x left [] (Some (with_more s x.raw))
-      (ap (λ l. with_more s l ∷ envelopes_of (x ∷ left)) (content-other x left e) ∙ ap (λ l. with_more s (x.raw ++ content_bytes left) ∷ l) (other-passed x left e) ∙ ap (λ l. record { line = s.line; id = s.id; bytes = l } ∷ envelopes_of left) (sym (append_assoc s.bytes x.raw (content_bytes left))))
-      (rw e refl) (rw e refl);
-  fewer = omega arith;
-})
+  abbrev y : JobLine
+  y = record { number = number; raw = raw }
 
-pub LeadsKnown-start : (max : ℕ) (begun : Option Section) (lines : Option (List JobLine)) → LeadsKnown max begun lines [] begun lines
-LeadsKnown-start max begun None = tt
-LeadsKnown-start max begun (Some lines) = record { sections = refl; bad = refl; long = λ h. h }
+  same : SameLine max x y
+  same = rw cut (cut-line max number raw)
 
-pub Leads-more : (max : ℕ) (first begun after : Option Section) (lines left rest : List JobLine) (given more : List Section) → Leads max first lines given begun left → Leads max begun left more after rest → Leads max first lines (given ++ more) after rest
-Leads-more max first begun after lines left rest given more h k = record {
-  sections = h.sections ∙ ap (λ l. given ++ l) k.sections ∙ sym (append_assoc given more (sections_from after rest));
-  bad = h.bad ∙ k.bad;
-  long = λ l. h.long (k.long l);
-}
+  again : (o : Option Section) → kept_some max (kept_some max o) ≡ kept_some max o
+  again None = refl
+  again (Some s) = ap (λ (l : List ℕ). Some (made max s.line s.id l)) (take-take (max + 1) (max + 1) s.bytes (omega arith))
 
-pub LeadsKnown-line : (max : ℕ) (first begun given after : Option Section) (lines : Option (List JobLine)) (number : ℕ) (raw : List ℕ) (old new : Option (List ℕ)) → LeadsKnown max first lines [] begun (numbered number old) → LosesLine old raw new → IsTaken max begun (record { number = number + 1; raw = raw }) given after → LeadsKnown max first lines (listed given) after (numbered (number + 1) new)
-LeadsKnown-line max first begun given after None number raw old new h k t = tt
-LeadsKnown-line max first begun given after (Some lines) number raw None new h k t = absurd h
-LeadsKnown-line max first begun given after (Some lines) number raw (Some xs) None h k t = absurd k
-LeadsKnown-line max first begun given after (Some lines) number raw (Some xs) (Some ys) h k t =
-    Leads-more max first begun after lines _ _ [] (listed given) (rw k at h) (t.leads (numbered_from (number + 1 + 1) (raw_lines ys)))
+  behind-like : kept_some max after ≡ kept_some max (behind max (kind_of max y) begun y)
+  behind-like =
+      ap (kept_some max) goes ∙ again (behind max (kind_of max x) begun x)
+      ∙ behind-same max (kind_of max x) begun begun x y refl refl same ∙ ap (λ (k : LineKind). kept_some max (behind max k begun y)) same.kinds
 
-last : (begun : Option Section) → sections_from begun [] ≡ listed begun ++ sections_from None []
-unfolding envelopes_of
-last None = refl
-last (Some s) = ap (λ (l : List ℕ). made s.line s.id l ∷ []) (append-nil s.bytes)
+  taken : AreAlike max coming (asks_from max begun (y ∷ left)) → AreAlike max coming (planned given ++ (turned turns ++ asks_from max after left))
+  taken h =
+      h ∙ sym (
+      ap (map (kept_ask max)) (sym (append_assoc (planned given) (turned turns) (asks_from max after left)) ∙ ap (λ l. l ++ asks_from max after left) asks)
+      ∙ AreAlike-both max (asked_at (kind_of max x) begun) (asked_at (kind_of max y) begun) (asks_from max after left) (asks_from max (behind max (kind_of max y) begun y) left)
+      (ap (λ (k : LineKind). map (kept_ask max) (asked_at k begun)) same.kinds)
+      (asks-same max after (behind max (kind_of max y) begun y) left behind-like))
 
-none_long : (max : ℕ) → is_long max [] (sections_from None []) ≡ false
-unfolding envelopes_of
-none_long max = refl
+-- bytes that lose a line have fewer
+fewer-bytes : (old new raw : List ℕ) → raw_lines old ≡ raw ∷ raw_lines new → length new < length old
+fewer-bytes old new raw e =
+    let joined : old ≡ raw ++ new = sym (joined-lines old) ∙ ap (flat_map (λ (l : List ℕ). l)) e ∙ ap (λ l. raw ++ l) (joined-lines new) in
+    omega (arith, ap length joined, length-append raw new, some-line old raw (raw_lines new) e)
 
-Leads-end : (max : ℕ) (begun : Option Section) → Leads max begun [] (listed begun) None []
-Leads-end max begun = record {
-  sections = last begun;
-  bad = refl;
-  long = λ h. absurd (let e : false ≡ true = sym (none_long max) ∙ h in let no : ⊥ = cc in no);
-}
+module _ (max first : ℕ) (asked : Bool) (start : Option Section) (all : Option (List ℕ)) where
+  pub LeadsKnown-line : (number next : ℕ) (was : Bool) (line : List ℕ) (begun given after : Option Section) (turns : Bool) (old new : Option (List ℕ)) → LeadsKnown max first asked start all [] number was begun old → was ≡ false → LosesLine max old line new → next ≡ number + 1
+      → planned given ++ turned turns ≡ asked_at (kind_of max (record { number = number + 1; raw = line })) begun
+      → after ≡ kept_some max (behind max (kind_of max (record { number = number + 1; raw = line })) begun (record { number = number + 1; raw = line }))
+      → LeadsKnown max first asked start all (planned given) next turns after new
+  LeadsKnown-line number next was line begun given after turns old new h w k n asks goes = rw n (at all old new (rw w at h) k) where
+    at : (all old new : Option (List ℕ)) → LeadsKnown max first asked start all [] number false begun old → LosesLine max old line new → LeadsKnown max first asked start all (planned given) (number + 1) turns after new
+    at None old new h k = tt
+    at (Some bytes) None new h k = absurd h
+    at (Some bytes) (Some xs) None h k = absurd k
+    at (Some bytes) (Some xs) (Some ys) h k = record {
+      asks = taken max (number + 1) k.raw line begun given after turns (to_come max first asked start bytes) (numbered_from (number + 1 + 1) (raw_lines ys)) k.had asks goes (rw k.lines at h.asks);
+      fewer = omega (arith, h.fewer, fewer-bytes xs ys k.raw k.lines);
+    }
 
-pub LeadsKnown-end : (max : ℕ) (first begun : Option Section) (lines : Option (List JobLine)) (m n : ℕ) (old new : Option (List ℕ)) → LeadsKnown max first lines [] begun (numbered m old) → IsAtEnd old → IsAtEnd new → Keeps old new → LeadsKnown max first lines (listed begun) None (numbered n new)
-LeadsKnown-end max first begun None m n old new h e f k = tt
-LeadsKnown-end max first begun (Some lines) m n None new h e f k = absurd h
-LeadsKnown-end max first begun (Some lines) m n (Some xs) None h e f k = absurd k
-LeadsKnown-end max first begun (Some lines) m n (Some xs) (Some ys) h e f k = rw f (Leads-more max first begun None lines [] [] [] (listed begun) (rw e at h) (Leads-end max begun))
+  -- The input has ended.
+  pub LeadsKnown-end : (begun : Option Section) (m : ℕ) (was : Bool) (old new : Option (List ℕ)) → LeadsKnown max first asked start all [] m was begun old → was ≡ false → IsAtEnd old → IsAtEnd new → Keeps old new → LeadsKnown max first asked start all (planned begun) m was None new
+  LeadsKnown-end begun m was old new h w e f k = rw w (at all old new (rw w at h) e f k) where
+    at : (all old new : Option (List ℕ)) → LeadsKnown max first asked start all [] m false begun old → IsAtEnd old → IsAtEnd new → Keeps old new → LeadsKnown max first asked start all (planned begun) m false None new
+    at None old new h e f k = tt
+    at (Some bytes) None new h e f k = absurd h
+    at (Some bytes) (Some xs) None h e f k = absurd k
+    at (Some bytes) (Some xs) (Some ys) h e f k = rw f (
+        let ended : Leads max (to_come max first asked start bytes) [] (planned begun) (first + length bytes) (m + 0) = rw e at h in
+        record { asks = ended.asks ∙ ap (map (kept_ask max)) (sym (append-nil (planned begun))); fewer = ended.fewer })
 
--- Why lines that are left are refused, the lines are.
-pub refused-before : (max : ℕ) (first begun : Option Section) (lines left : List JobLine) (came : List Section) (fault : RunFault) → Leads max first lines came begun left → RefusesLines max begun left fault → RefusesLines max first lines fault
-refused-before max first begun lines left came Read h r = tt
-refused-before max first begun lines left came TooLong h r = h.long r
-refused-before max first begun lines left came (BadJob number) h r = h.bad ∙ r
-refused-before max first begun lines left came (BadSetting number) h r = absurd r
-refused-before max first begun lines left came (BadEnvelope number) h r = absurd r
-refused-before max first begun lines left came TooManyNames h r = absurd r
-refused-before max first begun lines left came TooManyOwners h r = absurd r
-refused-before max first begun lines left came TooManyPairs h r = absurd r
-refused-before max first begun lines left came Write h r = absurd r
-refused-before max first begun lines left came Memory h r = tt
+  -- There are more bytes than can be counted.
+  pub long-known : (number : ℕ) (was : Bool) (begun : Option Section) (old : Option (List ℕ)) → LeadsKnown max first asked start all [] number was begun old → IfSome old (λ bytes. 2 ^ 64 - 1 ≤ number + length bytes) → IfSome all (λ bytes. 2 ^ 64 - 1 ≤ first + length bytes)
+  long-known number was begun old h p = at all old h p where
+    at : (all old : Option (List ℕ)) → LeadsKnown max first asked start all [] number was begun old → IfSome old (λ bytes. 2 ^ 64 - 1 ≤ number + length bytes) → IfSome all (λ bytes. 2 ^ 64 - 1 ≤ first + length bytes)
+    at None old h p = tt
+    at (Some bytes) None h p = absurd h
+    at (Some bytes) (Some xs) h p = omega (arith, h.fewer, p)
 
-pub refused-line : (max : ℕ) (first begun : Option Section) (lines : Option (List JobLine)) (number : ℕ) (raw : List ℕ) (old new : Option (List ℕ)) (fault : RunFault) → LeadsKnown max first lines [] begun (numbered number old) → LosesLine old raw new → IsUntaken max begun (record { number = number + 1; raw = raw }) fault → IfSome lines (λ lines. RefusesLines max first lines fault)
-refused-line max first begun None number raw old new fault h k r = tt
-refused-line max first begun (Some lines) number raw None new fault h k r = absurd h
-refused-line max first begun (Some lines) number raw (Some xs) None fault h k r = absurd k
-refused-line max first begun (Some lines) number raw (Some xs) (Some ys) fault h k r = refused-before max first begun lines _ [] fault (rw k at h) (r (numbered_from (number + 1 + 1) (raw_lines ys)))
-
-some : (a b c d : Bool) → a ≡ true → (((a || b) || c) || d) ≡ true
-some a b c d e = rw e refl
-
-first_long : (max number : ℕ) (begun : Option Section) (bytes : List ℕ) → IsFirstLong max bytes → RefusesLines max begun (numbered_from (number + 1) (raw_lines bytes)) TooLong
-first_long max number begun bytes h =
-    ap (λ (l : List (List ℕ)). is_long max (numbered_from (number + 1) l) (sections_from begun (numbered_from (number + 1) (raw_lines bytes)))) h.lines ∙ some _ _ _ _ (lt-ltb _ _ h.long)
-
-pub refused-read : (max : ℕ) (first begun : Option Section) (lines : Option (List JobLine)) (number : ℕ) (bytes : Option (List ℕ)) (fault : RunFault) → LeadsKnown max first lines [] begun (numbered number bytes) → IsReadFault fault → (fault ≡ TooLong → IfSome bytes (IsFirstLong max)) → IfSome lines (λ lines. RefusesLines max first lines fault)
-refused-read max first begun None number bytes fault h only long = tt
-refused-read max first begun (Some lines) number None fault h only long = absurd h
-refused-read max first begun (Some lines) number (Some xs) Read h only long = tt
-refused-read max first begun (Some lines) number (Some xs) TooLong h only long = refused-before max first begun lines _ [] TooLong h (first_long max number begun xs (long refl))
-refused-read max first begun (Some lines) number (Some xs) Memory h only long = tt
-refused-read max first begun (Some lines) number (Some xs) (BadJob n) h only long = absurd only
-refused-read max first begun (Some lines) number (Some xs) (BadSetting n) h only long = absurd only
-refused-read max first begun (Some lines) number (Some xs) (BadEnvelope n) h only long = absurd only
-refused-read max first begun (Some lines) number (Some xs) TooManyNames h only long = absurd only
-refused-read max first begun (Some lines) number (Some xs) TooManyOwners h only long = absurd only
-refused-read max first begun (Some lines) number (Some xs) TooManyPairs h only long = absurd only
-refused-read max first begun (Some lines) number (Some xs) Write h only long = absurd only
-
--- Each line that is taken leaves fewer sections to come.
-pub fewer-line : (number next : ℕ) (begun given after : Option Section) (all : ℕ) → next ≡ number + 1 → number + 1 < 2 ^ 64 → length (listed given) + length (listed after) ≤ length (listed begun) + 1 → to_come number begun ≤ all → length (listed given) + to_come next after ≤ all
-fewer-line number next begun given after all e within fewer h = omega arith
+-- Each line that is taken leaves fewer to come.
+pub fewer-line : (number next : ℕ) (was : Bool) (begun given after : Option Section) (turns : Bool) (all : ℕ) (kind : LineKind) (line : JobLine) (max : ℕ) → planned given ++ turned turns ≡ asked_at kind begun → after ≡ kept_some max (behind max kind begun line) → next ≡ number + 1 → number + 1 < 2 ^ 64 → room number was begun ≤ all → length (planned given) + room next turns after ≤ all
+fewer-line number next was begun given after turns all kind line max asks goes e within h = omega (arith, length-append (planned given) (turned turns), ap length asks, e, within, h, at kind begun, ap (λ o. length (planned o)) goes) where
+  at : (kind : LineKind) (begun : Option Section) → length (asked_at kind begun) + length (planned (kept_some max (behind max kind begun line))) ≤ length (planned begun) + 1
+  at Tables None = omega arith
+  at Tables (Some s) = omega arith
+  at Envelope None = omega arith
+  at Envelope (Some s) = omega arith
+  at End None = omega arith
+  at End (Some s) = omega arith
+  at Blank None = omega arith
+  at Blank (Some s) = omega arith
+  at Other None = omega arith
+  at Other (Some s) = omega arith
 
 pub no-more : (left all : ℕ) → 0 + left ≤ all → left ≤ all
 no-more left all h = omega arith
 
--- Each line that is taken leaves fewer numbers.
+-- and fewer numbers
 pub smaller-line : (number next : ℕ) → next ≡ number + 1 → number + 1 < 2 ^ 64 → 2 ^ 64 - next < 2 ^ 64 - number
 smaller-line number next e within = omega arith
-
--- The lines of a text that was read from its start.
-breaks-same : (done : List JobLine) (x : JobLine) → breaks_envelopes false done x ≡ breaks_from (has_begun done) x
-breaks-same done x = at (is_heading x) (is_end (text_of x)) (id_of (text_of x)) refl refl refl where
-  at : (t u : Bool) (o : Option (List ℕ)) → is_heading x ≡ t → is_end (text_of x) ≡ u → id_of (text_of x) ≡ o → breaks_envelopes false done x ≡ breaks_from (has_begun done) x
-  at true true o e f g = rw (e, f)
-  at true false (Some id) e f g = rw (e, f, g)
-  at true false None e f g = rw (e, f, g)
-  at false u o e f g = rw e
-
-bad-from : (done lines : List JobLine) → slice_get (each_after (λ earlier x. cond (breaks_envelopes false earlier x) (x.number ∷ []) []) done lines) 0 ≡ bad_from (has_begun done) lines
-bad-from done [] = refl
-bad-from done (x ∷ xs) = ap (λ (t : Bool). slice_get (cond t (x.number ∷ []) [] ++ later) 0) (breaks-same done x) ∙ at (breaks_from (has_begun done) x) (bad-from (done ++ x ∷ []) xs) where
-  later : List ℕ
-  later = each_after (λ earlier x. cond (breaks_envelopes false earlier x) (x.number ∷ []) []) (done ++ x ∷ []) xs
-
-  at : (t : Bool) → slice_get later 0 ≡ bad_from (has_begun (done ++ x ∷ [])) xs → slice_get (cond t (x.number ∷ []) [] ++ later) 0 ≡ cond t (Some x.number) (bad_from (goes_on (has_begun done) x) xs)
-  at true e = refl
-  at false e = e ∙ ap (λ (t : Bool). bad_from t xs) (fold-append goes_on false done (x ∷ []))
-
-pub bad-is : (lines : List JobLine) → bad_envelopes false lines ≡ bad_from false lines
-bad-is lines = bad-from [] lines

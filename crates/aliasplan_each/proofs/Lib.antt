@@ -4,8 +4,8 @@ pub mod PartFacts
 pub mod EachFacts
 pub mod PieceFacts
 pub mod FeedingFacts
+pub mod AskFacts
 pub mod BesideFacts
 pub mod BesideRuns
-pub mod StretchFacts
 pub mod ReplyFacts
 pub mod ChangeFacts

@@ -1,5 +1,5 @@
 -- What a text of many envelopes is, by its front and its envelopes.
-use Rattle.std.proofs.Common.{◌≡◌, ℕ, List, [], ◌∷◌, ◌++◌, length, true, Option, Some, None, Result, Ok, Err, refl, sym, ap, ◌∙◌, subst, arith}
+use Rattle.std.proofs.Common.{◌≡◌, ℕ, List, [], ◌∷◌, ◌++◌, length, Option, Some, None, Result, Ok, Err, refl, sym, ap, ◌∙◌, subst, arith}
 use Rattle.std.specs.Option.{option_map}
 use Rattle.std.proofs.lemmas.List.{length-append}
 use Rattle.relay_text.specs.Bytes.{first_of}
@@ -92,7 +92,7 @@ each_fault_among tables None None None fault h = cc
 
 pub fault_of_each : (text : List ℕ) (fault : RunFault) → each_tables_of text ≡ Err fault → IsTablesFault fault
 unfolding each_tables_of
-fault_of_each text fault h = each_fault_among (without_envelope (sections_of (front_of text))) (bad_job (front_of text)) (bad_envelopes true (lines_behind text)) (bad_setting (front_of text)) fault h
+fault_of_each text fault h = each_fault_among (without_envelope (sections_of (front_of text))) (bad_job (front_of text)) (bad_envelopes (lines_behind text)) (bad_setting (front_of text)) fault h
 
 -- a fault is the first, unless the front is broken
 unbroken_stop : (broken : Option ℕ) (fault : RunFault) → broken ≡ None → Stops (first_of (option_map BadJob broken ∷ Some fault ∷ [])) fault
@@ -140,26 +140,26 @@ module _ (front : List ℕ) (fault : RunFault) where
   stop_of_fault Write h = absurd (front_fault front Write h)
 
 module _ (text : List ℕ) where
-  each_is : each_tables_of text ≡ each_by (without_envelope (sections_of (front_of text))) (bad_job (front_of text)) (bad_envelopes true (lines_behind text)) (bad_setting (front_of text))
+  each_is : each_tables_of text ≡ each_by (without_envelope (sections_of (front_of text))) (bad_job (front_of text)) (bad_envelopes (lines_behind text)) (bad_setting (front_of text))
   unfolding each_tables_of
   each_is = refl
 
   -- headings that are good leave the front's faults
-  each_as_front : bad_envelopes true (lines_behind text) ≡ None → each_tables_of text ≡ tables_of (front_of text)
+  each_as_front : bad_envelopes (lines_behind text) ≡ None → each_tables_of text ≡ tables_of (front_of text)
   unfolding each_tables_of tables_of
   each_as_front e =
       ap (λ (o : Option ℕ). each_by (without_envelope (sections_of (front_of text))) (bad_job (front_of text)) o (bad_setting (front_of text))) e
       ∙ unbroken_each (without_envelope (sections_of (front_of text))) (bad_job (front_of text)) (bad_setting (front_of text))
 
-  pub fails_by_front : (fault : RunFault) → bad_envelopes true (lines_behind text) ≡ None → Fails fault (tables_of (front_of text)) → Fails fault (each_tables_of text)
+  pub fails_by_front : (fault : RunFault) → bad_envelopes (lines_behind text) ≡ None → Fails fault (tables_of (front_of text)) → Fails fault (each_tables_of text)
   fails_by_front fault e h = subst (λ (r : Result Job RunFault). Fails fault r) (sym (each_as_front e)) h
 
-  pub fails_by_envelopes : (fault result : RunFault) → Stops (option_map BadJob (bad_envelopes true (lines_behind text))) fault → Stops (first_of (option_map BadJob (bad_job (front_of text)) ∷ Some fault ∷ [])) result → Fails result (each_tables_of text)
+  pub fails_by_envelopes : (fault result : RunFault) → Stops (option_map BadJob (bad_envelopes (lines_behind text))) fault → Stops (first_of (option_map BadJob (bad_job (front_of text)) ∷ Some fault ∷ [])) result → Fails result (each_tables_of text)
   fails_by_envelopes fault result s t =
       subst (λ (r : Result Job RunFault). Fails result r) (sym each_is)
-      (each_first (without_envelope (sections_of (front_of text))) (bad_job (front_of text)) (bad_envelopes true (lines_behind text)) (bad_setting (front_of text)) fault result s t)
+      (each_first (without_envelope (sections_of (front_of text))) (bad_job (front_of text)) (bad_envelopes (lines_behind text)) (bad_setting (front_of text)) fault result s t)
 
-  pub parts_are : (rest : List ℕ) (tables : Job) (sections : List Section) → text ≡ front_of text ++ rest → bad_envelopes true (lines_behind text) ≡ None → tables_of (front_of text) ≡ Ok tables → sections ≡ envelopes_of (lines_behind text) → AreEachParts text tables sections
+  pub parts_are : (rest : List ℕ) (tables : Job) (sections : List Section) → text ≡ front_of text ++ rest → bad_envelopes (lines_behind text) ≡ None → tables_of (front_of text) ≡ Ok tables → sections ≡ envelopes_of (lines_behind text) → AreEachParts text tables sections
   parts_are rest tables sections e none is found = record {
     read = each_as_front none ∙ is;
     within = (front_of text, omega (arith, ap length e, length-append (front_of text) rest), is);

@@ -1,5 +1,5 @@
 -- Lines of bytes that come in pieces.
-use Rattle.std.proofs.Common.{◌≡◌, ◌<◌, ◌≤◌, ℕ, suc, ◌+◌, ◌-◌, Bool, true, false, not, cond, ◌||◌, eqb, List, [], ◌∷◌, ◌++◌, length, take, drop, get_or, Option, Some, None, refl, sym, ap, ◌∙◌, arith, append_assoc}
+use Rattle.std.proofs.Common.{◌≡◌, ◌<◌, ◌≤◌, ℕ, zero, suc, ◌+◌, ◌-◌, ◌^◌, Bool, true, false, not, cond, ◌||◌, eqb, List, [], ◌∷◌, ◌++◌, length, take, drop, get_or, Option, Some, None, refl, sym, ap, ◌∙◌, arith, append_assoc}
 use Rattle.std.specs.List.{position_or_len, onto_first, slice_range}
 use Rattle.std.specs.Option.{IfSome}
 use Rattle.std.specs.Io.KnownBytes.{Keeps, IsAtEnd, prepend_known}
@@ -9,7 +9,7 @@ use Rattle.std.proofs.lemmas.Bool.{eqb-true}
 use Rattle.std.proofs.lemmas.List.{append-nil, length-append, length-take, drop-take, drop-drop}
 use Rattle.std.proofs.lemmas.List.Folds.{list_any-append, list_any_at}
 use Rattle.relay_text.specs.Lines.{raw_lines}
-use Rattle.aliasplan_each.specs.Pieces.{has_feed, end_of, IsMoved, LosesLine, IsFirstLong}
+use Rattle.aliasplan_each.specs.Pieces.{has_feed, end_of, IsMoved, LosesLine}
 
 abbrev is_feed : ℕ → Bool
 is_feed b = eqb b 10
@@ -44,6 +44,9 @@ first_piece (b ∷ bs) piece more e = at (eqb b 10) (raw_lines bs) refl e (first
       let is : piece ≡ b ∷ [] = cc in
       rw is (record { front = b ∷ []; whole = false; feedless = rw t refl; is = refl; some = omega arith })
   at false (x ∷ xs) t e later = let is : piece ≡ b ∷ x = cc in rw is (longer b x t (later x xs refl))
+
+pub some-line : (text line : List ℕ) (more : List (List ℕ)) → raw_lines text ≡ line ∷ more → 0 < length line
+some-line text line more e = let p : IsPiece line = first_piece text line more e in p.some
 
 -- A piece's last byte is an LF where it ends a line.
 last_byte : (front : List ℕ) (whole : Bool) → has_feed front ≡ false → 0 < length (front ++ end_of whole) → eqb (get_or (front ++ end_of whole) (length (front ++ end_of whole) - 1) 0) 10 ≡ whole
@@ -100,37 +103,15 @@ raw_last (b ∷ d ∷ ds) h some = at (eqb b 10) h (raw_last (d ∷ ds)) where
   at true h later = absurd (let no : ⊥ = cc in no)
   at false h later = ap (onto_first b) (later h (omega arith))
 
--- a first line of at least so many bytes
-record IsFirstLeast (least : ℕ) (bytes : List ℕ) : Type 0 where
-  line : List ℕ
-  behind : List (List ℕ)
-  lines : raw_lines bytes ≡ line ∷ behind
-  long : least ≤ length line
+none : (n : ℕ) (line : List ℕ) → line ≡ [] → line ≡ take n []
+none zero line e = e
+none (suc n) line e = e
 
-raw_more : (b : ℕ) (n : ℕ) (bs : List ℕ) → eqb b 10 ≡ false → IsFirstLeast n bs → IsFirstLeast (suc n) (b ∷ bs)
-raw_more b n bs e h = record { line = b ∷ h.line; behind = h.behind; lines = rw e (ap (onto_first b) h.lines); long = omega (arith, h.long) }
-
-raw_one : (b : ℕ) (bs : List ℕ) → IsFirstLeast 1 (b ∷ bs)
-raw_one b bs = at (eqb b 10) (raw_lines bs) refl refl where
-  at : (t : Bool) (lines : List (List ℕ)) → eqb b 10 ≡ t → raw_lines bs ≡ lines → IsFirstLeast 1 (b ∷ bs)
-  at true lines e f = record { line = b ∷ []; behind = raw_lines bs; lines = rw e refl; long = omega arith }
-  at false [] e f = record { line = b ∷ []; behind = []; lines = rw e (ap (onto_first b) f); long = omega arith }
-  at false (x ∷ xs) e f = record { line = b ∷ x; behind = xs; lines = rw e (ap (onto_first b) f); long = omega arith }
-
-raw_least : (front rest : List ℕ) → has_feed front ≡ false → 0 < length front → IsFirstLeast (length front) (front ++ rest)
-raw_least [] rest h some = absurd (omega arith)
-raw_least (b ∷ []) rest h some = raw_one b rest
-raw_least (b ∷ d ∷ ds) rest h some = at (eqb b 10) refl h (raw_least (d ∷ ds) rest) where
-  at : (t : Bool) → eqb b 10 ≡ t → (t || has_feed (d ∷ ds)) ≡ false → (has_feed (d ∷ ds) ≡ false → 0 < length (d ∷ ds) → IsFirstLeast (length (d ∷ ds)) ((d ∷ ds) ++ rest)) → IsFirstLeast (length (b ∷ d ∷ ds)) ((b ∷ d ∷ ds) ++ rest)
-  at true e h later = absurd (let no : ⊥ = cc in no)
-  at false e h later = raw_more b _ _ e (later h (omega arith))
-
-first_long : (max : ℕ) (front rest : List ℕ) (whole : Bool) → has_feed front ≡ false → max < length (front ++ end_of whole) → IsFirstLong max ((front ++ end_of whole) ++ rest)
-first_long max front rest true h long = record { line = front ++ 10 ∷ []; behind = raw_lines rest; lines = raw_whole front rest h; long = long }
-first_long max front rest false h long =
-    let is : front ++ [] ≡ front = append-nil front in
-    let least : IsFirstLeast (length front) (front ++ rest) = raw_least front rest h (omega (arith, ap length is)) in
-    rw is (record { line = least.line; behind = least.behind; lines = least.lines; long = omega (arith, ap length is, least.long) })
+-- Of what is put together, some first elements are those of what some first elements of the front make.
+pub take-front : {X : Type 0} (n : ℕ) (a b : List X) → take n (take n a ++ b) ≡ take n (a ++ b)
+take-front zero a b = refl
+take-front (suc n) [] b = refl
+take-front (suc n) (x ∷ xs) b = ap (λ l. x ∷ l) (take-front n xs b)
 
 ends_once : (front : List ℕ) (whole : Bool) → has_feed front ≡ false → length (front ++ end_of whole) ≤ position_or_len (λ b. eqb b 10) (front ++ end_of whole) + 1
 ends_once [] true h = omega arith
@@ -141,95 +122,119 @@ ends_once (b ∷ bs) whole h = at (eqb b 10) h (ends_once bs whole) where
   at true h later = absurd (let no : ⊥ = cc in no)
   at false h later = omega (arith, later h)
 
--- What is known of a line that is read in part: it has no LF yet, and it and what is to come are what was to come at first.
-pub record IsBegun (first : Option (List ℕ)) (line : List ℕ) (left : Option (List ℕ)) : Type 0 where
-  pub joined : Keeps first (prepend_known line left)
-  pub feedless : has_feed line ≡ false
+once-cut : (n : ℕ) (l : List ℕ) → length l ≤ position_or_len (λ b. eqb b 10) l + 1 → length (take n l) ≤ position_or_len (λ b. eqb b 10) (take n l) + 1
+once-cut zero l h = omega arith
+once-cut (suc n) [] h = omega arith
+once-cut (suc n) (b ∷ bs) h = at (eqb b 10) h (once-cut n bs) where
+  at : (t : Bool) → suc (length bs) ≤ cond (not t) (1 + position_or_len is_feed bs) 0 + 1 → (length bs ≤ position_or_len is_feed bs + 1 → length (take n bs) ≤ position_or_len is_feed (take n bs) + 1)
+      → suc (length (take n bs)) ≤ cond (not t) (1 + position_or_len is_feed (take n bs)) 0 + 1
+  at true h later = let none : length (take n bs) ≤ length bs = omega (arith, length-take n bs) in omega (arith, h, none)
+  at false h later = let less = later (omega (arith, h)) in omega (arith, less)
+
+-- What is known of a line that is read in part, of so many pieces at least: it has no LF yet, and it and what is to come are what was to come
+-- at first.
+pub record IsBegun (max count : ℕ) (first : Option (List ℕ)) (line : List ℕ) (left : Option (List ℕ)) : Type 0 where
+  pub raw : List ℕ
+  pub joined : Keeps first (prepend_known raw left)
+  pub feedless : has_feed raw ≡ false
+  pub had : line ≡ take (max + 1) raw
+  pub counted : count ≤ length raw
 
 prepended : (line : List ℕ) (a b : Option (List ℕ)) → Keeps a b → Keeps (prepend_known line a) (prepend_known line b)
 prepended line None b h = tt
 prepended line (Some xs) None h = absurd h
 prepended line (Some xs) (Some ys) h = ap (λ l. line ++ l) h
 
-pub IsBegun-start : (left : Option (List ℕ)) (line : List ℕ) → line ≡ [] → IsBegun left line left
-IsBegun-start None line e = record { joined = tt; feedless = rw e refl }
-IsBegun-start (Some xs) line e = record { joined = rw e refl; feedless = rw e refl }
+pub IsBegun-start : (max : ℕ) (left : Option (List ℕ)) (line : List ℕ) → line ≡ [] → IsBegun max 0 left line left
+IsBegun-start max None line e = record { raw = []; joined = tt; feedless = refl; had = none (max + 1) line e; counted = omega arith }
+IsBegun-start max (Some xs) line e = record { raw = []; joined = refl; feedless = refl; had = none (max + 1) line e; counted = omega arith }
 
-pub IsBegun-kept : (first a b : Option (List ℕ)) (line : List ℕ) → IsBegun first line a → Keeps a b → IsBegun first line b
-IsBegun-kept first a b line h k = record { joined = Keeps-trans first _ _ h.joined (prepended line a b k); feedless = h.feedless }
+pub IsBegun-kept : (max count : ℕ) (first a b : Option (List ℕ)) (line : List ℕ) → IsBegun max count first line a → Keeps a b → IsBegun max count first line b
+IsBegun-kept max count first a b line h k = record { raw = h.raw; joined = Keeps-trans first _ _ h.joined (prepended h.raw a b k); feedless = h.feedless; had = h.had; counted = h.counted }
 
 -- A piece goes over to the line.
-record IsGrown (whole : Bool) (first : Option (List ℕ)) (after : List ℕ) (left : Option (List ℕ)) : Type 0 where
+record IsGrown (max count : ℕ) (whole : Bool) (first : Option (List ℕ)) (after : List ℕ) (left : Option (List ℕ)) : Type 0 where
   front : List ℕ
   feedless : has_feed front ≡ false
-  is : after ≡ front ++ end_of whole
-  joined : Keeps first (prepend_known after left)
+  had : after ≡ take (max + 1) (front ++ end_of whole)
+  joined : Keeps first (prepend_known (front ++ end_of whole) left)
+  counted : count + 1 ≤ length (front ++ end_of whole)
 
 regrouped : (line piece new : List ℕ) (remaining : Option (List ℕ)) → Keeps (prepend_known line (prepend_known (piece ++ new) remaining)) (prepend_known (line ++ piece) (prepend_known new remaining))
 regrouped line piece new None = tt
 regrouped line piece new (Some xs) = append_assoc line piece (new ++ xs) ∙ ap (λ l. line ++ l) (sym (append_assoc piece new xs))
 
-grown : (whole : Bool) (first remaining : Option (List ℕ)) (line after old new : List ℕ) → IsBegun first line (prepend_known old remaining) → IsMoved whole old new line after → IsGrown whole first after (prepend_known new remaining)
-grown whole first remaining line after old new h m =
+grown : (max count : ℕ) (whole : Bool) (first remaining : Option (List ℕ)) (line after cut old new : List ℕ) → IsBegun max count first line (prepend_known old remaining) → IsMoved whole old new line after → cut ≡ take (max + 1) after → IsGrown max count whole first cut (prepend_known new remaining)
+grown max count whole first remaining line after cut old new h m e =
     let piece = m.front ++ end_of whole in
+    let is : (h.raw ++ m.front) ++ end_of whole ≡ h.raw ++ piece = append_assoc h.raw m.front (end_of whole) in
     record {
-      front = line ++ m.front;
-      feedless = list_any-append is_feed line m.front ∙ rw h.feedless m.feedless;
-      is = m.grown ∙ sym (append_assoc line m.front (end_of whole));
-      joined = rw m.grown (Keeps-trans first _ _ (rw m.taken at h.joined) (regrouped line piece new remaining));
+      front = h.raw ++ m.front;
+      feedless = list_any-append is_feed h.raw m.front ∙ rw h.feedless m.feedless;
+      had = e ∙ ap (take (max + 1)) (m.grown ∙ ap (λ l. l ++ piece) h.had) ∙ take-front (max + 1) h.raw piece ∙ ap (take (max + 1)) (sym is);
+      joined = rw is (Keeps-trans first _ _ (rw m.taken at h.joined) (regrouped h.raw piece new remaining));
+      counted = omega (arith, h.counted, m.some, ap length is, length-append h.raw piece);
     }
 
-pub IsBegun-more : (whole : Bool) (first remaining : Option (List ℕ)) (line after old new : List ℕ) → IsBegun first line (prepend_known old remaining) → IsMoved whole old new line after → whole ≡ false → IsBegun first after (prepend_known new remaining)
-IsBegun-more whole first remaining line after old new h m e =
-    let g : IsGrown whole first after (prepend_known new remaining) = grown whole first remaining line after old new h m in
-    let is : after ≡ g.front = g.is ∙ ap (λ (w : Bool). g.front ++ end_of w) e ∙ append-nil g.front in
-    record { joined = g.joined; feedless = ap has_feed is ∙ g.feedless }
+pub IsBegun-more : (max count : ℕ) (whole : Bool) (first remaining : Option (List ℕ)) (line after cut old new : List ℕ) → IsBegun max count first line (prepend_known old remaining) → IsMoved whole old new line after → cut ≡ take (max + 1) after → whole ≡ false → IsBegun max (count + 1) first cut (prepend_known new remaining)
+IsBegun-more max count whole first remaining line after cut old new h m c e =
+    let g : IsGrown max count false first cut (prepend_known new remaining) = rw e at (grown max count whole first remaining line after cut old new h m c) in
+    record { raw = g.front; joined = rw (append-nil g.front) at g.joined; feedless = g.feedless; had = g.had ∙ ap (take (max + 1)) (append-nil g.front); counted = omega (arith, g.counted, ap length (append-nil g.front)) }
 
-loses : (first left : Option (List ℕ)) (line : List ℕ) → Keeps first (prepend_known line left) → ((rest : List ℕ) → raw_lines (line ++ rest) ≡ line ∷ raw_lines rest) → LosesLine first line left
-loses None left line k h = tt
-loses (Some xs) None line k h = absurd k
-loses (Some xs) (Some ys) line k h = ap raw_lines (sym k) ∙ h ys
+loses : (max : ℕ) (first left : Option (List ℕ)) (raw line : List ℕ) → line ≡ take (max + 1) raw → Keeps first (prepend_known raw left) → ((rest : List ℕ) → raw_lines (raw ++ rest) ≡ raw ∷ raw_lines rest) → LosesLine max first line left
+loses max None left raw line c k h = tt
+loses max (Some xs) None raw line c k h = absurd k
+loses max (Some xs) (Some ys) raw line c k h = record { raw = raw; lines = ap raw_lines (sym k) ∙ h ys; had = c }
 
-pub LosesLine-whole : (whole : Bool) (first remaining : Option (List ℕ)) (line after old new : List ℕ) → IsBegun first line (prepend_known old remaining) → IsMoved whole old new line after → whole ≡ true → LosesLine first after (prepend_known new remaining)
-LosesLine-whole whole first remaining line after old new h m e =
-    let g : IsGrown whole first after (prepend_known new remaining) = grown whole first remaining line after old new h m in
-    let is : after ≡ g.front ++ 10 ∷ [] = g.is ∙ ap (λ (w : Bool). g.front ++ end_of w) e in
-    loses first _ after g.joined (λ rest. rw is (raw_whole g.front rest g.feedless))
+pub LosesLine-whole : (max count : ℕ) (whole : Bool) (first remaining : Option (List ℕ)) (line after cut old new : List ℕ) → IsBegun max count first line (prepend_known old remaining) → IsMoved whole old new line after → cut ≡ take (max + 1) after → whole ≡ true → LosesLine max first cut (prepend_known new remaining)
+LosesLine-whole max count whole first remaining line after cut old new h m c e =
+    let g : IsGrown max count true first cut (prepend_known new remaining) = rw e at (grown max count whole first remaining line after cut old new h m c) in
+    loses max first _ (g.front ++ 10 ∷ []) cut g.had g.joined (λ rest. raw_whole g.front rest g.feedless)
 
-pub ends_once-moved : (whole : Bool) (first remaining : Option (List ℕ)) (line after old new : List ℕ) → IsBegun first line (prepend_known old remaining) → IsMoved whole old new line after → length after ≤ position_or_len (λ b. eqb b 10) after + 1
-ends_once-moved whole first remaining line after old new h m =
-    let g : IsGrown whole first after (prepend_known new remaining) = grown whole first remaining line after old new h m in
-    rw g.is (ends_once g.front whole g.feedless)
-
-pub long-moved : (max : ℕ) (whole : Bool) (first remaining : Option (List ℕ)) (line after old new : List ℕ) → IsBegun first line (prepend_known old remaining) → IsMoved whole old new line after → max < length after → IfSome first (IsFirstLong max)
-long-moved max whole first remaining line after old new h m long =
-    let g : IsGrown whole first after (prepend_known new remaining) = grown whole first remaining line after old new h m in
-    at first (prepend_known new remaining) g.front g.feedless g.is g.joined where
-      at : (first left : Option (List ℕ)) (front : List ℕ) → has_feed front ≡ false → after ≡ front ++ end_of whole → Keeps first (prepend_known after left) → IfSome first (IsFirstLong max)
-      at None left front e is k = tt
-      at (Some xs) None front e is k = absurd k
-      at (Some xs) (Some ys) front e is k =
-          let joined : (front ++ end_of whole) ++ ys ≡ xs = ap (λ l. l ++ ys) (sym is) ∙ k in
-          rw (← joined) (first_long max front ys whole e (rw is at long))
+pub ends_once-moved : (max count : ℕ) (whole : Bool) (first remaining : Option (List ℕ)) (line after cut old new : List ℕ) → IsBegun max count first line (prepend_known old remaining) → IsMoved whole old new line after → cut ≡ take (max + 1) after → length cut ≤ position_or_len (λ b. eqb b 10) cut + 1
+ends_once-moved max count whole first remaining line after cut old new h m c =
+    let g : IsGrown max count whole first cut (prepend_known new remaining) = grown max count whole first remaining line after cut old new h m c in
+    rw g.had (once-cut (max + 1) (g.front ++ end_of whole) (ends_once g.front whole g.feedless))
 
 -- The input has ended: the line is all that was left of it.
-pub LosesLine-last : (first remaining : Option (List ℕ)) (line pending : List ℕ) → IsBegun first line (prepend_known pending remaining) → pending ≡ [] → IsAtEnd remaining → 0 < length line → LosesLine first line (prepend_known pending remaining)
-LosesLine-last first remaining line pending h e end some = at first remaining h.joined end where
-  at : (first remaining : Option (List ℕ)) → Keeps first (prepend_known line (prepend_known pending remaining)) → IsAtEnd remaining → LosesLine first line (prepend_known pending remaining)
+pub LosesLine-last : (max count : ℕ) (first remaining : Option (List ℕ)) (line pending : List ℕ) → IsBegun max count first line (prepend_known pending remaining) → pending ≡ [] → IsAtEnd remaining → 0 < length line → LosesLine max first line (prepend_known pending remaining)
+LosesLine-last max count first remaining line pending h e end some = at first remaining h.joined end where
+  more : 0 < length h.raw
+  more = omega (arith, ap length h.had, length-take (max + 1) h.raw, some)
+
+  at : (first remaining : Option (List ℕ)) → Keeps first (prepend_known h.raw (prepend_known pending remaining)) → IsAtEnd remaining → LosesLine max first line (prepend_known pending remaining)
   at None remaining k end = tt
   at (Some xs) None k end = absurd k
   at (Some xs) (Some ys) k end =
       let none : pending ++ ys ≡ [] = rw (e, end) refl in
-      ap raw_lines (sym k ∙ ap (λ l. line ++ l) none ∙ append-nil line) ∙ raw_last line h.feedless some ∙ ap (λ l. line ∷ raw_lines l) (sym none)
+      record {
+        raw = h.raw;
+        lines = ap raw_lines (sym k ∙ ap (λ l. h.raw ++ l) none ∙ append-nil h.raw) ∙ raw_last h.raw h.feedless more ∙ ap (λ l. h.raw ∷ raw_lines l) (sym none);
+        had = h.had;
+      }
 
-pub ends_once-last : (first left : Option (List ℕ)) (line : List ℕ) → IsBegun first line left → length line ≤ position_or_len (λ b. eqb b 10) line + 1
-ends_once-last first left line h = rw (append-nil line) at (ends_once line false h.feedless)
+pub ends_once-last : (max count : ℕ) (first left : Option (List ℕ)) (line : List ℕ) → IsBegun max count first line left → length line ≤ position_or_len (λ b. eqb b 10) line + 1
+ends_once-last max count first left line h = rw h.had (once-cut (max + 1) h.raw (rw (append-nil h.raw) at (ends_once h.raw false h.feedless)))
 
-pub nothing_left : (first remaining : Option (List ℕ)) (line pending : List ℕ) → IsBegun first line (prepend_known pending remaining) → pending ≡ [] → IsAtEnd remaining → length line ≡ 0 → IsAtEnd first × IsAtEnd (prepend_known pending remaining)
-nothing_left first remaining [] pending h e end none = at first remaining h.joined end where
-  at : (first remaining : Option (List ℕ)) → Keeps first (prepend_known [] (prepend_known pending remaining)) → IsAtEnd remaining → IsAtEnd first × IsAtEnd (prepend_known pending remaining)
+pub nothing_left : (max count : ℕ) (first remaining : Option (List ℕ)) (line pending : List ℕ) → IsBegun max count first line (prepend_known pending remaining) → pending ≡ [] → IsAtEnd remaining → length line ≡ 0 → IsAtEnd first × IsAtEnd (prepend_known pending remaining)
+nothing_left max count first remaining line pending h e end none = at first remaining h.joined end where
+  less : length h.raw ≡ 0
+  less = omega (arith, ap length h.had, length-take (max + 1) h.raw, none)
+
+  empty : (raw : List ℕ) → length raw ≡ 0 → raw ≡ []
+  empty [] e = refl
+  empty (b ∷ bs) e = absurd (omega arith)
+
+  at : (first remaining : Option (List ℕ)) → Keeps first (prepend_known h.raw (prepend_known pending remaining)) → IsAtEnd remaining → IsAtEnd first × IsAtEnd (prepend_known pending remaining)
   at None None k end = (tt, tt)
   at None (Some ys) k end = (tt, rw (e, end) refl)
   at (Some xs) None k end = absurd k
-  at (Some xs) (Some ys) k end = let left : pending ++ ys ≡ [] = rw (e, end) refl in (sym k ∙ left, left)
-nothing_left first remaining (b ∷ bs) pending h e end none = absurd (omega arith)
+  at (Some xs) (Some ys) k end = let left : pending ++ ys ≡ [] = rw (e, end) refl in (sym k ∙ ap (λ l. l ++ (pending ++ ys)) (empty h.raw less) ∙ left, left)
+
+-- a line of more pieces than can be counted
+pub long-first : (max count : ℕ) (first left : Option (List ℕ)) (line : List ℕ) → IsBegun max count first line left → 2 ^ 64 - 1 ≤ count → IfSome first (λ bytes. 2 ^ 64 - 1 ≤ length bytes)
+long-first max count first left line h p = at first left h.joined where
+  at : (first left : Option (List ℕ)) → Keeps first (prepend_known h.raw left) → IfSome first (λ bytes. 2 ^ 64 - 1 ≤ length bytes)
+  at None left k = tt
+  at (Some xs) None k = absurd k
+  at (Some xs) (Some ys) k = omega (arith, h.counted, p, ap length k, length-append h.raw ys)

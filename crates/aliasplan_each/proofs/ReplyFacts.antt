@@ -1,39 +1,31 @@
--- How the answers to envelopes and to `%tables`, one after another, make one answer.
-use Rattle.std.proofs.Common.{◌≡◌, ℕ, suc, ◌+◌, ◌-◌, ◌^◌, ◌≤◌, false, List, [], ◌∷◌, ◌++◌, length, map, take, Option, Some, None, refl, sym, ap, subst, ◌∙◌, arith, append_assoc}
+-- How the answers to what is asked, one after another, make one answer.
+use Rattle.std.proofs.Common.{◌≡◌, ℕ, ◌+◌, ◌-◌, ◌^◌, ◌≤◌, Bool, true, false, List, [], ◌∷◌, ◌++◌, length, map, take, drop, Option, Some, None, refl, sym, ap, subst, ◌∙◌, arith, append_assoc}
 use Rattle.std.specs.Prelude.{⊤}
-use Rattle.std.specs.List.{All, Contains, slice_get, flat_map, fold}
-use Rattle.std.specs.Option.{option_map, IfSome}
-use Rattle.std.specs.Io.KnownBytes.{Appends, prepend_known}
+use Rattle.std.specs.List.{fold}
+use Rattle.std.specs.Option.{IfSome}
+use Rattle.std.specs.Io.KnownBytes.{Appends, IsAtEnd, prepend_known}
 use Rattle.std.proofs.KnownBytes.{Appends-nil, Appends-trans}
 use Rattle.std.proofs.Math.Seq.{take-append-add, take-length}
-use Rattle.std.proofs.lemmas.List.{append-nil, map-append}
+use Rattle.std.proofs.lemmas.List.{append-nil, map-append, length-map, take-append-drop, take-map, take_at}
 use Rattle.std.proofs.lemmas.List.Concat.{flat_map-append}
-use Rattle.std.proofs.lemmas.List.Elements.{All-nil, All-cons, Contains-append_left, Contains-append_right, Contains-push}
 use Rattle.std.proofs.lemmas.List.Sums.{fold-append}
 use Rattle.relay_job.specs.declared.job.Job.{Job}
-use Rattle.relay_job.specs.declared.fault.RunFault.{RunFault}
-use Rattle.relay_job.specs.declared.fault.RunFault.TheVariants.{TooLong}
-use Rattle.relay_job.specs.JobText.{job_lines}
 use Rattle.relay_envelopes.specs.declared.counts.EnvelopeCounts.{EnvelopeCounts}
-use Rattle.relay_envelopes.specs.Sections.{Section, bad_envelopes}
+use Rattle.relay_envelopes.specs.Sections.{Section}
 use Rattle.relay_planning.specs.declared.options.Form.{Form}
 use Rattle.relay_planning.specs.declared.options.Limits.{Limits}
-use Rattle.aliasplan_each.specs.Blocks.{Block, no_counts, IsBlock, AreBlocks}
-use Rattle.aliasplan_each.specs.Blocks as blocks
-use Rattle.aliasplan_each.specs.Beside.{sections_in}
-use Rattle.aliasplan_each.specs.BesideSteps.{IsWriteFault, counts_from, FrontsBlocks, WritesBlocks}
-use Rattle.aliasplan_each.specs.Changes.{IsChange}
+use Rattle.aliasplan_each.specs.Asks.{Ask, planned, asks_in}
+use Rattle.aliasplan_each.specs.Asks.Ask.{plan, change}
+use Rattle.aliasplan_each.specs.Blocks.{no_counts}
+use Rattle.aliasplan_each.specs.BesideSteps.{WritesBlock, FrontsBlock}
+use Rattle.aliasplan_each.specs.BesideSteps.FrontsBlock.{nothing, some}
 use Rattle.aliasplan_each.specs.ChangeSteps.{WritesChange, FrontsChange}
-use Rattle.aliasplan_each.specs.Feeding.{KeepsLater}
+use Rattle.aliasplan_each.specs.Feeding.{kept, kept_ask, AreAlike, to_come, Leads, LeadsKnown}
 use Rattle.aliasplan_each.specs.Given.{Given}
-use Rattle.aliasplan_each.specs.Replies.{Ask, Reply, plans_in, asks_in, text_of, texts_of, with_reply, counts_of, tables_behind, coming_behind, AreReplies}
-use Rattle.aliasplan_each.specs.Replies.Ask.{plan, change}
+use Rattle.aliasplan_each.specs.Replies.{Reply, text_of, texts_of, with_reply, counts_of, tables_behind, coming_behind, IsReply, AreReplies}
 use Rattle.aliasplan_each.specs.Replies.Reply.{block, changed}
-use Rattle.aliasplan_each.specs.ReplySteps.{RepliesToAll, FrontsReplies, RefusesSoFar, RefusesStretches}
-use Rattle.aliasplan_each.specs.ReplySteps.RefusesSoFar.{reads, writes}
-use Rattle.aliasplan_each.specs.ReplySteps.RefusesStretches.{stretch, many, other}
-use Rattle.aliasplan_each.specs.Stretches.{first_stretch, later_stretches, stretches_of}
-use Rattle.aliasplan_each.proofs.StretchFacts.{first_of, later_of}
+use Rattle.aliasplan_each.specs.ReplySteps.{RepliesToAll, FrontsReplies}
+use Rattle.aliasplan_each.proofs.BlockFacts.{IsBlock-kept}
 
 -- the tables behind some replies, and what the source gives from then on
 abbrev pub tables_after : Job → List Reply → Job
@@ -42,26 +34,6 @@ tables_after tables replies = fold tables_behind tables replies
 abbrev pub coming_after : (ℕ → Given) → List Reply → ℕ → Given
 coming_after coming replies = fold coming_behind coming replies
 
--- the replies that are blocks
-abbrev pub replied : List Block → List Reply
-replied bs = map block bs
-
-tables-replied : (tables : Job) (bs : List Block) → tables_after tables (replied bs) ≡ tables
-tables-replied tables [] = refl
-tables-replied tables (b ∷ bs) = tables-replied tables bs
-
-coming-replied : (coming : ℕ → Given) (bs : List Block) (k : ℕ) → coming_after coming (replied bs) k ≡ coming k
-coming-replied coming [] k = refl
-coming-replied coming (b ∷ bs) k = coming-replied coming bs k
-
-pub texts-replied : (bs : List Block) → texts_of (replied bs) ≡ blocks.texts_of bs
-texts-replied [] = refl
-texts-replied (b ∷ bs) = ap (λ l. b.text ++ l) (texts-replied bs)
-
-pub counts-replied : (counts : EnvelopeCounts) (bs : List Block) → fold with_reply counts (replied bs) ≡ counts_from counts bs
-counts-replied counts [] = refl
-counts-replied counts (b ∷ bs) = counts-replied (blocks.with_outcome counts b.outcome) bs
-
 module _ (limits : Limits) (form : Form) where
   AreReplies-more : (asks more : List Ask) (replies added : List Reply) (tables : Job) (coming : ℕ → Given) → AreReplies limits form tables coming asks replies → AreReplies limits form (tables_after tables replies) (coming_after coming replies) more added → AreReplies limits form tables coming (asks ++ more) (replies ++ added)
   AreReplies-more [] more [] added tables coming h k = k
@@ -69,29 +41,38 @@ module _ (limits : Limits) (form : Form) where
   AreReplies-more [] more (reply ∷ replies) added tables coming h k = absurd h
   AreReplies-more (ask ∷ asks) more [] added tables coming h k = absurd h
 
-  AreReplies-blocks : (sections : List Section) (bs : List Block) (tables : Job) (coming : ℕ → Given) → length bs ≡ length sections
-      → ((k : ℕ) (section : Section) (b : Block) → slice_get sections k ≡ Some section → slice_get bs k ≡ Some b → IsBlock limits form tables section b)
-      → AreReplies limits form tables coming (map plan sections) (replied bs)
-  AreReplies-blocks [] [] tables coming len each = tt
-  AreReplies-blocks (s ∷ ss) (b ∷ bs) tables coming len each = (each 0 s b refl refl, AreReplies-blocks ss bs tables (coming_behind coming (block b)) (omega arith) (λ k. each (suc k)))
-  AreReplies-blocks [] (b ∷ bs) tables coming len each = absurd (omega arith)
-  AreReplies-blocks (s ∷ ss) [] tables coming len each = absurd (omega arith)
+  -- What isn't kept of a section changes no reply.
+  IsReply-alike : (ask other : Ask) (tables : Job) (given : Given) (reply : Reply) → kept_ask limits.bytes ask ≡ kept_ask limits.bytes other → IsReply limits form tables given ask reply → IsReply limits form tables given other reply
+  IsReply-alike (plan s) (plan t) tables given (block b) e h = let same : kept limits.bytes s ≡ kept limits.bytes t = cc in IsBlock-kept limits form tables s t same b h
+  IsReply-alike change change tables given (changed text after) e h = h
+  IsReply-alike (plan s) change tables given reply e h = absurd (let no : ⊥ = cc in no)
+  IsReply-alike change (plan t) tables given reply e h = absurd (let no : ⊥ = cc in no)
+  IsReply-alike (plan s) (plan t) tables given (changed text after) e h = absurd h
+  IsReply-alike change change tables given (block b) e h = absurd h
 
-pub Contains-first : (x : List ℕ) (xs : List (List ℕ)) → Contains (x ∷ xs) x
-Contains-first x xs = Contains-append_left (x ∷ []) xs x (Contains-push [] x)
+  AreReplies-alike : (asks others : List Ask) (replies : List Reply) (tables : Job) (coming : ℕ → Given) → AreAlike limits.bytes asks others → AreReplies limits form tables coming asks replies → AreReplies limits form tables coming others replies
+  AreReplies-alike [] [] replies tables coming e h = h
+  AreReplies-alike (a ∷ more) (b ∷ bs) (reply ∷ replies) tables coming e h =
+      let head : kept_ask limits.bytes a ≡ kept_ask limits.bytes b = cc in
+      let tail : AreAlike limits.bytes more bs = cc in
+      (IsReply-alike a b tables (coming 0) reply head h.0, AreReplies-alike more bs replies (tables_behind tables reply) (coming_behind coming reply) tail h.1)
+  AreReplies-alike (a ∷ more) (b ∷ bs) [] tables coming e h = absurd h
+  AreReplies-alike [] (b ∷ bs) replies tables coming e h = absurd (let no : ⊥ = cc in no)
+  AreReplies-alike (a ∷ more) [] replies tables coming e h = absurd (let no : ⊥ = cc in no)
 
--- What is left of bytes when some of what they ask has come, so many `%tables` among it.
-pub record Comes (max : ℕ) (input left : List ℕ) (came : List Ask) (turns : ℕ) : Type 0 where
-  pub asks : asks_in max input ≡ came ++ asks_in max left
-  pub unbroken : All (λ s. bad_envelopes false (job_lines s) ≡ None) (stretches_of max left) → All (λ s. bad_envelopes false (job_lines s) ≡ None) (stretches_of max input)
-  pub within : (s : List ℕ) → Contains (stretches_of max left) s → Contains (stretches_of max input) s
-  pub turns_are : length (later_stretches max input) ≡ turns + length (later_stretches max left)
+-- as many first asks are alike
+first-alike : (max : ℕ) (asks came left : List Ask) → AreAlike max asks (came ++ left) → AreAlike max came (take (length came) asks)
+first-alike max asks came left e =
+    sym (take_at (map (kept_ask max) came) (map (kept_ask max) left) (length came) (length-map came (kept_ask max)))
+    ∙ ap (take (length came)) (sym (map-append (kept_ask max) came left) ∙ sym e)
+    ∙ take-map (kept_ask max) (length came) asks
 
 module _ (limits : Limits) (form : Form) (tables : Job) (coming : ℕ → Given) where
-  -- The answers to what has come are written.
-  pub record HasReplied (input left : List ℕ) (old now : Option (List ℕ)) (counts : EnvelopeCounts) (planner : Job) (given : ℕ → Given) (turns : ℕ) : Type 0 where
+  -- The answers to what has come are written, and this is left.
+  pub record HasReplied (input : List ℕ) (left : List Ask) (rest : ℕ) (old now : Option (List ℕ)) (counts : EnvelopeCounts) (planner : Job) (given : ℕ → Given) : Type 0 where
     pub came : List Ask
-    pub comes : Comes limits.bytes input left came turns
+    pub asks : AreAlike limits.bytes (asks_in limits.bytes input) (came ++ left)
+    pub fewer : rest ≤ length input
     pub replies : List Reply
     pub are_replies : AreReplies limits form tables coming came replies
     pub written : Appends old now (texts_of replies)
@@ -99,20 +80,22 @@ module _ (limits : Limits) (form : Form) (tables : Job) (coming : ℕ → Given)
     pub planner_is : planner ≡ tables_after tables replies
     pub given_is : (k : ℕ) → given k ≡ coming_after coming replies k
 
-  abbrev pub RepliedKnown : Option (List ℕ) → Option (List ℕ) → Option (List ℕ) → Option (List ℕ) → EnvelopeCounts → Job → (ℕ → Given) → ℕ → Type 0
-  RepliedKnown None left old now counts planner given turns = ⊤
-  RepliedKnown (Some input) None old now counts planner given turns = ⊥
-  RepliedKnown (Some input) (Some left) old now counts planner given turns = HasReplied input left old now counts planner given turns
+  -- of bytes that may be known
+  abbrev pub RepliedKnown : Option (List ℕ) → ℕ → Bool → Option Section → Option (List ℕ) → Option (List ℕ) → Option (List ℕ) → EnvelopeCounts → Job → (ℕ → Given) → Type 0
+  RepliedKnown None number asked begun bytes old now counts planner given = ⊤
+  RepliedKnown (Some input) number asked begun None old now counts planner given = ⊥
+  RepliedKnown (Some input) number asked begun (Some bytes) old now counts planner given = HasReplied input (to_come limits.bytes number asked begun bytes) (number + length bytes) old now counts planner given
 
-  pub Replied-start : (remaining : Option (List ℕ)) (pending : List ℕ) (old : Option (List ℕ)) (counts : EnvelopeCounts) → pending ≡ [] → counts ≡ no_counts → RepliedKnown remaining (prepend_known pending remaining) old old counts tables coming 0
-  Replied-start None pending old counts e f = tt
-  Replied-start (Some input) pending old counts e f = rw e (record {
+  pub Replied-start : (remaining : Option (List ℕ)) (number : ℕ) (pending : List ℕ) (asked : Bool) (begun : Option Section) (old : Option (List ℕ)) (counts : EnvelopeCounts) → number ≡ 0 → pending ≡ [] → asked ≡ false → begun ≡ None → counts ≡ no_counts → RepliedKnown remaining number asked begun (prepend_known pending remaining) old old counts tables coming
+  Replied-start None number pending asked begun old counts e f t b g = tt
+  Replied-start (Some input) number pending asked begun old counts e f t b g = rw (e, f, t, b) (record {
     came = [];
-    comes = record { asks = refl; unbroken = λ h. h; within = λ s h. h; turns_are = omega arith };
+    asks = refl;
+    fewer = omega arith;
     replies = [];
     are_replies = tt;
     written = Appends-nil old;
-    counted = f;
+    counted = g;
     planner_is = refl;
     given_is = λ k. refl;
   })
@@ -120,207 +103,139 @@ module _ (limits : Limits) (form : Form) (tables : Job) (coming : ℕ → Given)
   pub FrontsReplies-none : (asks : List Ask) (old : Option (List ℕ)) → FrontsReplies limits form tables coming asks old old
   FrontsReplies-none asks old = record { came = []; rest = asks; parts = refl; replies = []; are_replies = tt; count = 0; written = Appends-nil old }
 
-  -- the blocks of the first stretch are written too
-  record HasAnswered (input left : List ℕ) (old now : Option (List ℕ)) (counts : EnvelopeCounts) (planner : Job) (given : ℕ → Given) (turns : ℕ) : Type 0 where
-    came : List Ask
-    asks : asks_in limits.bytes input ≡ came ++ flat_map (λ s. change ∷ plans_in s) (later_stretches limits.bytes left)
-    replies : List Reply
-    are_replies : AreReplies limits form tables coming came replies
-    written : Appends old now (texts_of replies)
-    counted : counts ≡ counts_of replies
-    planner_is : planner ≡ tables_after tables replies
-    given_is : (k : ℕ) → given k ≡ coming_after coming replies k
-    unbroken : All (λ s. bad_envelopes false (job_lines s) ≡ None) (later_stretches limits.bytes left) → All (λ s. bad_envelopes false (job_lines s) ≡ None) (stretches_of limits.bytes input)
-    within : (s : List ℕ) → Contains (later_stretches limits.bytes left) s → Contains (stretches_of limits.bytes input) s
-    turns_are : length (later_stretches limits.bytes input) ≡ turns + length (later_stretches limits.bytes left)
-
-  module _ (input left : List ℕ) (old now mid : Option (List ℕ)) (before counts : EnvelopeCounts) (planner : Job) (given : ℕ → Given) (turns : ℕ)
-      (h : HasReplied input left old now before planner given turns) where
-    tables-more : (bs : List Block) → planner ≡ tables_after tables (h.replies ++ replied bs)
-    tables-more bs = h.planner_is ∙ sym (fold-append tables_behind tables h.replies (replied bs) ∙ tables-replied (tables_after tables h.replies) bs)
-
-    coming-more : (bs : List Block) (k : ℕ) → given k ≡ coming_after coming (h.replies ++ replied bs) k
-    coming-more bs k = h.given_is k ∙ sym (ap (λ (f : ℕ → Given). f k) (fold-append coming_behind coming h.replies (replied bs)) ∙ coming-replied (coming_after coming h.replies) bs k)
-
-    replies-more : (sections : List Section) (bs : List Block) → AreBlocks limits form planner sections bs → AreReplies limits form tables coming (h.came ++ map plan sections) (h.replies ++ replied bs)
-    replies-more sections bs are =
-        AreReplies-more limits form h.came (map plan sections) h.replies (replied bs) tables coming h.are_replies
-        (subst (λ (t : Job). AreReplies limits form t (coming_after coming h.replies) (map plan sections) (replied bs)) h.planner_is (AreReplies-blocks limits form sections bs planner (coming_after coming h.replies) are.len are.each))
-
-    texts-more : (bs : List Block) → texts_of (h.replies ++ replied bs) ≡ texts_of h.replies ++ blocks.texts_of bs
-    texts-more bs = flat_map-append text_of h.replies (replied bs) ∙ ap (λ l. texts_of h.replies ++ l) (texts-replied bs)
-
-    answered : WritesBlocks limits form planner (first_stretch limits.bytes left) now mid before counts → HasAnswered input left old mid counts planner given turns
-    answered w = record {
-      came = h.came ++ plans_in (first_stretch limits.bytes left);
-      asks = h.comes.asks ∙ sym (append_assoc h.came (plans_in (first_stretch limits.bytes left)) (flat_map (λ s. change ∷ plans_in s) (later_stretches limits.bytes left)));
-      replies = h.replies ++ replied w.blocks;
-      are_replies = replies-more (sections_in (first_stretch limits.bytes left)) w.blocks w.are_blocks;
-      written = rw (texts-more w.blocks) (Appends-trans old now mid (texts_of h.replies) (blocks.texts_of w.blocks) h.written w.written);
-      counted = w.counted ∙ ap (λ (c : EnvelopeCounts). counts_from c w.blocks) h.counted ∙ sym (fold-append with_reply no_counts h.replies (replied w.blocks) ∙ counts-replied (counts_of h.replies) w.blocks);
-      planner_is = tables-more w.blocks;
-      given_is = coming-more w.blocks;
-      unbroken = λ all. h.comes.unbroken (All-cons (λ s. bad_envelopes false (job_lines s) ≡ None) (first_stretch limits.bytes left) (later_stretches limits.bytes left) w.unbroken all);
-      within = λ s c. h.comes.within s (Contains-append_right (first_stretch limits.bytes left ∷ []) (later_stretches limits.bytes left) s c);
-      turns_are = h.comes.turns_are;
-    }
-
-    -- a write of the blocks of a stretch has failed
-    stopped-blocks : FrontsBlocks limits form planner (sections_in (first_stretch limits.bytes left)) now mid → FrontsReplies limits form tables coming (asks_in limits.bytes input) old mid
-    stopped-blocks w = record {
-      came = h.came ++ map plan w.came;
-      rest = map plan w.have_come.rest ++ flat_map (λ s. change ∷ plans_in s) (later_stretches limits.bytes left);
-      parts =
-          h.comes.asks
-          ∙ ap (λ (ss : List Section). h.came ++ (map plan ss ++ flat_map (λ s. change ∷ plans_in s) (later_stretches limits.bytes left))) w.have_come.parts
-          ∙ ap (λ (asks : List Ask). h.came ++ (asks ++ flat_map (λ s. change ∷ plans_in s) (later_stretches limits.bytes left))) (map-append plan w.came w.have_come.rest)
-          ∙ ap (λ (asks : List Ask). h.came ++ asks) (append_assoc (map plan w.came) (map plan w.have_come.rest) (flat_map (λ s. change ∷ plans_in s) (later_stretches limits.bytes left)))
-          ∙ sym (append_assoc h.came (map plan w.came) (map plan w.have_come.rest ++ flat_map (λ s. change ∷ plans_in s) (later_stretches limits.bytes left)));
-      replies = h.replies ++ replied w.blocks;
-      are_replies = replies-more w.came w.blocks w.have_come.are_blocks;
-      count = length (texts_of h.replies) + w.count;
-      written =
-          let cut : take (length (texts_of h.replies) + w.count) (texts_of (h.replies ++ replied w.blocks)) ≡ texts_of h.replies ++ take w.count (blocks.texts_of w.blocks) = ap (take (length (texts_of h.replies) + w.count)) (texts-more w.blocks) ∙ take-append-add (texts_of h.replies) (blocks.texts_of w.blocks) w.count in
-          rw cut (Appends-trans old now mid (texts_of h.replies) (take w.count (blocks.texts_of w.blocks)) h.written w.written);
-    }
-
+  module _ (input : List ℕ) (left : List Ask) (rest : ℕ) (old now : Option (List ℕ)) (counts : EnvelopeCounts) (planner : Job) (given : ℕ → Given)
+      (h : HasReplied input left rest old now counts planner given) where
     front-replied : FrontsReplies limits form tables coming (asks_in limits.bytes input) old now
     front-replied = record {
-      came = h.came;
-      rest = asks_in limits.bytes left;
-      parts = h.comes.asks;
+      came = take (length h.came) (asks_in limits.bytes input);
+      rest = drop (length h.came) (asks_in limits.bytes input);
+      parts = sym (take-append-drop (length h.came) (asks_in limits.bytes input));
       replies = h.replies;
-      are_replies = h.are_replies;
+      are_replies = AreReplies-alike limits form h.came _ h.replies tables coming (first-alike limits.bytes (asks_in limits.bytes input) h.came left h.asks) h.are_replies;
       count = length (texts_of h.replies);
       written = rw (take-length (texts_of h.replies)) h.written;
     }
 
-  module _ (input left : List ℕ) (old now new : Option (List ℕ)) (counts : EnvelopeCounts) (planner : Job) (given : ℕ → Given) (turns : ℕ)
-      (h : HasAnswered input left old now counts planner given turns) where
-    changed-more : (text : List ℕ) (after : Job) → IsChange limits form (given 0) planner text after → AreReplies limits form tables coming (h.came ++ change ∷ []) (h.replies ++ changed text after ∷ [])
-    changed-more text after is =
-        AreReplies-more limits form h.came (change ∷ []) h.replies (changed text after ∷ []) tables coming h.are_replies
-        ((subst (λ (t : Job). IsChange limits form (coming_after coming h.replies 0) t text after) h.planner_is (subst (λ (g : Given). IsChange limits form g planner text after) (h.given_is 0) is)), tt)
+    -- this is asked next, and this is the reply
+    module _ (ask : Ask) (reply : Reply) (after : List Ask) (less : ℕ) (new : Option (List ℕ)) (leads : Leads limits.bytes left (ask ∷ []) after rest less) (is : IsReply limits form planner (given 0) ask reply) where
+      replies-more : AreReplies limits form tables coming (h.came ++ ask ∷ []) (h.replies ++ reply ∷ [])
+      replies-more =
+          AreReplies-more limits form h.came (ask ∷ []) h.replies (reply ∷ []) tables coming h.are_replies
+          (subst (λ (t : Job). IsReply limits form t (coming_after coming h.replies 0) ask reply) h.planner_is (subst (λ (g : Given). IsReply limits form planner g ask reply) (h.given_is 0) is), tt)
 
-    text-more : (text : List ℕ) (after : Job) → texts_of (h.replies ++ changed text after ∷ []) ≡ texts_of h.replies ++ text
-    text-more text after = flat_map-append text_of h.replies (changed text after ∷ []) ∙ ap (λ l. texts_of h.replies ++ l) (append-nil text)
+      asks-more : AreAlike limits.bytes (asks_in limits.bytes input) ((h.came ++ ask ∷ []) ++ after)
+      asks-more =
+          h.asks ∙ map-append (kept_ask limits.bytes) h.came left ∙ ap (λ l. map (kept_ask limits.bytes) h.came ++ l) leads.asks ∙ sym (map-append (kept_ask limits.bytes) h.came (ask ∷ after))
+          ∙ ap (map (kept_ask limits.bytes)) (sym (append_assoc h.came (ask ∷ []) after))
 
-    -- `%tables` is answered, and what stands behind it is left
-    replied-change : (rest : List ℕ) (after : Job) (next : ℕ → Given) → stretches_of limits.bytes rest ≡ later_stretches limits.bytes left → WritesChange limits form (given 0) planner after now new → ((k : ℕ) → next k ≡ given (k + 1)) → HasReplied input rest old new counts after next (turns + 1)
-    replied-change rest after next e w later = record {
-      came = h.came ++ change ∷ [];
-      comes = record {
-        asks = h.asks ∙ ap (λ ss. h.came ++ flat_map (λ s. change ∷ plans_in s) ss) (sym e) ∙ sym (append_assoc h.came (change ∷ []) (asks_in limits.bytes rest));
-        unbroken = λ all. h.unbroken (subst (All (λ s. bad_envelopes false (job_lines s) ≡ None)) e all);
-        within = λ s c. h.within s (subst (λ (ss : List (List ℕ)). Contains ss s) e c);
-        turns_are = omega (arith, h.turns_are, ap length e);
-      };
-      replies = h.replies ++ changed w.text after ∷ [];
-      are_replies = changed-more w.text after w.is;
-      written = rw (text-more w.text after) (Appends-trans old now new (texts_of h.replies) w.text h.written w.written);
-      counted = h.counted ∙ sym (fold-append with_reply no_counts h.replies (changed w.text after ∷ []));
-      planner_is = sym (fold-append tables_behind tables h.replies (changed w.text after ∷ []));
-      given_is = λ k. later k ∙ h.given_is (k + 1) ∙ sym (ap (λ (f : ℕ → Given). f k) (fold-append coming_behind coming h.replies (changed w.text after ∷ [])));
-    }
+      text-more : texts_of (h.replies ++ reply ∷ []) ≡ texts_of h.replies ++ text_of reply
+      text-more = flat_map-append text_of h.replies (reply ∷ []) ∙ ap (λ l. texts_of h.replies ++ l) (append-nil (text_of reply))
 
-    -- a write of its answer has failed
-    stopped-change : (more : List (List ℕ)) (first : List ℕ) → first ∷ more ≡ later_stretches limits.bytes left → FrontsChange limits form (given 0) planner now new → FrontsReplies limits form tables coming (asks_in limits.bytes input) old new
-    stopped-change more first e w = record {
-      came = h.came ++ change ∷ [];
-      rest = plans_in first ++ flat_map (λ s. change ∷ plans_in s) more;
-      parts = h.asks ∙ ap (λ ss. h.came ++ flat_map (λ s. change ∷ plans_in s) ss) (sym e) ∙ sym (append_assoc h.came (change ∷ []) (plans_in first ++ flat_map (λ s. change ∷ plans_in s) more));
-      replies = h.replies ++ changed w.text w.after ∷ [];
-      are_replies = changed-more w.text w.after w.is;
-      count = length (texts_of h.replies) + w.count;
-      written =
-          let cut : take (length (texts_of h.replies) + w.count) (texts_of (h.replies ++ changed w.text w.after ∷ [])) ≡ texts_of h.replies ++ take w.count w.text = ap (take (length (texts_of h.replies) + w.count)) (text-more w.text w.after) ∙ take-append-add (texts_of h.replies) w.text w.count in
-          rw cut (Appends-trans old now new (texts_of h.replies) (take w.count w.text) h.written w.written);
-    }
+      replied-more : (next : EnvelopeCounts) (then : Job) (gives : ℕ → Given) → Appends now new (text_of reply) → next ≡ with_reply counts reply → then ≡ tables_behind planner reply → ((k : ℕ) → gives k ≡ coming_behind given reply k) → ((k : ℕ) → coming_behind given reply k ≡ coming_behind (coming_after coming h.replies) reply k) → HasReplied input after less old new next then gives
+      replied-more next then gives w c t later same = record {
+        came = h.came ++ ask ∷ [];
+        asks = asks-more;
+        fewer = omega (arith, h.fewer, leads.fewer);
+        replies = h.replies ++ reply ∷ [];
+        are_replies = replies-more;
+        written = rw text-more (Appends-trans old now new (texts_of h.replies) (text_of reply) h.written w);
+        counted = c ∙ ap (λ (n : EnvelopeCounts). with_reply n reply) h.counted ∙ sym (fold-append with_reply no_counts h.replies (reply ∷ []));
+        planner_is = t ∙ ap (λ (j : Job). tables_behind j reply) h.planner_is ∙ sym (fold-append tables_behind tables h.replies (reply ∷ []));
+        given_is = λ k. later k ∙ same k ∙ sym (ap (λ (f : ℕ → Given). f k) (fold-append coming_behind coming h.replies (reply ∷ [])));
+      }
 
-    replied-all : later_stretches limits.bytes left ≡ [] → RepliesToAll limits form tables coming input old now counts
-    replied-all e = record {
-      unbroken = h.unbroken (subst (All (λ s. bad_envelopes false (job_lines s) ≡ None)) (sym e) (All-nil (λ s. bad_envelopes false (job_lines s) ≡ None)));
-      replies = h.replies;
-      are_replies = subst (λ (asks : List Ask). AreReplies limits form tables coming asks h.replies) (sym (h.asks ∙ ap (λ ss. h.came ++ flat_map (λ s. change ∷ plans_in s) ss) e ∙ append-nil h.came)) h.are_replies;
-      written = h.written;
-      counted = h.counted;
-    }
+      stopped : (count : ℕ) → Appends now new (take count (text_of reply)) → FrontsReplies limits form tables coming (asks_in limits.bytes input) old new
+      stopped count w = record {
+        came = take (length (h.came ++ ask ∷ [])) (asks_in limits.bytes input);
+        rest = drop (length (h.came ++ ask ∷ [])) (asks_in limits.bytes input);
+        parts = sym (take-append-drop (length (h.came ++ ask ∷ [])) (asks_in limits.bytes input));
+        replies = h.replies ++ reply ∷ [];
+        are_replies = AreReplies-alike limits form (h.came ++ ask ∷ []) _ (h.replies ++ reply ∷ []) tables coming (first-alike limits.bytes (asks_in limits.bytes input) (h.came ++ ask ∷ []) after asks-more) replies-more;
+        count = length (texts_of h.replies) + count;
+        written =
+            let cut : take (length (texts_of h.replies) + count) (texts_of (h.replies ++ reply ∷ [])) ≡ texts_of h.replies ++ take count (text_of reply) = ap (take (length (texts_of h.replies) + count)) text-more ∙ take-append-add (texts_of h.replies) (text_of reply) count in
+            rw cut (Appends-trans old now new (texts_of h.replies) (take count (text_of reply)) h.written w);
+      }
 
-  -- The steps of a run, of bytes that may be known.
-  module _ (remaining left : Option (List ℕ)) (old now : Option (List ℕ)) (before : EnvelopeCounts) (planner : Job) (given : ℕ → Given) (turns : ℕ) where
-    pub Replied-more : (rest : Option (List ℕ)) (mid new : Option (List ℕ)) (counts : EnvelopeCounts) (after : Job) (next : ℕ → Given) → RepliedKnown remaining left old now before planner given turns
-        → IfSome (first_of limits.bytes left) (λ input. WritesBlocks limits form planner input now mid before counts)
-        → KeepsLater (later_of limits.bytes left) (option_map (λ bytes. stretches_of limits.bytes bytes) rest)
-        → WritesChange limits form (given 0) planner after mid new → ((k : ℕ) → next k ≡ given (k + 1))
-        → RepliedKnown remaining rest old new counts after next (turns + 1)
-    Replied-more rest mid new counts after next h w k c later = at remaining left rest h w k where
-      at : (remaining left rest : Option (List ℕ)) → RepliedKnown remaining left old now before planner given turns
-          → IfSome (first_of limits.bytes left) (λ input. WritesBlocks limits form planner input now mid before counts)
-          → KeepsLater (later_of limits.bytes left) (option_map (λ bytes. stretches_of limits.bytes bytes) rest)
-          → RepliedKnown remaining rest old new counts after next (turns + 1)
-      at None left rest h w k = tt
-      at (Some input) None rest h w k = absurd h
-      at (Some input) (Some bytes) None h w k = absurd k
-      at (Some input) (Some bytes) (Some more) h w k = replied-change input bytes old mid new counts planner given turns (answered input bytes old now mid before counts planner given turns h w) more after next k c later
+  -- nothing more was written
+  FrontsReplies-nothing : (asks : List Ask) (old now new : Option (List ℕ)) → FrontsReplies limits form tables coming asks old now → Appends now new [] → FrontsReplies limits form tables coming asks old new
+  FrontsReplies-nothing asks old now new h w = record {
+    came = h.came;
+    rest = h.rest;
+    parts = h.parts;
+    replies = h.replies;
+    are_replies = h.are_replies;
+    count = h.count;
+    written = rw (append-nil (take h.count (texts_of h.replies))) at (Appends-trans old now new (take h.count (texts_of h.replies)) [] h.written w);
+  }
 
-    pub Replied-stopped : (rest : Option (List ℕ)) (mid new : Option (List ℕ)) (counts : EnvelopeCounts) → RepliedKnown remaining left old now before planner given turns
-        → IfSome (first_of limits.bytes left) (λ input. WritesBlocks limits form planner input now mid before counts)
-        → KeepsLater (later_of limits.bytes left) (option_map (λ bytes. stretches_of limits.bytes bytes) rest)
-        → FrontsChange limits form (given 0) planner mid new
-        → IfSome remaining (λ input. FrontsReplies limits form tables coming (asks_in limits.bytes input) old new)
-    Replied-stopped rest mid new counts h w k c = at remaining left rest h w k where
-      at : (remaining left rest : Option (List ℕ)) → RepliedKnown remaining left old now before planner given turns
-          → IfSome (first_of limits.bytes left) (λ input. WritesBlocks limits form planner input now mid before counts)
-          → KeepsLater (later_of limits.bytes left) (option_map (λ bytes. stretches_of limits.bytes bytes) rest)
-          → IfSome remaining (λ input. FrontsReplies limits form tables coming (asks_in limits.bytes input) old new)
-      at None left rest h w k = tt
-      at (Some input) None rest h w k = absurd h
-      at (Some input) (Some bytes) None h w k = absurd k
-      at (Some input) (Some bytes) (Some more) h w k = stopped-change input bytes old mid new counts planner given turns (answered input bytes old now mid before counts planner given turns h w) (later_stretches limits.bytes more) (first_stretch limits.bytes more) k c
+  -- The steps of a run.
+  module _ (remaining : Option (List ℕ)) (number : ℕ) (asked : Bool) (begun : Option Section) (bytes : Option (List ℕ)) (old now : Option (List ℕ)) (counts : EnvelopeCounts) (planner : Job) (given : ℕ → Given) where
+    module _ (next : ℕ) (turns : Bool) (goes_on : Option Section) (left : Option (List ℕ)) (new : Option (List ℕ)) where
+      pub Replied-block : (s : Section) (more : EnvelopeCounts) → RepliedKnown remaining number asked begun bytes old now counts planner given → LeadsKnown limits.bytes number asked begun bytes (planned (Some s)) next turns goes_on left → WritesBlock limits form planner s now new counts more → RepliedKnown remaining next turns goes_on left old new more planner given
+      Replied-block s more h k w = at remaining bytes left h k where
+        at : (remaining bytes left : Option (List ℕ)) → RepliedKnown remaining number asked begun bytes old now counts planner given → LeadsKnown limits.bytes number asked begun bytes (planned (Some s)) next turns goes_on left → RepliedKnown remaining next turns goes_on left old new more planner given
+        at None bytes left h k = tt
+        at (Some input) None left h k = absurd h
+        at (Some input) (Some ls) None h k = absurd k
+        at (Some input) (Some ls) (Some ys) h k = replied-more input _ _ old now counts planner given h (plan s) (block w.block) _ _ new k w.is more planner given w.written w.counted refl (λ k. refl) h.given_is
 
-    pub Replied-end : (rest : Option (List (List ℕ))) (mid : Option (List ℕ)) (counts : EnvelopeCounts) → RepliedKnown remaining left old now before planner given turns
-        → IfSome (first_of limits.bytes left) (λ input. WritesBlocks limits form planner input now mid before counts)
-        → KeepsLater (later_of limits.bytes left) rest → IfSome rest (λ later. later ≡ [])
-        → IfSome remaining (λ input. RepliesToAll limits form tables coming input old mid counts)
-    Replied-end rest mid counts h w k none = at remaining left rest h w k none where
-      at : (remaining left : Option (List ℕ)) (rest : Option (List (List ℕ))) → RepliedKnown remaining left old now before planner given turns
-          → IfSome (first_of limits.bytes left) (λ input. WritesBlocks limits form planner input now mid before counts)
-          → KeepsLater (later_of limits.bytes left) rest → IfSome rest (λ later. later ≡ [])
-          → IfSome remaining (λ input. RepliesToAll limits form tables coming input old mid counts)
-      at None left rest h w k none = tt
-      at (Some input) None rest h w k none = absurd h
-      at (Some input) (Some bytes) None h w k none = absurd k
-      at (Some input) (Some bytes) (Some more) h w k none = replied-all input bytes old mid mid counts planner given turns (answered input bytes old now mid before counts planner given turns h w) (sym k ∙ none)
+      pub Replied-stopped : (s : Section) → RepliedKnown remaining number asked begun bytes old now counts planner given → LeadsKnown limits.bytes number asked begun bytes (planned (Some s)) next turns goes_on left → FrontsBlock limits form planner s now new → IfSome remaining (λ input. FrontsReplies limits form tables coming (asks_in limits.bytes input) old new)
+      Replied-stopped s h k w = at remaining bytes left h k w where
+        at : (remaining bytes left : Option (List ℕ)) → RepliedKnown remaining number asked begun bytes old now counts planner given → LeadsKnown limits.bytes number asked begun bytes (planned (Some s)) next turns goes_on left → FrontsBlock limits form planner s now new → IfSome remaining (λ input. FrontsReplies limits form tables coming (asks_in limits.bytes input) old new)
+        at None bytes left h k w = tt
+        at (Some input) None left h k w = absurd h
+        at (Some input) (Some ls) None h k w = absurd k
+        at (Some input) (Some ls) (Some ys) h k (nothing w) = FrontsReplies-nothing (asks_in limits.bytes input) old now new (front-replied input _ _ old now counts planner given h) w
+        at (Some input) (Some ls) (Some ys) h k (some b count is w) = stopped input _ _ old now counts planner given h (plan s) (block b) _ _ new k is count w
 
-    pub Replied-refused : (fault : RunFault) → RepliedKnown remaining left old now before planner given turns → IfSome (first_of limits.bytes left) (λ input. RefusesSoFar limits input fault) → IfSome remaining (λ input. RefusesStretches limits input fault)
-    Replied-refused fault h r = at remaining left h r where
-      so : (input bytes : List ℕ) → HasReplied input bytes old now before planner given turns → RefusesSoFar limits (first_stretch limits.bytes bytes) fault → RefusesStretches limits input fault
-      so input bytes h (reads r) = stretch (first_stretch limits.bytes bytes) (h.comes.within (first_stretch limits.bytes bytes) (Contains-first (first_stretch limits.bytes bytes) (later_stretches limits.bytes bytes))) r
-      so input bytes h (writes r) = other r
+    -- `%tables` is answered
+    module _ (next : ℕ) (goes_on : Option Section) (left : Option (List ℕ)) (new : Option (List ℕ)) where
+      pub Replied-change : (after : Job) (gives : ℕ → Given) → RepliedKnown remaining number asked begun bytes old now counts planner given → LeadsKnown limits.bytes number asked begun bytes [] next true goes_on left → WritesChange limits form (given 0) planner after now new → ((k : ℕ) → gives k ≡ given (k + 1)) → RepliedKnown remaining next false goes_on left old new counts after gives
+      Replied-change after gives h k w later = at remaining bytes left h k where
+        at : (remaining bytes left : Option (List ℕ)) → RepliedKnown remaining number asked begun bytes old now counts planner given → LeadsKnown limits.bytes number asked begun bytes [] next true goes_on left → RepliedKnown remaining next false goes_on left old new counts after gives
+        at None bytes left h k = tt
+        at (Some input) None left h k = absurd h
+        at (Some input) (Some ls) None h k = absurd k
+        at (Some input) (Some ls) (Some ys) h k = replied-more input _ _ old now counts planner given h change (changed w.text after) _ _ new (record { asks = k.asks; fewer = k.fewer }) w.is counts after gives w.written refl refl later (λ k. h.given_is (k + 1))
 
-      at : (remaining left : Option (List ℕ)) → RepliedKnown remaining left old now before planner given turns → IfSome (first_of limits.bytes left) (λ input. RefusesSoFar limits input fault) → IfSome remaining (λ input. RefusesStretches limits input fault)
-      at None left h r = tt
-      at (Some input) None h r = absurd h
-      at (Some input) (Some bytes) h r = so input bytes h r
+      pub Replied-stopped_change : RepliedKnown remaining number asked begun bytes old now counts planner given → LeadsKnown limits.bytes number asked begun bytes [] next true goes_on left → FrontsChange limits form (given 0) planner now new → IfSome remaining (λ input. FrontsReplies limits form tables coming (asks_in limits.bytes input) old new)
+      Replied-stopped_change h k w = at remaining bytes left h k where
+        at : (remaining bytes left : Option (List ℕ)) → RepliedKnown remaining number asked begun bytes old now counts planner given → LeadsKnown limits.bytes number asked begun bytes [] next true goes_on left → IfSome remaining (λ input. FrontsReplies limits form tables coming (asks_in limits.bytes input) old new)
+        at None bytes left h k = tt
+        at (Some input) None left h k = absurd h
+        at (Some input) (Some ls) None h k = absurd k
+        at (Some input) (Some ls) (Some ys) h k = stopped input _ _ old now counts planner given h change (changed w.text w.after) _ _ new (record { asks = k.asks; fewer = k.fewer }) w.is w.count w.written
 
-    pub Replied-stopped_blocks : (new : Option (List ℕ)) → RepliedKnown remaining left old now before planner given turns → IfSome (first_of limits.bytes left) (λ input. FrontsBlocks limits form planner (sections_in input) now new) → IfSome remaining (λ input. FrontsReplies limits form tables coming (asks_in limits.bytes input) old new)
-    Replied-stopped_blocks new h w = at remaining left h w where
-      at : (remaining left : Option (List ℕ)) → RepliedKnown remaining left old now before planner given turns → IfSome (first_of limits.bytes left) (λ input. FrontsBlocks limits form planner (sections_in input) now new) → IfSome remaining (λ input. FrontsReplies limits form tables coming (asks_in limits.bytes input) old new)
-      at None left h w = tt
-      at (Some input) None h w = absurd h
-      at (Some input) (Some bytes) h w = stopped-blocks input bytes old now new before before planner given turns h w
+    -- none is to come
+    pub Replied-end : (next : ℕ) (goes_on : Option Section) (left : Option (List ℕ)) → RepliedKnown remaining number asked begun bytes old now counts planner given → LeadsKnown limits.bytes number asked begun bytes [] next false goes_on left → goes_on ≡ None → IsAtEnd left → IfSome remaining (λ input. RepliesToAll limits form tables coming input old now counts)
+    Replied-end next goes_on left h k none end = at remaining bytes left h k end where
+      at : (remaining bytes left : Option (List ℕ)) → RepliedKnown remaining number asked begun bytes old now counts planner given → LeadsKnown limits.bytes number asked begun bytes [] next false goes_on left → IsAtEnd left → IfSome remaining (λ input. RepliesToAll limits form tables coming input old now counts)
+      at None bytes left h k end = tt
+      at (Some input) None left h k end = absurd h
+      at (Some input) (Some ls) None h k end = absurd k
+      at (Some input) (Some ls) (Some ys) h k end =
+          let left_none : to_come limits.bytes next false goes_on ys ≡ [] = rw (none, end) refl in
+          let led : AreAlike limits.bytes (to_come limits.bytes number asked begun ls) [] = rw left_none at k.asks in
+          let all : AreAlike limits.bytes h.came (asks_in limits.bytes input) = sym (h.asks ∙ map-append (kept_ask limits.bytes) h.came (to_come limits.bytes number asked begun ls) ∙ ap (λ l. map (kept_ask limits.bytes) h.came ++ l) led ∙ append-nil (map (kept_ask limits.bytes) h.came)) in
+          record {
+            replies = h.replies;
+            are_replies = AreReplies-alike limits form h.came (asks_in limits.bytes input) h.replies tables coming all h.are_replies;
+            written = h.written;
+            counted = h.counted;
+          }
 
-    -- so many `%tables` have come that no more can be counted
-    pub Replied-many : 2 ^ 64 - 1 ≤ turns → RepliedKnown remaining left old now before planner given turns → IfSome remaining (λ input. RefusesStretches limits input TooLong)
-    Replied-many all h = at remaining left h where
-      at : (remaining left : Option (List ℕ)) → RepliedKnown remaining left old now before planner given turns → IfSome remaining (λ input. RefusesStretches limits input TooLong)
-      at None left h = tt
+    pub Replied-front : RepliedKnown remaining number asked begun bytes old now counts planner given → IfSome remaining (λ input. FrontsReplies limits form tables coming (asks_in limits.bytes input) old now)
+    Replied-front h = at remaining bytes h where
+      at : (remaining bytes : Option (List ℕ)) → RepliedKnown remaining number asked begun bytes old now counts planner given → IfSome remaining (λ input. FrontsReplies limits form tables coming (asks_in limits.bytes input) old now)
+      at None bytes h = tt
       at (Some input) None h = absurd h
-      at (Some input) (Some bytes) h = many refl (let is = h.comes.turns_are in omega (arith, all, is))
+      at (Some input) (Some ls) h = front-replied input _ _ old now counts planner given h
 
-    pub Replied-front : RepliedKnown remaining left old now before planner given turns → IfSome remaining (λ input. FrontsReplies limits form tables coming (asks_in limits.bytes input) old now)
-    Replied-front h = at remaining left h where
-      at : (remaining left : Option (List ℕ)) → RepliedKnown remaining left old now before planner given turns → IfSome remaining (λ input. FrontsReplies limits form tables coming (asks_in limits.bytes input) old now)
-      at None left h = tt
-      at (Some input) None h = absurd h
-      at (Some input) (Some bytes) h = front-replied input bytes old now now before before planner given turns h
+    -- there are more bytes than can be counted
+    pub Replied-long : RepliedKnown remaining number asked begun bytes old now counts planner given → IfSome bytes (λ bytes. 2 ^ 64 - 1 ≤ number + length bytes) → IfSome remaining (λ input. 2 ^ 64 - 1 ≤ length input)
+    Replied-long h p = at remaining bytes h p where
+      at : (remaining bytes : Option (List ℕ)) → RepliedKnown remaining number asked begun bytes old now counts planner given → IfSome bytes (λ bytes. 2 ^ 64 - 1 ≤ number + length bytes) → IfSome remaining (λ input. 2 ^ 64 - 1 ≤ length input)
+      at None bytes h p = tt
+      at (Some input) None h p = absurd h
+      at (Some input) (Some ls) h p = omega (arith, h.fewer, p)

@@ -1,11 +1,10 @@
 -- What becomes of envelopes that come beside the tables.
-use Rattle.std.specs.Prelude.{◌≡◌, ℕ, false, true, List, [], ◌++◌, take, Option, None, Some, ⊤}
+use Rattle.std.specs.Prelude.{◌≡◌, ◌≤◌, ◌-◌, ◌^◌, ℕ, List, [], ◌++◌, length, take, Option, ⊤}
 use Rattle.std.specs.Io.KnownBytes.{Appends}
 use Rattle.relay_job.specs.declared.job.Job.{Job}
 use Rattle.relay_job.specs.declared.fault.RunFault.{RunFault}
 use Rattle.relay_job.specs.declared.fault.RunFault.TheVariants.{Read, TooLong, BadJob, BadSetting, BadEnvelope, TooManyNames, TooManyOwners, TooManyPairs, Write, Memory}
-use Rattle.relay_job.specs.JobText.{job_lines}
-use Rattle.relay_envelopes.specs.Sections.{Section, envelopes_of, bad_envelopes}
+use Rattle.relay_envelopes.specs.Sections.{Section}
 use Rattle.relay_planning.specs.declared.options.Form.{Form}
 use Rattle.relay_planning.specs.declared.options.Limits.{Limits}
 use Rattle.aliasplan.specs.Checks.{AreLines}
@@ -15,25 +14,20 @@ use Rattle.aliasplan_each.specs.declared.summary.EachSummary.{EachSummary}
 use Rattle.aliasplan_each.specs.Forms.{tables_text_in}
 use Rattle.aliasplan_each.specs.Blocks.{Block, texts_of, AreBlocks}
 use Rattle.aliasplan_each.specs.Runs.{IsEachAnswer}
-use Rattle.aliasplan_each.specs.Feeding.{is_long}
-
-abbrev pub sections_in : List ℕ → List Section
-sections_in input = envelopes_of (job_lines input)
+use Rattle.aliasplan_each.specs.Asks.{sections_in}
 
 -- The envelopes' answer by these tables is written.
 pub record PlansBeside (limits : Limits) (form : Form) (tables : Job) (input : List ℕ) (old new : Option (List ℕ)) (summary : EachSummary) : Type 0 where
   pub few : AreTableCountsWithin limits tables
-  pub unbroken : bad_envelopes false (job_lines input) ≡ None
   pub text : List ℕ
-  pub due : IsEachAnswer limits form tables (sections_in input) text summary
+  pub due : IsEachAnswer limits form tables (sections_in limits.bytes input) text summary
   pub written : Appends old new text
 
--- A run that refuses because of the tables or of the bytes that it read. Too long are bytes of which a line, or all lines of a section, are
--- more than the limit.
+-- A run that refuses because of the tables, or because there are more bytes than 64 bits can count. No other text of envelopes is refused.
 abbrev pub RefusesBeside : Limits → Job → List ℕ → RunFault → Type 0
 RefusesBeside limits tables input Read = ⊤
-RefusesBeside limits tables input TooLong = is_long limits.bytes (job_lines input) (sections_in input) ≡ true
-RefusesBeside limits tables input (BadJob number) = bad_envelopes false (job_lines input) ≡ Some number
+RefusesBeside limits tables input TooLong = 2 ^ 64 - 1 ≤ length input
+RefusesBeside limits tables input (BadJob number) = ⊥
 RefusesBeside limits tables input (BadSetting number) = ⊥
 RefusesBeside limits tables input (BadEnvelope number) = ⊥
 RefusesBeside limits tables input TooManyNames = HasRefusedTables limits tables TooManyNames
@@ -66,6 +60,6 @@ pub data IsDue (limits : Limits) (form : Form) (tables : Job) (sections : List S
 -- A front of this is written.
 pub record WritesBesideFront (limits : Limits) (form : Form) (tables : Job) (input : List ℕ) (old new : Option (List ℕ)) : Type 0 where
   pub text : List ℕ
-  pub due : IsDue limits form tables (sections_in input) text
+  pub due : IsDue limits form tables (sections_in limits.bytes input) text
   pub count : ℕ
   pub written : Appends old new (take count text)

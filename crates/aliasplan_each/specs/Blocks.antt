@@ -1,5 +1,5 @@
 -- What becomes of each envelope of many.
-use Rattle.std.specs.Prelude.{◌≡◌, ℕ, List, ◌++◌, length, flat_map, slice_get, Option, Some, None, Ok, Err, ⊤}
+use Rattle.std.specs.Prelude.{◌≡◌, ℕ, nat_lt, List, ◌++◌, length, flat_map, slice_get, Option, Some, None, Result, Ok, Err, if◌then◌else◌, ⊤}
 use Rattle.std.specs.List.{fold}
 use Rattle.relay_wire.specs.declared.plan.Plan.{Plan}
 use Rattle.relay_job.specs.declared.job.Job.{Job}
@@ -47,8 +47,8 @@ refusal_of (faults.BadEnvelope number) = Some (refusals.BadEnvelope number)
 refusal_of faults.TooManyNames = Some refusals.TooManyNames
 refusal_of faults.TooManyOwners = Some refusals.TooManyOwners
 refusal_of faults.TooManyPairs = Some refusals.TooManyPairs
+refusal_of faults.TooLong = Some refusals.TooLong
 refusal_of faults.Read = None
-refusal_of faults.TooLong = None
 refusal_of (faults.BadJob number) = None
 refusal_of (faults.BadSetting number) = None
 refusal_of faults.Write = None
@@ -60,18 +60,22 @@ IsEnvelopeFault (faults.BadEnvelope number) = ⊤
 IsEnvelopeFault faults.TooManyNames = ⊤
 IsEnvelopeFault faults.TooManyOwners = ⊤
 IsEnvelopeFault faults.TooManyPairs = ⊤
+IsEnvelopeFault faults.TooLong = ⊤
 IsEnvelopeFault faults.Memory = ⊤
 IsEnvelopeFault faults.Read = ⊥
-IsEnvelopeFault faults.TooLong = ⊥
 IsEnvelopeFault (faults.BadJob number) = ⊥
 IsEnvelopeFault (faults.BadSetting number) = ⊥
 IsEnvelopeFault faults.Write = ⊥
 
 module _ (limits : Limits) (tables : Job) where
+  -- what a section says, where it isn't too long
+  abbrev pub section_envelope : Section → Result Envelope RunFault
+  section_envelope section = if nat_lt limits.bytes (length section.bytes) then Err faults.TooLong else envelope_of tables.settings.origin section.bytes
+
   -- the plan of an envelope's job
   pub record IsOwnPlan (section : Section) (plan : Plan) : Type 0 where
     pub envelope : Envelope
-    pub read : envelope_of tables.settings.origin section.bytes ≡ Ok envelope
+    pub read : section_envelope section ≡ Ok envelope
     pub within : IsWithin limits (with_envelope tables envelope)
     pub planned : IsOwnPlanOf (with_envelope tables envelope) plan
     pub sound : IsSoundFor (with_envelope tables envelope) plan.transactions
@@ -80,14 +84,15 @@ module _ (limits : Limits) (tables : Job) where
   -- an envelope whose job is refused for this
   pub record IsRefusedBy (section : Section) (fault : RunFault) : Type 0 where
     pub envelope : Envelope
-    pub read : envelope_of tables.settings.origin section.bytes ≡ Ok envelope
+    pub read : section_envelope section ≡ Ok envelope
     pub refused : IsRefused limits (with_envelope tables envelope) fault
 
   abbrev pub IsRefusedFor : Section → Refusal → Type 0
-  IsRefusedFor section (refusals.BadEnvelope number) = envelope_of tables.settings.origin section.bytes ≡ Err (faults.BadEnvelope number)
+  IsRefusedFor section (refusals.BadEnvelope number) = section_envelope section ≡ Err (faults.BadEnvelope number)
   IsRefusedFor section refusals.TooManyNames = IsRefusedBy section faults.TooManyNames
   IsRefusedFor section refusals.TooManyOwners = IsRefusedBy section faults.TooManyOwners
   IsRefusedFor section refusals.TooManyPairs = IsRefusedBy section faults.TooManyPairs
+  IsRefusedFor section refusals.TooLong = section_envelope section ≡ Err faults.TooLong
 
   -- why an envelope has no plan
   abbrev pub IsSectionFault : Section → RunFault → Type 0
@@ -95,9 +100,9 @@ module _ (limits : Limits) (tables : Job) where
   IsSectionFault section faults.TooManyNames = IsRefusedFor section refusals.TooManyNames
   IsSectionFault section faults.TooManyOwners = IsRefusedFor section refusals.TooManyOwners
   IsSectionFault section faults.TooManyPairs = IsRefusedFor section refusals.TooManyPairs
+  IsSectionFault section faults.TooLong = IsRefusedFor section refusals.TooLong
   IsSectionFault section faults.Memory = ⊤
   IsSectionFault section faults.Read = ⊥
-  IsSectionFault section faults.TooLong = ⊥
   IsSectionFault section (faults.BadJob number) = ⊥
   IsSectionFault section (faults.BadSetting number) = ⊥
   IsSectionFault section faults.Write = ⊥
@@ -107,7 +112,7 @@ module _ (limits : Limits) (form : Form) (tables : Job) where
   -- which stand once for all envelopes.
   pub record IsPlanned (section : Section) (text : List ℕ) (findings : ℕ) : Type 0 where
     pub envelope : Envelope
-    pub read : envelope_of tables.settings.origin section.bytes ≡ Ok envelope
+    pub read : section_envelope limits tables section ≡ Ok envelope
     pub within : IsWithin limits (with_envelope tables envelope)
     pub plan : Plan
     pub planned : IsOwnPlanOf (with_envelope tables envelope) plan

@@ -2,10 +2,10 @@ pub mod Forms
 pub mod Blocks
 pub mod Runs
 pub mod Pieces
+pub mod Asks
 pub mod Feeding
 pub mod Beside
 pub mod BesideSteps
-pub mod Stretches
 pub mod Given
 pub mod Changes
 pub mod Replies

@@ -1,5 +1,5 @@
 -- Lines of bytes that come in pieces.
-use Rattle.std.specs.Prelude.{◌≡◌, ◌<◌, ◌==◌, ℕ, Bool, true, false, List, [], ◌∷◌, ◌++◌, length, Option, Some, None, ⊤}
+use Rattle.std.specs.Prelude.{◌≡◌, ◌<◌, ◌+◌, ◌==◌, ℕ, Bool, true, false, List, [], ◌∷◌, ◌++◌, length, take, Option, Some, None, ⊤}
 use Rattle.std.specs.List.{list_any}
 use Rattle.relay_text.specs.Lines.{raw_lines}
 
@@ -19,15 +19,13 @@ pub record IsMoved (is_whole : Bool) (old new before after : List ℕ) : Type 0 
   pub taken : old ≡ (front ++ end_of is_whole) ++ new
   pub grown : after ≡ before ++ (front ++ end_of is_whole)
 
--- Known bytes lose their first line.
-abbrev pub LosesLine : Option (List ℕ) → List ℕ → Option (List ℕ) → Type 0
-LosesLine None line new = ⊤
-LosesLine (Some old) line None = ⊥
-LosesLine (Some old) line (Some new) = raw_lines old ≡ line ∷ raw_lines new
+-- Bytes lose their first line, of which no more than so many bytes are had, and one.
+pub record LosesFirst (max : ℕ) (old line new : List ℕ) : Type 0 where
+  pub raw : List ℕ
+  pub lines : raw_lines old ≡ raw ∷ raw_lines new
+  pub had : line ≡ take (max + 1) raw
 
--- The first line of bytes has more than so many.
-pub record IsFirstLong (max : ℕ) (bytes : List ℕ) : Type 0 where
-  pub line : List ℕ
-  pub behind : List (List ℕ)
-  pub lines : raw_lines bytes ≡ line ∷ behind
-  pub long : max < length line
+abbrev pub LosesLine : ℕ → Option (List ℕ) → List ℕ → Option (List ℕ) → Type 0
+LosesLine max None line new = ⊤
+LosesLine max (Some old) line None = ⊥
+LosesLine max (Some old) line (Some new) = LosesFirst max old line new

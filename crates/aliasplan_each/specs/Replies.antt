@@ -1,13 +1,9 @@
 -- What becomes of envelopes and of lines `%tables` that come beside the tables.
-use Rattle.std.specs.Prelude.{◌≡◌, ℕ, ◌+◌, ◌-◌, ◌^◌, ◌≤◌, false, List, [], ◌∷◌, ◌++◌, length, take, map, flat_map, Option, None, All, Contains, ⊤}
+use Rattle.std.specs.Prelude.{◌≡◌, ℕ, ◌+◌, List, [], ◌∷◌, ◌++◌, length, take, flat_map, Option, ⊤}
 use Rattle.std.specs.List.{fold}
 use Rattle.std.specs.Io.KnownBytes.{Appends}
 use Rattle.relay_job.specs.declared.job.Job.{Job}
-use Rattle.relay_job.specs.declared.fault.RunFault.{RunFault}
-use Rattle.relay_job.specs.declared.fault.RunFault.TheVariants.{TooLong}
-use Rattle.relay_job.specs.JobText.{job_lines}
 use Rattle.relay_envelopes.specs.declared.counts.EnvelopeCounts.{EnvelopeCounts}
-use Rattle.relay_envelopes.specs.Sections.{Section, bad_envelopes}
 use Rattle.relay_planning.specs.declared.options.Form.{Form}
 use Rattle.relay_planning.specs.declared.options.Limits.{Limits}
 use Rattle.relay_planning.specs.Report.{texts, IsLineOf}
@@ -16,21 +12,10 @@ use Rattle.aliasplan.specs.Outcomes.{AreTableCountsWithin}
 use Rattle.aliasplan_each.specs.declared.summary.EachSummary.{EachSummary}
 use Rattle.aliasplan_each.specs.Forms.{tables_text_in, done_text_in}
 use Rattle.aliasplan_each.specs.Blocks.{Block, no_counts, with_outcome, IsBlock}
-use Rattle.aliasplan_each.specs.Beside.{sections_in, RefusesBeside}
+use Rattle.aliasplan_each.specs.Asks.{Ask, asks_in}
+use Rattle.aliasplan_each.specs.Asks.Ask.{plan, change}
 use Rattle.aliasplan_each.specs.Given.{Given}
 use Rattle.aliasplan_each.specs.Changes.{IsChange}
-use Rattle.aliasplan_each.specs.Stretches.{first_stretch, later_stretches, stretches_of}
-
--- An envelope is to be planned, or the tables are to be read anew.
-pub data Ask : Type 0 where
-  plan : Section → Ask
-  change : Ask
-
-abbrev pub plans_in : List ℕ → List Ask
-plans_in stretch = map plan (sections_in stretch)
-
-abbrev pub asks_in : ℕ → List ℕ → List Ask
-asks_in max input = plans_in (first_stretch max input) ++ flat_map (λ stretch. change ∷ plans_in stretch) (later_stretches max input)
 
 -- The block of an envelope; or the answer to `%tables`, and the tables from then on.
 pub data Reply : Type 0 where
@@ -88,7 +73,6 @@ module _ (limits : Limits) (form : Form) (tables : Job) (coming : ℕ → Given)
   -- The answer to all that was asked is written, and its last line.
   pub record PlansChanging (input : List ℕ) (old new : Option (List ℕ)) (summary : EachSummary) : Type 0 where
     pub few : AreTableCountsWithin limits tables
-    pub unbroken : All (λ stretch. bad_envelopes false (job_lines stretch) ≡ None) (stretches_of limits.bytes input)
     pub text : List ℕ
     pub due : AnswersAsks (asks_in limits.bytes input) text summary
     pub written : Appends old new (text ++ done_text_in form summary.counts)
@@ -105,9 +89,3 @@ module _ (limits : Limits) (form : Form) (tables : Job) (coming : ℕ → Given)
     pub due : IsDueChanging (asks_in limits.bytes input) text
     pub count : ℕ
     pub written : Appends old new (take count text)
-
--- A run that refuses because of the first tables, or of bytes between two lines `%tables`, or because there are more of these lines than
--- can be counted.
-pub data RefusesChanging (limits : Limits) (tables : Job) (input : List ℕ) (fault : RunFault) : Type 0 where
-  stretch : (bytes : List ℕ) → Contains (stretches_of limits.bytes input) bytes → RefusesBeside limits tables bytes fault → RefusesChanging limits tables input fault
-  many : fault ≡ TooLong → 2 ^ 64 - 1 ≤ length (later_stretches limits.bytes input) → RefusesChanging limits tables input fault

@@ -1,15 +1,31 @@
 //! The blocks of envelopes.
-ghost use Rattle.std.specs.Prelude.{◌≡◌, Some, IfOk, IfErr};
+ghost use Rattle.std.specs.Prelude.{◌≡◌, Some, Ok, IfOk, IfErr};
 ghost use Rattle.relay_envelopes.specs.Envelopes.{section_in};
-ghost use Rattle.aliasplan_each.specs.Blocks.{IsOwnPlan, IsSectionFault, IsEnvelopeFault, refusal_of};
+ghost use Rattle.aliasplan_each.specs.Blocks.{section_envelope, IsOwnPlan, IsSectionFault, IsEnvelopeFault, refusal_of};
 
 use crate::forms::{put_planned, put_refused};
 use aliasplan::{Crew, Form, Gate, Planner, RunFault};
 use relay_envelopes::{EnvelopeCounts, EnvelopeSection, Refusal};
-use relay_job::parse_envelope;
+use relay_job::{Envelope, parse_envelope};
 use relay_wire::Plan;
 use std::alloc::{AllocError, Global};
 use std::thread::Threads;
+
+// The envelope of a section, or what is wrong with the section.
+fn envelope_of<G: Gate, R: Threads + Sync>(
+    crew: &Crew<G, R>,
+    planner: &Planner,
+    section: EnvelopeSection<'_>,
+) -> Result<Envelope, RunFault>
+    ensures envelope { IfOk result (λ envelope. section_envelope crew.now.limits planner.now (section_in section.entry) ≡ Ok envelope) }
+    ensures refused { IfErr result (IsSectionFault crew.now.limits planner.now (section_in section.entry)) }
+{
+    if section.bytes.len() > crew.limits.bytes {
+        return Err(RunFault::TooLong);
+    }
+    let origin = planner.settings().origin.as_bytes();
+    parse_envelope(crew.alloc, section.bytes, origin)
+}
 
 // The plan of an envelope by the tables, or what is wrong with the envelope.
 fn plan_of<G: Gate, R: Threads + Sync>(
@@ -20,8 +36,7 @@ fn plan_of<G: Gate, R: Threads + Sync>(
     ensures plan { IfOk result (IsOwnPlan crew.now.limits planner.now (section_in section.entry)) }
     ensures refused { IfErr result (IsSectionFault crew.now.limits planner.now (section_in section.entry)) }
 {
-    let origin = planner.settings().origin.as_bytes();
-    let envelope = parse_envelope(crew.alloc, section.bytes, origin)?;
+    let envelope = envelope_of(crew, planner, section)?;
     let plan = planner.plan(crew, &envelope);
     drop(envelope);
     plan
@@ -37,12 +52,10 @@ fn refusal_of(fault: RunFault) -> Result<Refusal, AllocError>
         RunFault::TooManyNames => Ok(Refusal::TooManyNames),
         RunFault::TooManyOwners => Ok(Refusal::TooManyOwners),
         RunFault::TooManyPairs => Ok(Refusal::TooManyPairs),
+        RunFault::TooLong => Ok(Refusal::TooLong),
         RunFault::Memory => Err(AllocError),
-        RunFault::Read
-        | RunFault::TooLong
-        | RunFault::BadJob(_)
-        | RunFault::BadSetting(_)
-        | RunFault::Write => unreachable!(),
+        RunFault::Read | RunFault::BadJob(_) | RunFault::BadSetting(_) | RunFault::Write =>
+            unreachable!(),
     }
 }
 

@@ -1,17 +1,15 @@
 //! A run over envelopes that come from a reader one after another, beside tables that are there already.
-ghost use Rattle.std.specs.Prelude.{◌≡◌, ◌≢◌, false, true, [], ◌∷◌, None, Err, IfOk, IfErr, OnOk, IfSome};
-ghost use Rattle.std.specs.Io.KnownBytes.{Appends, IsAtEnd};
+ghost use Rattle.std.specs.Prelude.{◌≡◌, ◌≢◌, false, true, Err, IfOk, IfErr, OnOk, IfSome};
+ghost use Rattle.std.specs.Io.KnownBytes.{Appends};
 ghost use Rattle.relay_job.specs.Tables.{AreTablesWithin};
 ghost use Rattle.aliasplan.specs.Outcomes.{AreTableCountsWithin};
 ghost use Rattle.aliasplan.specs.Transfers.{Fronts};
-ghost use Rattle.aliasplan_each.specs.Blocks.{no_counts};
-ghost use Rattle.aliasplan_each.specs.Beside.{sections_in, PlansBeside, RefusesBeside, WritesBesideFront};
-ghost use Rattle.aliasplan_each.specs.BesideSteps.{IsWriteFault, WritesFindings, FrontsFindings, WritesBlock, WritesBlocks, FrontsBlocks};
-ghost use Rattle.aliasplan_each.specs.Feeding.{known_stretch, known_later, KeepsLater};
+ghost use Rattle.aliasplan_each.specs.Asks.{asks_in, has_tables};
+ghost use Rattle.aliasplan_each.specs.Beside.{PlansBeside, RefusesBeside, WritesBesideFront};
+ghost use Rattle.aliasplan_each.specs.BesideSteps.{IsWriteFault, WritesFindings, FrontsFindings, WritesBlock, FrontsBlock};
 ghost use Rattle.aliasplan_each.specs.Forms.{done_text_in};
-ghost use Rattle.aliasplan_each.specs.Replies.{asks_in, PlansChanging, RefusesChanging, WritesChangingFront};
-ghost use Rattle.aliasplan_each.specs.ReplySteps.{RepliesToAll, FrontsReplies, RefusesStretches, RefusesSoFar};
-ghost use Rattle.aliasplan_each.specs.Stretches.{has_tables};
+ghost use Rattle.aliasplan_each.specs.Replies.{PlansChanging, WritesChangingFront};
+ghost use Rattle.aliasplan_each.specs.ReplySteps.{RepliesToAll, FrontsReplies};
 
 use crate::answers::Answers;
 use crate::changing::change_tables;
@@ -66,7 +64,7 @@ fn answer_section<S: Sink, G: Gate, R: Threads + Sync>(
 ) -> Result<(), RunFault>
     requires { S.has_failed writer.old ≡ false }
     ensures written { OnOk result (WritesBlock crew.now.limits crew.now.options.form planner.now section.now (S.contents writer.old) (S.contents writer.new) answers.old.counts answers.new.counts) }
-    ensures front { IfErr result (λ fault. FrontsBlocks crew.now.limits crew.now.options.form planner.now (section.now ∷ []) (S.contents writer.old) (S.contents writer.new)) }
+    ensures front { IfErr result (λ fault. FrontsBlock crew.now.limits crew.now.options.form planner.now section.now (S.contents writer.old) (S.contents writer.new)) }
     ensures only { IfErr result IsWriteFault }
     ensures write { (result ≡ Err RunFault.Write → S.has_failed writer.new ≡ true) × (result ≢ Err RunFault.Write → S.has_failed writer.new ≡ false) }
 {
@@ -75,70 +73,9 @@ fn answer_section<S: Sink, G: Gate, R: Threads + Sync>(
     write_whole(writer, &answers.text)
 }
 
-// Writes the block of each section that is to come before `%tables` as soon as it has ended, and counts them with those before.
-fn answer_coming<F: Feed, S: Sink, G: Gate, R: Threads + Sync>(
-    crew: &Crew<G, R>,
-    planner: &Planner,
-    feeding: &mut Feeding,
-    answers: &mut Answers,
-    reader: &mut F,
-    writer: &mut S,
-) -> Result<(), RunFault>
-    requires feeding { (feeding.old.number ≡ 0) × (feeding.old.begun ≡ None) × (feeding.old.asked ≡ false) }
-    requires reader { F.has_failed reader.old ≡ false }
-    requires told { F.has_ended reader.old ≡ true → IsAtEnd (F.remaining reader.old) }
-    requires writer { S.has_failed writer.old ≡ false }
-    ensures written { OnOk result (IfSome (known_stretch crew.now.limits.bytes false feeding.old.pending (F.remaining reader.old)) (λ input. WritesBlocks crew.now.limits crew.now.options.form planner.now input (S.contents writer.old) (S.contents writer.new) answers.old.counts answers.new.counts)) }
-    ensures later { OnOk result (KeepsLater (known_later crew.now.limits.bytes false feeding.old.pending (F.remaining reader.old)) (known_later crew.now.limits.bytes feeding.new.asked feeding.new.pending (F.remaining reader.new))) }
-    ensures begun { OnOk result (feeding.new.begun ≡ None) }
-    ensures last { OnOk result (feeding.new.asked ≡ false → IfSome (known_later crew.now.limits.bytes feeding.new.asked feeding.new.pending (F.remaining reader.new)) (λ later. later ≡ []) × (F.has_ended reader.new ≡ true)) }
-    ensures refused { IfErr result (λ fault. IfSome (known_stretch crew.now.limits.bytes false feeding.old.pending (F.remaining reader.old)) (λ input. RefusesSoFar crew.now.limits input fault)) }
-    ensures front { IfErr result (λ fault. IfSome (known_stretch crew.now.limits.bytes false feeding.old.pending (F.remaining reader.old)) (λ input. FrontsBlocks crew.now.limits crew.now.options.form planner.now (sections_in input) (S.contents writer.old) (S.contents writer.new))) }
-    ensures told { OnOk result (F.has_ended reader.new ≡ true → IsAtEnd (F.remaining reader.new)) }
-    ensures read { (result ≡ Err RunFault.Read → F.has_failed reader.new ≡ true) × (result ≢ Err RunFault.Read → F.has_failed reader.new ≡ false) }
-    ensures write { (result ≡ Err RunFault.Write → S.has_failed writer.new ≡ true) × (result ≢ Err RunFault.Write → S.has_failed writer.new ≡ false) }
-{
-    while let Some(section) = feeding.next(crew.alloc, reader, crew.limits.bytes)? {
-        let answered = answer_section(crew, planner, &section, answers, writer);
-        drop(section);
-        answered?;
-    }
-    Ok(())
-}
-
-// Writes the blocks of all sections, and behind each `%tables` between them its answer, by which the planner may be another one.
-fn answer_stretches<F: Feed, S: Sink, T: TablesSource, G: Gate, R: Threads + Sync>(
-    crew: &Crew<G, R>,
-    planner: &mut Planner,
-    source: &mut T,
-    feeding: &mut Feeding,
-    answers: &mut Answers,
-    reader: &mut F,
-    writer: &mut S,
-) -> Result<EnvelopeCounts, RunFault>
-    requires feeding { (feeding.old.number ≡ 0) × (feeding.old.pending ≡ []) × (feeding.old.begun ≡ None) × (feeding.old.asked ≡ false) }
-    requires answers { answers.old.counts ≡ no_counts }
-    requires reader { (F.has_failed reader.old ≡ false) × (F.has_ended reader.old ≡ false) }
-    requires writer { S.has_failed writer.old ≡ false }
-    ensures written { IfOk result (λ counts. IfSome (F.remaining reader.old) (λ input. RepliesToAll crew.now.limits crew.now.options.form planner.old (T.coming source.old) input (S.contents writer.old) (S.contents writer.new) counts)) }
-    ensures refused { IfErr result (λ fault. IfSome (F.remaining reader.old) (λ input. RefusesStretches crew.now.limits input fault)) }
-    ensures front { IfErr result (λ fault. IfSome (F.remaining reader.old) (λ input. FrontsReplies crew.now.limits crew.now.options.form planner.old (T.coming source.old) (asks_in crew.now.limits.bytes input) (S.contents writer.old) (S.contents writer.new))) }
-    ensures read { (result ≡ Err RunFault.Read → F.has_failed reader.new ≡ true) × (result ≢ Err RunFault.Read → F.has_failed reader.new ≡ false) }
-    ensures write { (result ≡ Err RunFault.Write → S.has_failed writer.new ≡ true) × (result ≢ Err RunFault.Write → S.has_failed writer.new ≡ false) }
-    ensures ended { OnOk result (F.has_ended reader.new ≡ true) }
-{
-    for _ in 0..u64::MAX {
-        answer_coming(crew, &*planner, feeding, answers, reader, writer)?;
-        if !feeding.passes_tables() {
-            return Ok(answers.counts);
-        }
-        change_tables(crew, planner, source, writer)?;
-    }
-    Err(RunFault::TooLong)
-}
-
-// Writes the block of each envelope as soon as its section has ended, and the answer to each `%tables`, and counts the envelopes.
-fn answer_envelopes<F: Feed, S: Sink, T: TablesSource, G: Gate, R: Threads + Sync>(
+// Writes the block of each envelope as soon as its section has ended, and the answer to each `%tables`, by which the planner may be another
+// one, and counts the envelopes.
+fn answer_asks<F: Feed, S: Sink, T: TablesSource, G: Gate, R: Threads + Sync>(
     crew: &Crew<G, R>,
     planner: &mut Planner,
     source: &mut T,
@@ -148,7 +85,7 @@ fn answer_envelopes<F: Feed, S: Sink, T: TablesSource, G: Gate, R: Threads + Syn
     requires reader { (F.has_failed reader.old ≡ false) × (F.has_ended reader.old ≡ false) }
     requires writer { S.has_failed writer.old ≡ false }
     ensures written { IfOk result (λ counts. IfSome (F.remaining reader.old) (λ input. RepliesToAll crew.now.limits crew.now.options.form planner.old (T.coming source.old) input (S.contents writer.old) (S.contents writer.new) counts)) }
-    ensures refused { IfErr result (λ fault. IfSome (F.remaining reader.old) (λ input. RefusesStretches crew.now.limits input fault)) }
+    ensures refused { IfErr result (λ fault. IfSome (F.remaining reader.old) (λ input. RefusesBeside crew.now.limits planner.old input fault)) }
     ensures front { IfErr result (λ fault. IfSome (F.remaining reader.old) (λ input. FrontsReplies crew.now.limits crew.now.options.form planner.old (T.coming source.old) (asks_in crew.now.limits.bytes input) (S.contents writer.old) (S.contents writer.new))) }
     ensures read { (result ≡ Err RunFault.Read → F.has_failed reader.new ≡ true) × (result ≢ Err RunFault.Read → F.has_failed reader.new ≡ false) }
     ensures write { (result ≡ Err RunFault.Write → S.has_failed writer.new ≡ true) × (result ≢ Err RunFault.Write → S.has_failed writer.new ≡ false) }
@@ -156,18 +93,16 @@ fn answer_envelopes<F: Feed, S: Sink, T: TablesSource, G: Gate, R: Threads + Syn
 {
     let mut feeding = Feeding::start(crew.alloc)?;
     let mut answers = Answers::none(crew.alloc);
-    let counts = answer_stretches(
-        crew,
-        planner,
-        source,
-        &mut feeding,
-        &mut answers,
-        reader,
-        writer,
-    );
-    drop(feeding);
-    drop(answers);
-    counts
+    loop {
+        if let Some(section) = feeding.next(crew.alloc, reader, crew.limits.bytes)? {
+            answer_section(crew, &*planner, &section, &mut answers, writer)?;
+            continue;
+        }
+        if !feeding.passes_tables() {
+            return Ok(answers.counts);
+        }
+        change_tables(crew, planner, source, writer)?;
+    }
 }
 
 // Writes the last line of an answer.
@@ -200,14 +135,14 @@ fn answer_stream<F: Feed, S: Sink, T: TablesSource, G: Gate, R: Threads + Sync>(
     requires reader { (F.has_failed reader.old ≡ false) × (F.has_ended reader.old ≡ false) }
     requires writer { S.has_failed writer.old ≡ false }
     ensures plans { IfOk result (λ summary. IfSome (F.remaining reader.old) (λ input. PlansChanging crew.now.limits crew.now.options.form planner.old (T.coming source.old) input (S.contents writer.old) (S.contents writer.new) summary)) }
-    ensures refuses { IfErr result (λ fault. IfSome (F.remaining reader.old) (λ input. RefusesStretches crew.now.limits input fault)) }
+    ensures refuses { IfErr result (λ fault. IfSome (F.remaining reader.old) (λ input. RefusesBeside crew.now.limits planner.old input fault)) }
     ensures read { (result ≡ Err RunFault.Read → F.has_failed reader.new ≡ true) × (result ≢ Err RunFault.Read → F.has_failed reader.new ≡ false) }
     ensures write { (result ≡ Err RunFault.Write → S.has_failed writer.new ≡ true) × (result ≢ Err RunFault.Write → S.has_failed writer.new ≡ false) }
     ensures front { IfErr result (λ fault. IfSome (F.remaining reader.old) (λ input. WritesChangingFront crew.now.limits crew.now.options.form planner.old (T.coming source.old) input (S.contents writer.old) (S.contents writer.new))) }
     ensures ended { OnOk result (F.has_ended reader.new ≡ true) }
 {
     let findings = write_findings(crew.alloc, crew.options.form, &*planner, writer)?;
-    let counts = answer_envelopes(crew, planner, source, reader, writer)?;
+    let counts = answer_asks(crew, planner, source, reader, writer)?;
     write_done(crew.alloc, crew.options.form, &counts, writer)?;
     Ok(EachSummary { findings, counts })
 }
@@ -218,14 +153,15 @@ fn answer_stream<F: Feed, S: Sink, T: TablesSource, G: Gate, R: Threads + Sync>(
 ///
 /// Memory doesn't grow with the number of envelopes. The time is near-linear in the bytes, whatever the sizes of the reads.
 ///
-/// TooManyNames and TooManyOwners come where the tables alone have more than the limits. BadJob comes at a heading without an ID, and where no
-/// section has begun or it has ended, at `%end` and at a line that isn't of white space alone. TooLong comes where a line, or the lines of a section, have more than
-/// `limits.bytes` bytes, and where a line's number is past those of 64 bits. BadSetting, BadEnvelope and TooManyPairs never come: a bad
-/// envelope, and one with too many names, owners or pairs, has a line that says so in place of a plan, and changes no other's answer.
+/// No text of envelopes ends the run. A heading without an ID, and a line that isn't of white space alone where no section goes on, begin one of
+/// the ID `?`; any other heading is a line of the section that goes on. An envelope that is refused for that, because its section has more than
+/// `limits.bytes` bytes, or because it has too many names, owners or pairs, has a line that says so in place of a plan, and changes no other's
+/// answer. TooManyNames and TooManyOwners come where the tables alone have more than the limits, and TooLong where there are more bytes than
+/// 64 bits can count; BadJob, BadSetting, BadEnvelope and TooManyPairs never come.
 ///
 /// At a line `%tables`, which ends the section before it, the tables are read anew from the source, by all workers. Where they are good the
 /// answer has the SHA-256 of their text, and sections behind it are planned by them; where they aren't it says why, and the old ones stay.
-/// For a while there is memory of both. Where a fault has a line's number, lines are counted from the last `%tables`.
+/// For a while there is memory of both.
 pub fn run_beside<F: Feed, S: Sink, T: TablesSource, G: Gate, R: Threads + Sync>(
     crew: &Crew<G, R>,
     tables: Job,
@@ -238,11 +174,10 @@ pub fn run_beside<F: Feed, S: Sink, T: TablesSource, G: Gate, R: Threads + Sync>
     requires writer { S.has_failed writer.old ≡ false }
     // The bytes written are the answer to the envelopes that the bytes read are, and to each `%tables` between them.
     ensures changes { IfOk result (λ summary. IfSome (F.remaining reader.old) (λ input. PlansChanging crew.now.limits crew.now.options.form tables (T.coming source.old) input (S.contents writer.old) (S.contents writer.new) summary)) }
-    ensures changes_refused { IfErr result (λ fault. IfSome (F.remaining reader.old) (λ input. RefusesChanging crew.now.limits tables input fault)) }
     ensures changes_front { IfErr result (λ fault. IfSome (F.remaining reader.old) (λ input. WritesChangingFront crew.now.limits crew.now.options.form tables (T.coming source.old) input (S.contents writer.old) (S.contents writer.new))) }
     // Where there is no `%tables`, they are the answer to the envelopes.
     ensures plans { IfOk result (λ summary. IfSome (F.remaining reader.old) (λ input. has_tables crew.now.limits.bytes input ≡ false → PlansBeside crew.now.limits crew.now.options.form tables input (S.contents writer.old) (S.contents writer.new) summary)) }
-    ensures refuses { IfErr result (λ fault. IfSome (F.remaining reader.old) (λ input. has_tables crew.now.limits.bytes input ≡ false → RefusesBeside crew.now.limits tables input fault)) }
+    ensures refuses { IfErr result (λ fault. IfSome (F.remaining reader.old) (λ input. RefusesBeside crew.now.limits tables input fault)) }
     // Read exactly where the reader failed, and Write exactly where the writer did.
     ensures read { (result ≡ Err RunFault.Read → F.has_failed reader.new ≡ true) × (result ≢ Err RunFault.Read → F.has_failed reader.new ≡ false) }
     ensures write { (result ≡ Err RunFault.Write → S.has_failed writer.new ≡ true) × (result ≢ Err RunFault.Write → S.has_failed writer.new ≡ false) }

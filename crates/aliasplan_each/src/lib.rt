@@ -5,8 +5,8 @@
 //!
 //! The way through the modules: `answers` has the block of one envelope, by a planner that holds the tables. `running` goes over the
 //! sections of a text that is there. `feeding` gives the sections of a reader one after another, of lines that `pending` reads, each a
-//! `read_section`; `beside` answers them, and `changing` reads the tables anew, from a `tables_source`. `forms` writes lines in the form that is
-//! asked for, and `change_json` those that answer `%tables` in JSON.
+//! `read_section`, which `laws` speaks of; `beside` answers them, and `changing` reads the tables anew, from a `tables_source`. `forms` writes
+//! lines in the form that is asked for, and `change_json` those that answer `%tables` in JSON.
 //!
 //! Where a function ends, a value of many parts is given back by a call of `drop`: the proof of that call is made once for its type, and
 //! the end of a scope would be followed part by part in each function and for each way out.
@@ -18,6 +18,7 @@ mod change_json;
 mod changing;
 mod feeding;
 mod forms;
+pub mod laws;
 mod pending;
 mod read_section;
 mod running;
@@ -25,6 +26,7 @@ pub mod summary;
 pub mod tables_source;
 
 pub use beside::run_beside;
+pub use laws::sections_beside_are_plain;
 pub use running::run_each;
 pub use summary::EachSummary;
 pub use tables_source::TablesSource;

@@ -26,11 +26,11 @@ impl Model for Pending {
 }
 
 impl Pending {
-    ghost use Rattle.std.specs.Prelude.{◌≡◌, ◌≢◌, ◌<◌, ◌≤◌, ◌+◌, ◌==◌, true, false, [], length, vec_len, Ok, Err, IfOk, IfErr, OnOk, IfSome};
+    ghost use Rattle.std.specs.Prelude.{◌≡◌, ◌≢◌, ◌<◌, ◌≤◌, ◌+◌, ◌-◌, ◌^◌, ◌==◌, true, false, [], length, vec_len, Ok, Err, IfOk, IfErr, OnOk, IfSome};
     ghost use Rattle.std.specs.List.{position_or_len};
     ghost use Rattle.std.specs.Io.KnownBytes.{IsAtEnd, Keeps, prepend_known};
     ghost use Rattle.aliasplan.specs.Outcomes.{IsReadFault};
-    ghost use Rattle.aliasplan_each.specs.Pieces.{IsMoved, LosesLine, IsFirstLong};
+    ghost use Rattle.aliasplan_each.specs.Pieces.{IsMoved, LosesLine};
 
     /// No bytes.
     pub(crate) fn none(alloc: Global) -> Result<Pending, AllocError>
@@ -84,8 +84,8 @@ impl Pending {
         Ok(is_whole)
     }
 
-    /// Puts the next line, with its LF, into an empty one. False where none is to come; then the reader has ended. TooLong where the line has more than
-    /// `max` bytes.
+    /// Puts the next line, with its LF, into an empty one; of one with more than `max` bytes, one byte more. False where none is to come; then
+    /// the reader has ended. TooLong where a line has more bytes than 64 bits can count.
     ///
     /// Each byte is looked at once and moved once.
     pub(crate) fn next_line<F: Feed>(
@@ -97,23 +97,25 @@ impl Pending {
         requires works { F.has_failed reader.old ≡ false }
         requires told { F.has_ended reader.old ≡ true → IsAtEnd (F.remaining reader.old) }
         requires empty { line.old.items ≡ [] }
-        ensures line { result ≡ Ok true → LosesLine (prepend_known self.old (F.remaining reader.old)) line.new.items (prepend_known self.new (F.remaining reader.new)) }
+        requires max { max < 2 ^ 32 }
+        ensures line { result ≡ Ok true → LosesLine max (prepend_known self.old (F.remaining reader.old)) line.new.items (prepend_known self.new (F.remaining reader.new)) }
         ensures ends_once { OnOk result (length line.new.items ≤ position_or_len (λ b. b == 10) line.new.items + 1) }
         ensures none { result ≡ Ok false → (IsAtEnd (prepend_known self.old (F.remaining reader.old))) × (IsAtEnd (prepend_known self.new (F.remaining reader.new))) × (Keeps (prepend_known self.old (F.remaining reader.old)) (prepend_known self.new (F.remaining reader.new))) × (F.has_ended reader.new ≡ true) }
         ensures only { IfErr result IsReadFault }
-        ensures long { result ≡ Err RunFault.TooLong → IfSome (prepend_known self.old (F.remaining reader.old)) (IsFirstLong max) }
+        ensures long { result ≡ Err RunFault.TooLong → IfSome (prepend_known self.old (F.remaining reader.old)) (λ bytes. 2 ^ 64 - 1 ≤ length bytes) }
         ensures told { OnOk result (F.has_ended reader.new ≡ true → IsAtEnd (F.remaining reader.new)) }
         ensures read { (result ≡ Err RunFault.Read → F.has_failed reader.new ≡ true) × (result ≢ Err RunFault.Read → F.has_failed reader.new ≡ false) }
     {
-        while self.fill(reader)? {
-            let is_whole = self.give(line)?;
-            if line.len() > max {
-                return Err(RunFault::TooLong);
+        for _ in 0..u64::MAX {
+            if !self.fill(reader)? {
+                return Ok(!line.is_empty());
             }
+            let is_whole = self.give(line)?;
+            line.truncate(max + 1);
             if is_whole {
                 return Ok(true);
             }
         }
-        Ok(!line.is_empty())
+        Err(RunFault::TooLong)
     }
 }

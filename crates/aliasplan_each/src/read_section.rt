@@ -1,11 +1,11 @@
 //! Sections of envelopes that own their bytes.
-use relay_envelopes::EnvelopeSection;
-use relay_job::RunFault;
+use relay_envelopes::{EnvelopeSection, envelope_id};
+use relay_job::RawLine;
 use relay_text::Text;
 use std::alloc::{AllocError, Global};
 use std::marker::Model;
 
-/// The section of one envelope, as far as it is read.
+/// The section of one envelope, as far as it is read. Of one that is too long, one byte more than the limit is kept.
 #[derive(Drop)]
 pub(crate) struct ReadSection {
     number: usize,
@@ -22,12 +22,14 @@ impl Model for ReadSection {
 }
 
 impl ReadSection {
-    ghost use Rattle.std.specs.Prelude.{◌≡◌, [], IfOk, IfErr, OnOk};
+    ghost use Rattle.std.specs.Prelude.{◌≡◌, ◌<◌, ◌^◌, [], IfOk, OnOk};
     ghost use Rattle.relay_envelopes.specs.Envelopes.{section_in};
-    ghost use Rattle.aliasplan_each.specs.Feeding.{with_more, IsOverfull};
+    ghost use Rattle.relay_job.specs.Places.{line_of};
+    ghost use Rattle.aliasplan_each.specs.Asks.{begun_by, stray, with_more, content_of};
+    ghost use Rattle.aliasplan_each.specs.Feeding.{kept};
 
-    /// The section of a heading, without a line. `Err` where memory runs out.
-    pub(crate) fn begin(alloc: Global, number: usize, id: &[u8]) -> Result<ReadSection, AllocError>
+    // The section of this ID, without a line.
+    fn named(alloc: Global, number: usize, id: &[u8]) -> Result<ReadSection, AllocError>
         ensures { IfOk result (λ section. section ≡ record { line = number; id = id.now; bytes = [] }) }
     {
         Ok(ReadSection {
@@ -37,15 +39,45 @@ impl ReadSection {
         })
     }
 
-    /// Adds a line. TooLong where the section has more than `max` bytes then.
-    pub(crate) fn add(&mut self, line: &[u8], max: usize) -> Result<(), RunFault>
-        ensures grown { OnOk result (self.new ≡ with_more self.old line.now) }
-        ensures refused { IfErr result (IsOverfull max self.old line.now) }
+    /// The section that a line begins which is no envelope's heading. `Err` where memory runs out, as in the calls below.
+    pub(crate) fn stray(
+        alloc: Global,
+        line: &RawLine<'_>,
+        max: usize,
+    ) -> Result<ReadSection, AllocError>
+        requires { max < 2 ^ 32 }
+        ensures { IfOk result (λ section. section ≡ kept max (stray max (line_of line.now))) }
     {
-        self.lines.extend_from_slice(line)?;
-        if self.lines.len() > max {
-            return Err(RunFault::TooLong);
+        let mut section = ReadSection::named(alloc, line.number, b"?")?;
+        section.add(line, max)?;
+        Ok(section)
+    }
+
+    /// The section that `%envelope` begins.
+    pub(crate) fn begin(
+        alloc: Global,
+        line: &RawLine<'_>,
+        max: usize,
+    ) -> Result<ReadSection, AllocError>
+        requires { max < 2 ^ 32 }
+        ensures { IfOk result (λ section. section ≡ kept max (begun_by max (line_of line.now))) }
+    {
+        match envelope_id(line.text()) {
+            Some(id) => ReadSection::named(alloc, line.number, id),
+            None => ReadSection::stray(alloc, line, max),
         }
+    }
+
+    /// Adds a line, in front of a heading with one more `%`, and keeps no more than `max` bytes and one.
+    pub(crate) fn add(&mut self, line: &RawLine<'_>, max: usize) -> Result<(), AllocError>
+        requires { max < 2 ^ 32 }
+        ensures { OnOk result (self.new ≡ kept max (with_more self.old (content_of max (line_of line.now)))) }
+    {
+        if line.raw.len() <= max && line.is_heading() {
+            self.lines.push(b'%')?;
+        }
+        self.lines.extend_from_slice(line.raw)?;
+        self.lines.truncate(max + 1);
         Ok(())
     }
 

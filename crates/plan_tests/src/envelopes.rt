@@ -67,10 +67,11 @@ fn answers_have_lines(rt: HostRuntime) -> Result<(), Fail> {
     put_refusal(Refusal::TooManyNames, &mut out)?;
     put_refusal(Refusal::TooManyOwners, &mut out)?;
     put_refusal(Refusal::TooManyPairs, &mut out)?;
+    put_refusal(Refusal::TooLong, &mut out)?;
     let counts = EnvelopeCounts::none().with_planned(3).with_refused();
     put_done(&counts, &mut out)?;
     let text =
-        b"tables 1 findings\nfinding loop alias joe\nenvelope 17\nrefused line 2 bad envelope\nrefused too many names\nrefused too many owners\nrefused too many pairs\ndone 2 envelopes 1 planned 1 refused 3 findings\n";
+        b"tables 1 findings\nfinding loop alias joe\nenvelope 17\nrefused line 2 bad envelope\nrefused too many names\nrefused too many owners\nrefused too many pairs\nrefused too long\ndone 2 envelopes 1 planned 1 refused 3 findings\n";
     assert_eq!(rt; out.as_slice(), text.as_slice());
     Ok(())
 }

@@ -21,22 +21,22 @@ use Rattle.relay_envelopes.specs.Sections.{Section, id_or_none, envelopes_of, be
 use Rattle.relay_envelopes.proofs.SectionFacts.{raw_bytes, raw_bytes-lines, before_cut, before-line, before-none, before-headings, section_at, other-passed, heading-found, end-found}
 
 -- the bytes of each line
-abbrev raws : List JobLine → List (List ℕ)
+abbrev pub raws : List JobLine → List (List ℕ)
 raws lines = map (λ (l : JobLine). l.raw) lines
 
 -- Lines are those of the text that they make.
-abbrev AreLines : List JobLine → Type 0
+abbrev pub AreLines : List JobLine → Type 0
 AreLines lines = raw_lines (raw_bytes lines) ≡ raws lines
 
 raws-numbered : (n : ℕ) (lines : List (List ℕ)) → raws (numbered_from n lines) ≡ lines
 raws-numbered n [] = refl
 raws-numbered n (l ∷ ls) = ap (λ ls. l ∷ ls) (raws-numbered (n + 1) ls)
 
-of-text : (text : List ℕ) → AreLines (job_lines text)
+pub of-text : (text : List ℕ) → AreLines (job_lines text)
 of-text text = ap raw_lines (raw_bytes-lines 1 text) ∙ sym (raws-numbered 1 (raw_lines text))
 
 -- A line with another behind it ends with an LF, and is one line.
-abbrev IsWhole : List ℕ → Type 0
+abbrev pub IsWhole : List ℕ → Type 0
 IsWhole line = EndsWithLine line × (raw_lines line ≡ line ∷ [])
 
 whole-longer : (b : ℕ) (line : List ℕ) → eqb b 10 ≡ false → IsWhole line → IsWhole (b ∷ line)
@@ -56,11 +56,11 @@ first-whole (b ∷ bs) line next more h = at (eqb b 10) (raw_lines bs) refl h (f
   at false (x ∷ []) t e later = absurd (let no : ⊥ = cc in no)
   at false (x ∷ y ∷ zs) t e later = let is : line ≡ b ∷ x = cc in rw is (whole-longer b x t (later x y zs refl))
 
-behind-whole : (x : JobLine) (y : JobLine) (ys : List JobLine) → AreLines (x ∷ y ∷ ys) → IsWhole x.raw
+pub behind-whole : (x : JobLine) (y : JobLine) (ys : List JobLine) → AreLines (x ∷ y ∷ ys) → IsWhole x.raw
 behind-whole x y ys h = first-whole (raw_bytes (x ∷ y ∷ ys)) x.raw y.raw (raws ys) h
 
 -- lines behind a line, and before others
-tail-lines : (x : JobLine) (xs : List JobLine) → AreLines (x ∷ xs) → AreLines xs
+pub tail-lines : (x : JobLine) (xs : List JobLine) → AreLines (x ∷ xs) → AreLines xs
 tail-lines x [] h = refl
 tail-lines x (y ∷ ys) h =
     let whole = behind-whole x y ys h in
@@ -81,7 +81,7 @@ prefix-lines (x ∷ []) (y ∷ ys) h = whole-front x [] (behind-whole x y ys h) 
 prefix-lines (x ∷ y ∷ xs) ys h = whole-front x (y ∷ xs) (behind-whole x y (xs ++ ys) h) (prefix-lines (y ∷ xs) ys (tail-lines x (y ∷ xs ++ ys) h))
 
 -- Lines with another behind them end with a line.
-ends-append : (a b : List ℕ) → EndsWithLine a → EndsWithLine b → EndsWithLine (a ++ b)
+pub ends-append : (a b : List ℕ) → EndsWithLine a → EndsWithLine b → EndsWithLine (a ++ b)
 ends-append [] b g h = h
 ends-append (x ∷ []) [] g h = g
 ends-append (x ∷ []) (y ∷ ys) g h = h

@@ -141,7 +141,7 @@ bytes_between bytes left middle e =
 
 -- the numbers of the lines that break the envelopes, after those before them
 abbrev broken_after : List JobLine → List JobLine → List ℕ
-broken_after done rest = each_after (λ earlier x. cond (breaks_envelopes true earlier x) (x.number ∷ []) []) done rest
+broken_after done rest = each_after (λ earlier x. cond (breaks_envelopes earlier x) (x.number ∷ []) []) done rest
 
 or_false : (b : Bool) → (b || false) ≡ b
 or_false true = refl
@@ -179,9 +179,9 @@ named-begins text id e = at (is_end text) refl where
   at false f = f
 
 -- What a line is behind others is what it is behind their IDs.
-same-breaks : (done : List JobLine) (ids : List (List ℕ)) (x : JobLine) → ((q : List ℕ) → has_id done q ≡ has_text ids q) → breaks_envelopes true done x ≡ breaks_behind (has_begun done) ids x
+same-breaks : (done : List JobLine) (ids : List (List ℕ)) (x : JobLine) → ((q : List ℕ) → has_id done q ≡ has_text ids q) → breaks_envelopes done x ≡ breaks_behind (has_begun done) ids x
 same-breaks done ids x h = at (is_heading x) (is_end (text_of x)) (id_of (text_of x)) refl refl refl where
-  at : (t u : Bool) (o : Option (List ℕ)) → is_heading x ≡ t → is_end (text_of x) ≡ u → id_of (text_of x) ≡ o → breaks_envelopes true done x ≡ breaks_behind (has_begun done) ids x
+  at : (t u : Bool) (o : Option (List ℕ)) → is_heading x ≡ t → is_end (text_of x) ≡ u → id_of (text_of x) ≡ o → breaks_envelopes done x ≡ breaks_behind (has_begun done) ids x
   at true true o e f g = rw (e, f)
   at true false (Some id) e f g = rw (e, f, g) (h id)
   at true false None e f g = rw (e, f, g)
@@ -207,7 +207,7 @@ bad-after done (x ∷ xs) ids h =
       at true e = refl
       at false e = e ∙ ap (λ (t : Bool). bad_behind t (ids_behind ids x) xs) (fold-append goes_on false done (x ∷ []))
 
-pub bad-all : (lines : List JobLine) → bad_envelopes true lines ≡ bad_behind false [] lines
+pub bad-all : (lines : List JobLine) → bad_envelopes lines ≡ bad_behind false [] lines
 bad-all lines = bad-after [] lines [] (λ q. refl)
 
 pub blank-passed : (ids : List (List ℕ)) (x : JobLine) (xs : List JobLine) → is_heading x ≡ false → list_all is_white (text_of x) ≡ true → bad_behind false ids (x ∷ xs) ≡ bad_behind false ids xs
@@ -253,7 +253,7 @@ content-passed ids (x ∷ xs) next h = rw (other-front x xs h).0 (content-passed
 pub record Scanned (all rest : List JobLine) (sections : List Section) (ids : List (List ℕ)) : Type 0 where
   pub known : List (List ℕ)
   pub seen : (q : List ℕ) → has_text known q ≡ has_text ids q
-  pub unbroken : bad_behind false known rest ≡ bad_envelopes true all
+  pub unbroken : bad_behind false known rest ≡ bad_envelopes all
   pub found : sections ++ envelopes_of rest ≡ envelopes_of all
 
 pub Scanned-start : (all rest : List JobLine) (sections : List Section) (ids : List (List ℕ)) → sections ≡ [] → ids ≡ [] → ((ids : List (List ℕ)) → bad_behind false ids all ≡ bad_behind false ids rest) → envelopes_of all ≡ envelopes_of rest → Scanned all rest sections ids
@@ -271,13 +271,13 @@ heading-first lines x xs e h = at (is_heading x) refl (ap (before_cut is_heading
   at true f g = f
   at false f g = absurd (let is : x ∷ before_cut is_heading xs ≡ [] = sym (before-more is_heading x xs f) ∙ g in let no : ⊥ = cc in no)
 
-pub Scanned-nameless : (all : List JobLine) (x : JobLine) (xs : List JobLine) (sections : List Section) (ids : List (List ℕ)) → Scanned all (x ∷ xs) sections ids → is_heading x ≡ true → id_of (text_of x) ≡ None → bad_envelopes true all ≡ Some x.number
+pub Scanned-nameless : (all : List JobLine) (x : JobLine) (xs : List JobLine) (sections : List Section) (ids : List (List ℕ)) → Scanned all (x ∷ xs) sections ids → is_heading x ≡ true → id_of (text_of x) ≡ None → bad_envelopes all ≡ Some x.number
 Scanned-nameless all x xs sections ids h e f = sym h.unbroken ∙ at (is_end (text_of x)) refl where
   at : (t : Bool) → is_end (text_of x) ≡ t → bad_behind false h.known (x ∷ xs) ≡ Some x.number
   at true g = rw (e, g)
   at false g = rw (e, g, f)
 
-pub Scanned-repeated : (all : List JobLine) (x : JobLine) (xs : List JobLine) (sections : List Section) (ids : List (List ℕ)) (id : List ℕ) → Scanned all (x ∷ xs) sections ids → is_heading x ≡ true → id_of (text_of x) ≡ Some id → has_text ids id ≡ true → bad_envelopes true all ≡ Some x.number
+pub Scanned-repeated : (all : List JobLine) (x : JobLine) (xs : List JobLine) (sections : List Section) (ids : List (List ℕ)) (id : List ℕ) → Scanned all (x ∷ xs) sections ids → is_heading x ≡ true → id_of (text_of x) ≡ Some id → has_text ids id ≡ true → bad_envelopes all ≡ Some x.number
 Scanned-repeated all x xs sections ids id h e f g = sym h.unbroken ∙ rw (e, named-begins (text_of x) id f, f, h.seen id ∙ g)
 
 -- a heading, and the lines of its section behind it
@@ -297,11 +297,11 @@ end-found x xs e f = at-heading x xs e ∙ ap (λ (t : Bool). cond t [] (section
 -- A heading with a new ID and the lines up to the next are passed.
 module _ (all : List JobLine) (x : JobLine) (xs next : List JobLine) (sections : List Section) (ids : List (List ℕ)) (id : List ℕ) (h : Scanned all (x ∷ xs) sections ids) (e : is_heading x ≡ true) (f : id_of (text_of x) ≡ Some id)
     (fresh : has_text ids id ≡ false) (parted : xs ≡ before_cut is_heading xs ++ next) where
-  passed : bad_envelopes true all ≡ bad_behind true (id ∷ h.known) next
+  passed : bad_envelopes all ≡ bad_behind true (id ∷ h.known) next
   passed = sym h.unbroken
       ∙ rw (e, named-begins (text_of x) id f, f, h.seen id ∙ fresh) (ap (bad_behind true (id ∷ h.known)) parted ∙ content-passed (id ∷ h.known) (before_cut is_heading xs) next (before-headings xs))
 
-  pub Scanned-stray : (fault : RunFault) → ((ids : List (List ℕ)) → option_map BadJob (bad_behind true ids next) ≡ Some fault) → option_map BadJob (bad_envelopes true all) ≡ Some fault
+  pub Scanned-stray : (fault : RunFault) → ((ids : List (List ℕ)) → option_map BadJob (bad_behind true ids next) ≡ Some fault) → option_map BadJob (bad_envelopes all) ≡ Some fault
   Scanned-stray fault refused = ap (option_map BadJob) passed ∙ refused (id ∷ h.known)
 
   pub Scanned-taken : (after : List JobLine) (more : List Section) (added : List (List ℕ)) → ((q : List ℕ) → has_text added q ≡ (bytes_eq q id || has_text ids q)) → more ≡ sections ++ section_at x id xs ∷ []
@@ -318,7 +318,7 @@ module _ (all : List JobLine) (x : JobLine) (xs next : List JobLine) (sections :
         ∙ h.found;
   }
 
-pub Scanned-unbroken : (all rest : List JobLine) (sections : List Section) (ids : List (List ℕ)) → Scanned all rest sections ids → rest ≡ [] → bad_envelopes true all ≡ None
+pub Scanned-unbroken : (all rest : List JobLine) (sections : List Section) (ids : List (List ℕ)) → Scanned all rest sections ids → rest ≡ [] → bad_envelopes all ≡ None
 Scanned-unbroken all rest sections ids h e = sym h.unbroken ∙ ap (bad_behind false h.known) e
 
 pub Scanned-found : (all rest : List JobLine) (sections : List Section) (ids : List (List ℕ)) → Scanned all rest sections ids → rest ≡ [] → sections ≡ envelopes_of all

@@ -5,7 +5,7 @@ use Rattle.relay_wire.specs.Json.{json_member, json_object, json_string, with_co
 use Rattle.relay_wire.specs.JsonPlan.{findings_member, plan_members}
 use Rattle.relay_wire.specs.PlanText.{line}
 use Rattle.relay_envelopes.specs.declared.refusal.Refusal.{Refusal}
-use Rattle.relay_envelopes.specs.declared.refusal.Refusal.TheVariants.{BadEnvelope, TooManyNames, TooManyOwners, TooManyPairs}
+use Rattle.relay_envelopes.specs.declared.refusal.Refusal.TheVariants.{BadEnvelope, TooManyNames, TooManyOwners, TooManyPairs, TooLong}
 use Rattle.relay_envelopes.specs.declared.counts.EnvelopeCounts.{EnvelopeCounts}
 
 abbrev pub json_line : List (List ℕ) → List ℕ
@@ -50,6 +50,7 @@ refused_json id (BadEnvelope number) = fault_json (codes "envelope") id (codes "
 refused_json id TooManyNames = pair_json (codes "envelope") id (codes "refused") (codes "too many names")
 refused_json id TooManyOwners = pair_json (codes "envelope") id (codes "refused") (codes "too many owners")
 refused_json id TooManyPairs = pair_json (codes "envelope") id (codes "refused") (codes "too many pairs")
+refused_json id TooLong = pair_json (codes "envelope") id (codes "refused") (codes "too long")
 
 abbrev pub counts_json : EnvelopeCounts → List (List ℕ)
 counts_json c =

@@ -4,7 +4,7 @@ use Rattle.relay_wire.specs.Findings.{spaced}
 use Rattle.relay_wire.specs.PlanText.{line, lines_of}
 use Rattle.relay_wire.specs.Lengths.{saturated}
 use Rattle.relay_envelopes.specs.declared.refusal.Refusal.{Refusal}
-use Rattle.relay_envelopes.specs.declared.refusal.Refusal.TheVariants.{BadEnvelope, TooManyNames, TooManyOwners, TooManyPairs}
+use Rattle.relay_envelopes.specs.declared.refusal.Refusal.TheVariants.{BadEnvelope, TooManyNames, TooManyOwners, TooManyPairs, TooLong}
 use Rattle.relay_envelopes.specs.declared.counts.EnvelopeCounts.{EnvelopeCounts}
 
 -- the faults of files and tables, once for all envelopes
@@ -23,6 +23,7 @@ refusal_words (BadEnvelope number) = codes "line" ∷ decimal number ∷ codes "
 refusal_words TooManyNames = codes "too" ∷ codes "many" ∷ codes "names" ∷ []
 refusal_words TooManyOwners = codes "too" ∷ codes "many" ∷ codes "owners" ∷ []
 refusal_words TooManyPairs = codes "too" ∷ codes "many" ∷ codes "pairs" ∷ []
+refusal_words TooLong = codes "too" ∷ codes "long" ∷ []
 
 abbrev pub refusal_line : Refusal → List ℕ
 refusal_line refusal = spaced (codes "refused" ∷ refusal_words refusal)

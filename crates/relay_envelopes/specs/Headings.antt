@@ -26,3 +26,7 @@ id_of text = if is_envelope_word text && is_id (id_text text) then Some (id_text
 -- the heading that ends an envelope: white space at its end is dropped
 abbrev pub is_end : List ℕ → Bool
 is_end text = bytes_eq (trimmed_end text) (codes "%end")
+
+-- the heading that asks for the tables to be read anew, likewise
+abbrev pub is_tables : List ℕ → Bool
+is_tables text = bytes_eq (trimmed_end text) (codes "%tables")

@@ -46,18 +46,18 @@ goes_on begun l = if is_heading l then not (is_end (text_of l)) else begun
 abbrev pub has_begun : List JobLine → Bool
 has_begun lines = fold goes_on false lines
 
--- A line breaks the envelopes where it is a heading that has no ID, or where each stands once, the ID of an earlier one; and where no
--- envelope has begun or it has ended, and it is `%end`, or no heading and not of white space alone.
-abbrev pub breaks_envelopes : Bool → List JobLine → JobLine → Bool
-breaks_envelopes once earlier l =
+-- A line breaks the envelopes where it is a heading that has no ID or that of an earlier one; and where no envelope has begun or it has
+-- ended, and it is `%end`, or no heading and not of white space alone.
+abbrev pub breaks_envelopes : List JobLine → JobLine → Bool
+breaks_envelopes earlier l =
     if is_heading l then (if is_end (text_of l) then not (has_begun earlier) else is_bad (id_of (text_of l)))
     else (not (has_begun earlier) && not (list_all is_white (text_of l))) where
       is_bad : Option (List ℕ) → Bool
       is_bad None = true
-      is_bad (Some id) = once && has_id earlier id
+      is_bad (Some id) = has_id earlier id
 
-abbrev pub bad_envelopes : Bool → List JobLine → Option ℕ
-bad_envelopes once lines = first_broken (breaks_envelopes once) (λ l. l.number) lines
+abbrev pub bad_envelopes : List JobLine → Option ℕ
+bad_envelopes lines = first_broken breaks_envelopes (λ l. l.number) lines
 
 -- The settings, files and tables stand before the first heading with the word `%envelope`.
 abbrev pub begins_envelopes : JobLine → Bool
@@ -76,7 +76,7 @@ lines_behind text = drop (length (front_lines text)) (job_lines text)
 abbrev pub each_fault : List ℕ → Option RunFault
 each_fault text = first_of (
     option_map BadJob (bad_job (front_of text))
-    ∷ option_map BadJob (bad_envelopes true (lines_behind text))
+    ∷ option_map BadJob (bad_envelopes (lines_behind text))
     ∷ option_map BadSetting (bad_setting (front_of text))
     ∷ [])
 

@@ -43,7 +43,7 @@ pub fn envelope_id(text: &[u8]) -> Option<&[u8]>
 }
 
 /// Whether a heading ends an envelope: it is `%end`, and white space may stand behind it.
-pub fn is_end(text: &[u8]) -> bool
+pub(crate) fn is_end(text: &[u8]) -> bool
     ensures { result ≡ is_end text.now }
 {
     same_bytes(trimmed_end(text), b"%end")

@@ -47,7 +47,7 @@ pub fn put_json_line_end(number: usize, out: &mut Vec<u8>) -> Result<(), AllocEr
 }
 
 // Puts the object of an envelope that is refused for no line of its own.
-fn put_too_many(id: &[u8], words: &[u8], out: &mut Vec<u8>) -> Result<(), AllocError>
+fn put_reason(id: &[u8], words: &[u8], out: &mut Vec<u8>) -> Result<(), AllocError>
     ensures { OnOk result (out.new.items ≡ out.old.items ++ pair_json (codes "envelope") id.now (codes "refused") words.now) }
 {
     put_json_pair(b"envelope", id, b"refused", words, out)?;
@@ -68,9 +68,10 @@ pub fn put_refused_json(id: &[u8], refusal: Refusal, out: &mut Vec<u8>) -> Resul
 {
     match refusal {
         Refusal::BadEnvelope(number) => put_bad_envelope(id, number, out),
-        Refusal::TooManyNames => put_too_many(id, b"too many names", out),
-        Refusal::TooManyOwners => put_too_many(id, b"too many owners", out),
-        Refusal::TooManyPairs => put_too_many(id, b"too many pairs", out),
+        Refusal::TooManyNames => put_reason(id, b"too many names", out),
+        Refusal::TooManyOwners => put_reason(id, b"too many owners", out),
+        Refusal::TooManyPairs => put_reason(id, b"too many pairs", out),
+        Refusal::TooLong => put_reason(id, b"too long", out),
     }
 }
 

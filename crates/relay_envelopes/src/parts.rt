@@ -93,8 +93,8 @@ pub fn find_envelopes<'a>(
     place: Place<'a>,
 ) -> Result<Vec<EnvelopeSection<'a>>, RunFault>
     ensures sections { IfOk result (λ sections. map section_in sections.items ≡ envelopes_of (lines_at place.entry)) }
-    ensures unbroken { IfOk result (λ sections. bad_envelopes true (lines_at place.entry) ≡ None) }
-    ensures refused { IfErr result (λ fault. Stops (option_map RunFault.BadJob (bad_envelopes true (lines_at place.entry))) fault) }
+    ensures unbroken { IfOk result (λ sections. bad_envelopes (lines_at place.entry) ≡ None) }
+    ensures refused { IfErr result (λ fault. Stops (option_map RunFault.BadJob (bad_envelopes (lines_at place.entry))) fault) }
 {
     let mut sections = Vec::new(alloc);
     let mut ids = TextSet::new(alloc);

@@ -8,4 +8,6 @@ pub enum Refusal {
     TooManyNames,
     TooManyOwners,
     TooManyPairs,
+    /// Its section has more bytes than a job may have.
+    TooLong,
 }

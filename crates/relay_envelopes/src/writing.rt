@@ -53,6 +53,7 @@ pub fn put_refusal(refusal: Refusal, out: &mut Vec<u8>) -> Result<(), AllocError
         Refusal::TooManyNames => out.extend_from_slice(b"refused too many names\n"),
         Refusal::TooManyOwners => out.extend_from_slice(b"refused too many owners\n"),
         Refusal::TooManyPairs => out.extend_from_slice(b"refused too many pairs\n"),
+        Refusal::TooLong => out.extend_from_slice(b"refused too long\n"),
     }
 }
 

@@ -1,15 +1,14 @@
 use Rattle.std.proofs.Common.{refl}
 use Rattle.std.proofs.lemmas.Result.{err_from_is_err_and}
-use Rattle.aliasplan_each.specs.ReplySteps.RefusesStretches.{other}
 use Rattle.aliasplan_each.proofs.BesideFacts.{on_err, if_some}
-use Rattle.aliasplan_each.proofs.BesideRuns.{if_some_more, front-findings, front-replies, front-done, plans}
+use Rattle.aliasplan_each.proofs.BesideRuns.{if_some_more, front-findings, front-replies, front-done, plans, refused-write}
 use Rattle.aliasplan_each.proofs.FaultFacts.{told}
 use Rattle.aliasplan_each.proofs.beside.answer_stream.Goals as goal
 
 pub returns-in_err-findings-clause-refuses : goal.returns-in_err-findings-clause-refuses
 returns-in_err-findings-clause-refuses g c =
     let p = err_from_is_err_and c.from_residual.result c.from_residual.ensures.1 in
-    rw (p.1, p.2) (if_some _ (λ input. other c.in_err-findings.ensures.only))
+    rw (p.1, p.2) (if_some _ (λ input. refused-write c.args.crew.now.limits c.args.planner.now input _ c.in_err-findings.ensures.only))
 
 pub returns-in_err-findings-clause-write : goal.returns-in_err-findings-clause-write
 returns-in_err-findings-clause-write g c =
@@ -42,7 +41,7 @@ returns-in_err-counts-clause-front g c =
 pub returns-in_err-write_done-clause-refuses : goal.returns-in_err-write_done-clause-refuses
 returns-in_err-write_done-clause-refuses g c =
     let p = err_from_is_err_and c.from_residual-in_err-write_done.result c.from_residual-in_err-write_done.ensures.1 in
-    rw (p.1, p.2) (if_some _ (λ input. other c.in_err-write_done.ensures.only))
+    rw (p.1, p.2) (if_some _ (λ input. refused-write c.args.crew.now.limits c.args.planner.now input _ c.in_err-write_done.ensures.only))
 
 pub returns-in_err-write_done-clause-write : goal.returns-in_err-write_done-clause-write
 returns-in_err-write_done-clause-write g c =

@@ -1,4 +1,3 @@
-use Rattle.std.proofs.Common.{Ok, Err}
 use Rattle.std.proofs.lemmas.Result.{err_from_is_err_and}
 use Rattle.aliasplan_each.specs.Changes.IsKept.{refused}
 use Rattle.aliasplan_each.proofs.ChangeFacts.{kept-broken, HasRead-of}

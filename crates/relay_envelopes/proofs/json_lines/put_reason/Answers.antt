@@ -2,7 +2,7 @@ use Rattle.std.proofs.Common.{[], ◌∷◌, codes, ◌∙◌}
 use Rattle.std.proofs.lemmas.Result.{on_ok_weaker}
 use Rattle.relay_wire.proofs.JsonPieces.{object_line}
 use Rattle.relay_envelopes.specs.EachJson.{string_member}
-use Rattle.relay_envelopes.proofs.json_lines.put_too_many.Goals as goal
+use Rattle.relay_envelopes.proofs.json_lines.put_reason.Goals as goal
 
 pub returns : goal.returns
 returns c =
