@@ -1,11 +1,14 @@
-//! The plan of one envelope, by tables that are read.
+//! The plan of one envelope, and what is returned, by tables that are read.
 ghost use Rattle.std.specs.Prelude.{◌≡◌, ◌≤◌, ◌+◌, ℕ, true, IfOk, IfErr, OnOk};
 ghost use Rattle.relay_job.specs.Tables.{without_envelope};
 ghost use Rattle.relay_planning.specs.Delivery.{directory_of, IsJobPart};
 ghost use Rattle.relay_planning.specs.Limits.{name_count, owned_count, AreLimits, IsRefused, IsWithin};
 ghost use Rattle.aliasplan.specs.Planners.{AreRead};
+ghost use Rattle.aliasplan.specs.Returns.{AreReturnsOf, IsReturnedWithin, IsUnreturned};
 ghost use Rattle.relay_planning.specs.Plans.{IsFewest, IsOwnPlanOf, IsSoundFor};
 
+use crate::returned::Returned;
+use crate::returning::returned_graph;
 use relay_job::RunFault;
 use relay_planning::{Crew, JobView, Limits, Lookup, graph_of, pairs_of, plan_reached};
 use relay_rounds::Gate;
@@ -87,5 +90,27 @@ pub(crate) fn plan_envelope<G: Gate, R: Threads + Sync>(
     match plan_reached(crew, job, lookup, &graph, &pairs, lines) {
         Ok(plan) => Ok(plan),
         Err(_) => Err(RunFault::Memory),
+    }
+}
+
+/// The same, with what is returned to which sender.
+pub(crate) fn returns_envelope<G: Gate, R: Threads + Sync>(
+    crew: &Crew<G, R>,
+    job: &JobView<'_>,
+    lookup: &Lookup,
+    counts: TableCounts,
+) -> Result<Returned, RunFault>
+    requires read { AreRead (without_envelope job.now) lookup.now counts }
+    ensures plan { IfOk result (λ returned. IsOwnPlanOf job.now returned.plan) }
+    ensures sound { IfOk result (λ returned. IsSoundFor job.now returned.plan.transactions) }
+    ensures fewest { IfOk result (λ returned. IsFewest job.now returned.plan.transactions) }
+    ensures returns { IfOk result (λ returned. AreReturnsOf job.now returned.returns) }
+    ensures within { OnOk result (IsReturnedWithin crew.now.limits job.now) }
+    ensures refused { IfErr result (IsUnreturned crew.now.limits job.now) }
+{
+    let lines = FindingLines::new(crew.alloc);
+    match part_of(crew, job, lookup, counts) {
+        Ok(graph) => returned_graph(crew, job, lookup, &graph, lines),
+        Err(fault) => Err(fault),
     }
 }

@@ -50,11 +50,13 @@ ghost use Rattle.relay_planning.specs.Delivery.{directory_of, routing_of};
 ghost use Rattle.relay_planning.specs.Limits.{owned_count, AreLimits, IsRefused, IsWithin};
 ghost use Rattle.aliasplan.specs.Outcomes.{AreTableCountsWithin, HasRefusedTables};
 ghost use Rattle.aliasplan.specs.Planners.{AreRead};
+ghost use Rattle.aliasplan.specs.Returns.{AreReturnsOf, IsReturnedWithin, IsUnreturned};
 ghost use Rattle.relay_planning.specs.Plans.{IsFewest, IsOwnPlanOf, IsSoundFor};
 ghost use Rattle.relay_planning.specs.Report.{texts, IsLineOf};
 ghost use Rattle.relay_planning.specs.Texts.{has_fault_line};
 
-use crate::enveloping::plan_envelope;
+use crate::enveloping::{plan_envelope, returns_envelope};
+use crate::returned::Returned;
 use relay_chains::TextKey;
 use relay_job::{Envelope, RunFault, Settings, parsed_tables};
 use relay_rounds::Gate;
@@ -261,5 +263,24 @@ impl Planner {
     {
         let job = JobView::joined(&self.tables, envelope);
         plan_envelope(crew, &job, &self.read.lookup, self.read.counts)
+    }
+
+    /// The same with what is returned to which sender, as `returns` makes it of these tables and the envelope.
+    ///
+    /// The errors are those of `returns`, in the same order.
+    pub fn returns<G: Gate, R: Threads + Sync>(
+        &self,
+        crew: &Crew<G, R>,
+        envelope: &Envelope,
+    ) -> Result<Returned, RunFault>
+        ensures plan { IfOk result (λ returned. IsOwnPlanOf (with_envelope self.now envelope.now) returned.plan) }
+        ensures sound { IfOk result (λ returned. IsSoundFor (with_envelope self.now envelope.now) returned.plan.transactions) }
+        ensures fewest { IfOk result (λ returned. IsFewest (with_envelope self.now envelope.now) returned.plan.transactions) }
+        ensures returns { IfOk result (λ returned. AreReturnsOf (with_envelope self.now envelope.now) returned.returns) }
+        ensures within { OnOk result (IsReturnedWithin crew.now.limits (with_envelope self.now envelope.now)) }
+        ensures refused { IfErr result (IsUnreturned crew.now.limits (with_envelope self.now envelope.now)) }
+    {
+        let job = JobView::joined(&self.tables, envelope);
+        returns_envelope(crew, &job, &self.read.lookup, self.read.counts)
     }
 }

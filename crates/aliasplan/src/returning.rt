@@ -1,12 +1,13 @@
 //! What is returned to which sender, beside the plan of a job.
-ghost use Rattle.std.specs.Prelude.{◌≡◌, ◌<◌, ◌≤◌, All, ℕ, length, IfOk, IfErr, OnOk, List};
+ghost use Rattle.std.specs.Prelude.{◌≡◌, ◌<◌, ◌≤◌, ◌⊎◌, All, ℕ, length, IsTrue, IfOk, IfErr, OnOk, List};
 ghost use Rattle.relay_text.specs.Bytes.{has_text};
 ghost use Rattle.relay_job.specs.JobAnswers.{IsJobWithin};
 ghost use Rattle.relay_pairs.specs.Pairs.{ArePairs};
 ghost use Rattle.relay_planning.specs.Delivery.{directory_of, routing_of, IsJobPart};
 ghost use Rattle.relay_planning.specs.Limits.{name_count, owned_count, IsWithin};
-ghost use Rattle.relay_planning.specs.Plans.{IsFewest, IsPlanOf, IsSoundFor};
+ghost use Rattle.relay_planning.specs.Plans.{IsFewest, IsPlanOf, IsPlanWith, IsSoundFor};
 ghost use Rattle.relay_planning.specs.Reaching.{AreReachedNodes, AreReachedPairs};
+ghost use Rattle.relay_planning.specs.Report.{IsOwnFindingLine};
 ghost use Rattle.aliasplan.specs.Returns.{AreReturnsOf, HasAtMostReturnPairs, IsReturnedWithin, IsUnreturned};
 ghost use Rattle.aliasplan.specs.ReturnLines.{AreFindings, AreLinesOf, AreReturnLines};
 ghost use Rattle.relay_planning.specs.Texts.{has_fault_line};
@@ -101,7 +102,7 @@ fn returns_of<G: Gate, R: Threads + Sync>(
     Ok(blocks_of_lines(alloc, job, graph, lists)?)
 }
 
-/// The plan and what is returned, of a job that reaches these pairs. The lines of files and tables that are at fault are given.
+/// The plan and what is returned, of a job that reaches these pairs. The lines that are given stand with the findings of what is reached.
 fn returned_pairs<G: Gate, R: Threads + Sync>(
     crew: &Crew<G, R>,
     job: &JobView<'_>,
@@ -117,8 +118,7 @@ fn returned_pairs<G: Gate, R: Threads + Sync>(
     requires reached { AreReachedPairs job.now graph.now pairs.now }
     requires few { length pairs.now ≤ 16777216 }
     requires within { IsWithin crew.now.limits job.now }
-    requires lines { (q : List ℕ) → has_text lines q ≡ has_fault_line job.now q }
-    ensures plan { IfOk result (λ returned. IsPlanOf job.now returned.plan) }
+    ensures plan { IfOk result (λ returned. IsPlanWith job.now (λ q. IsTrue (has_text lines q) ⊎ IsOwnFindingLine job.now q) returned.plan) }
     ensures sound { IfOk result (λ returned. IsSoundFor job.now returned.plan.transactions) }
     ensures fewest { IfOk result (λ returned. IsFewest job.now returned.plan.transactions) }
     ensures returns { IfOk result (λ returned. AreReturnsOf job.now returned.returns) }
@@ -134,8 +134,8 @@ fn returned_pairs<G: Gate, R: Threads + Sync>(
     }
 }
 
-/// The plan and what is returned, of a job of this graph. The lines of files and tables that are at fault are given.
-fn returned_graph<G: Gate, R: Threads + Sync>(
+/// The plan and what is returned, of a job of this graph. The lines that are given stand with the findings of what is reached.
+pub(crate) fn returned_graph<G: Gate, R: Threads + Sync>(
     crew: &Crew<G, R>,
     job: &JobView<'_>,
     lookup: &Lookup,
@@ -147,8 +147,7 @@ fn returned_graph<G: Gate, R: Threads + Sync>(
     requires graph { IsJobPart job.now graph.now }
     requires names { name_count job.now ≤ crew.now.limits.names }
     requires owners { owned_count job.now ≤ crew.now.limits.owners }
-    requires lines { (q : List ℕ) → has_text lines q ≡ has_fault_line job.now q }
-    ensures plan { IfOk result (λ returned. IsPlanOf job.now returned.plan) }
+    ensures plan { IfOk result (λ returned. IsPlanWith job.now (λ q. IsTrue (has_text lines q) ⊎ IsOwnFindingLine job.now q) returned.plan) }
     ensures sound { IfOk result (λ returned. IsSoundFor job.now returned.plan.transactions) }
     ensures fewest { IfOk result (λ returned. IsFewest job.now returned.plan.transactions) }
     ensures returns { IfOk result (λ returned. AreReturnsOf job.now returned.returns) }

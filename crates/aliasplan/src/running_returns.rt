@@ -15,10 +15,9 @@ use crate::returning::returns;
 use crate::writing::write_text;
 use relay_job::{Job, RunFault, parse_job_by};
 use relay_planning::{Crew, Form, Summary};
-use relay_returns::{returned_json_text, returned_plan_text, returned_wire_text};
 use relay_rounds::Gate;
 use relay_text::Text;
-use std::alloc::{AllocError, Global};
+use std::alloc::Global;
 use std::thread::Threads;
 
 /// The text of a plan with what is returned, and the plan's numbers.
@@ -28,18 +27,6 @@ struct ReturnedText {
     summary: Summary,
 }
 
-/// A plan and its blocks as they are written.
-fn returned_text(alloc: Global, form: Form, returned: &Returned) -> Result<Text, AllocError>
-    ensures { IfOk result (λ text. text ≡ returned_text_in form returned.now.plan returned.now.returns) }
-{
-    let blocks = returned.returns.as_slice();
-    match form {
-        Form::Plan => returned_plan_text(alloc, &returned.plan, blocks),
-        Form::Wire => returned_wire_text(alloc, &returned.plan, blocks),
-        Form::Json => returned_json_text(alloc, &returned.plan, blocks),
-    }
-}
-
 /// What is written of a plan and its blocks.
 fn answer_of(alloc: Global, form: Form, returned: &Returned) -> Result<ReturnedText, RunFault>
     ensures written { IfOk result (λ answer. answer.text ≡ returned_text_in form returned.now.plan returned.now.returns) }
@@ -47,7 +34,7 @@ fn answer_of(alloc: Global, form: Form, returned: &Returned) -> Result<ReturnedT
     ensures memory { IfErr result (λ fault. fault ≡ RunFault.Memory) }
 {
     let summary = Summary::of(&returned.plan)?;
-    let text = returned_text(alloc, form, returned)?;
+    let text = returned.text_of(alloc, form)?;
     Ok(ReturnedText { text, summary })
 }
 

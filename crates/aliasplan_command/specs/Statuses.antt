@@ -32,7 +32,7 @@ code_after CommandLine = 5
 -- the command line is at fault where it asks for nothing that there is, and only there; only a plan and a check have findings, only an explanation is of an address that isn't in the plan, and only an expansion has no address
 abbrev pub IsStatusOf : Request → Status → Type 0
 IsStatusOf (Plan work output job detail) status = status ≢ CommandLine
-IsStatusOf (Each work tables path detail) status = status ≢ CommandLine
+IsStatusOf (Each work output tables path detail) status = status ≢ CommandLine
 IsStatusOf (Domains work job detail) status = (status ≢ Found) × (status ≢ CommandLine)
 IsStatusOf (Check work scope job detail) status = status ≢ CommandLine
 IsStatusOf (Explain work asked job detail) status = status ≢ CommandLine

@@ -4,7 +4,7 @@ ghost use Rattle.aliasplan_words.specs.Requests.{IsRequest, IsWork};
 ghost use Rattle.aliasplan_command.specs.Statuses.{code_of, code_after, IsStatusOf};
 
 use crate::check_run::run_check;
-use crate::each_run::answer_each;
+use crate::each_run::{EachWork, answer_each};
 use crate::explaining::{explain_alias_file, explain_job, shown};
 use crate::explaining_items::explain_items;
 use crate::file_source;
@@ -334,15 +334,14 @@ fn plan_named<R: Input + Files + Print + Eprint + AllocGlobal + Threads + Sync>(
 fn answer_each_in<R: Files + Print + Eprint + AllocGlobal + Threads + Sync>(
     rt: &R,
     path: &Text,
-    work: Work,
-    tables: Option<&Text>,
+    each: EachWork<'_>,
     detail: Detail,
 ) -> Status
-    requires { IsWork work }
+    requires { IsWork each.work }
     ensures { result ≢ Status.CommandLine }
 {
     match file_source::open(rt, path.as_bytes()) {
-        Ok(file) => answer_each(rt, work, tables, file),
+        Ok(file) => answer_each(rt, each, file),
         Err(fault) => unopened(rt, path, fault, detail),
     }
 }
@@ -351,16 +350,15 @@ fn answer_each_in<R: Files + Print + Eprint + AllocGlobal + Threads + Sync>(
 fn answer_each_named<R: Input + Files + Print + Eprint + AllocGlobal + Threads + Sync>(
     rt: &R,
     path: Option<&Text>,
-    work: Work,
-    tables: Option<&Text>,
+    each: EachWork<'_>,
     detail: Detail,
 ) -> Status
-    requires { IsWork work }
+    requires { IsWork each.work }
     ensures { result ≢ Status.CommandLine }
 {
     match path {
-        None => answer_each(rt, work, tables, StandardInput::new(rt.reader())),
-        Some(path) => answer_each_in(rt, path, work, tables, detail),
+        None => answer_each(rt, each, StandardInput::new(rt.reader())),
+        Some(path) => answer_each_in(rt, path, each, detail),
     }
 }
 
@@ -392,8 +390,13 @@ pub fn answer<R: Input + Files + Print + Eprint + AllocGlobal + Threads + Sync>(
 {
     match request {
         Request::Plan(work, output, job, detail) => plan_named(rt, job, *work, *output, *detail),
-        Request::Each(work, tables, path, detail) => {
-            answer_each_named(rt, path.as_ref(), *work, tables.as_ref(), *detail)
+        Request::Each(work, output, tables, path, detail) => {
+            let each = EachWork {
+                work: *work,
+                output: *output,
+                tables: tables.as_ref(),
+            };
+            answer_each_named(rt, path.as_ref(), each, *detail)
         }
         Request::Domains(work, job, detail) => {
             plan_named(rt, job, *work, Output::Domains, *detail)

@@ -9,14 +9,32 @@ use crate::explaining::shown;
 use crate::file_source;
 use crate::status::Status;
 use aliasplan::{Crew, Device, Job, NoGate, RunFault, SourceFault, parse_tables, read_job};
-use aliasplan_each::{EachSummary, TablesSource, run_beside, run_each};
-use aliasplan_words::Work;
+use aliasplan_each::{EachSummary, TablesSource, Wording, run_beside, run_each};
+use aliasplan_words::{Output, Work};
 use relay_text::Text;
 use std::alloc::Global;
 use std::io;
 use std::io::Read;
 use std::rt::Files;
 use std::thread::Threads;
+
+/// What is asked of many envelopes.
+#[derive(Clone, Copy)]
+pub(crate) struct EachWork<'a> {
+    pub(crate) work: Work,
+    pub(crate) output: Output<'static>,
+    /// The file that has the tables; they stand in front of the envelopes where there is none.
+    pub(crate) tables: Option<&'a Text>,
+}
+
+impl EachWork<'_> {
+    fn wording(&self) -> Wording {
+        Wording {
+            form: self.work.options.form,
+            returns: matches!(self.output, Output::Returns),
+        }
+    }
+}
 
 /// Whether nothing was found in files and tables or in a plan, and no envelope was refused.
 fn is_clean(summary: &EachSummary) -> bool
@@ -76,14 +94,15 @@ fn first_tables<T: TablesSource>(
 /// asked for.
 fn answer_beside<R: Print + Eprint + AllocGlobal + Threads + Sync, T: TablesSource, J: Read + Drop>(
     rt: &R,
-    work: Work,
+    each: EachWork<'_>,
     tables: Job,
     source: &mut T,
     envelopes: J,
 ) -> Result<EachSummary, RunFault>
-    requires work { IsWork work }
-    requires tables { AreTablesWithin work.limits.bytes tables }
+    requires work { IsWork each.work }
+    requires tables { AreTablesWithin each.work.limits.bytes tables }
 {
+    let work = each.work;
     let crew = Crew {
         rt,
         alloc: rt.alloc(),
@@ -93,17 +112,25 @@ fn answer_beside<R: Print + Eprint + AllocGlobal + Threads + Sync, T: TablesSour
     };
     let mut reader = Device::new(envelopes);
     let mut writer = Device::new(io::writer(rt));
-    run_beside(&crew, tables, source, &mut reader, &mut writer)
+    run_beside(
+        &crew,
+        each.wording(),
+        tables,
+        source,
+        &mut reader,
+        &mut writer,
+    )
 }
 
 /// Answers the envelopes of a text that has their tables in front.
 fn answer_whole<R: Print + Eprint + AllocGlobal + Threads + Sync, J: Read + Drop>(
     rt: &R,
-    work: Work,
+    each: EachWork<'_>,
     text: J,
 ) -> Result<EachSummary, RunFault>
-    requires { IsWork work }
+    requires { IsWork each.work }
 {
+    let work = each.work;
     let crew = Crew {
         rt,
         alloc: rt.alloc(),
@@ -113,7 +140,7 @@ fn answer_whole<R: Print + Eprint + AllocGlobal + Threads + Sync, J: Read + Drop
     };
     let mut reader = Device::new(text);
     let mut writer = Device::new(io::writer(rt));
-    run_each(&crew, &mut reader, &mut writer)
+    run_each(&crew, each.wording(), &mut reader, &mut writer)
 }
 
 /// Says why the tables of a file can't be had, and what the process ends with.
@@ -129,19 +156,18 @@ fn refused_tables<R: Eprint>(rt: &R, path: &Text, fault: RunFault) -> Status
 /// it can't.
 pub(crate) fn answer_each<R: Files + Print + Eprint + AllocGlobal + Threads + Sync, J: Read + Drop>(
     rt: &R,
-    work: Work,
-    tables: Option<&Text>,
+    each: EachWork<'_>,
     envelopes: J,
 ) -> Status
-    requires { IsWork work }
+    requires { IsWork each.work }
     ensures { result ≢ Status.CommandLine }
 {
-    let answer = match tables {
-        None => answer_whole(rt, work, envelopes),
+    let answer = match each.tables {
+        None => answer_whole(rt, each, envelopes),
         Some(path) => {
             let mut source = FileTables { rt, path };
-            match first_tables(rt.alloc(), &mut source, work.limits.bytes) {
-                Ok(tables) => answer_beside(rt, work, tables, &mut source, envelopes),
+            match first_tables(rt.alloc(), &mut source, each.work.limits.bytes) {
+                Ok(tables) => answer_beside(rt, each, tables, &mut source, envelopes),
                 Err(fault) => return refused_tables(rt, path, fault),
             }
         }

@@ -22,7 +22,7 @@ use Rattle.relay_envelopes.specs.Headings.{is_envelope_word, is_end, is_tables}
 use Rattle.relay_envelopes.specs.Kinds.{is_long, kind_of}
 use Rattle.relay_envelopes.specs.Sections.{Section}
 use Rattle.aliasplan_each.specs.Forms.{tables_text_in, done_text_in}
-use Rattle.relay_planning.specs.declared.options.Form.{Form}
+use Rattle.aliasplan_each.specs.declared.wording.Wording.{Wording}
 use Rattle.relay_planning.specs.declared.options.Limits.{Limits}
 use Rattle.aliasplan.specs.Outcomes.{AreTableCountsWithin, HasRefusedTables, IsReadFault}
 use Rattle.aliasplan.specs.Transfers.{Fronts}
@@ -62,13 +62,13 @@ pub if_some_more : {T : Type 0} {P Q : T → Type 0} (o : Option T) → IfSome o
 if_some_more None h f = tt
 if_some_more (Some x) h f = f x h
 
-module _ (limits : Limits) (form : Form) (tables : Job) (coming : ℕ → Given) (input : List ℕ) where
-  pub front-none : (old : Option (List ℕ)) → WritesChangingFront limits form tables coming input old old
+module _ (limits : Limits) (wording : Wording) (tables : Job) (coming : ℕ → Given) (input : List ℕ) where
+  pub front-none : (old : Option (List ℕ)) → WritesChangingFront limits wording tables coming input old old
   front-none old = record { text = []; due = nothing refl; count = 0; written = Appends-nil old }
 
-  pub front-findings : (old new : Option (List ℕ)) → FrontsFindings form tables old new → WritesChangingFront limits form tables coming input old new
+  pub front-findings : (old new : Option (List ℕ)) → FrontsFindings wording.form tables old new → WritesChangingFront limits wording tables coming input old new
   front-findings old new h = record {
-    text = tables_text_in form h.findings ++ [];
+    text = tables_text_in wording.form h.findings ++ [];
     due = some (record { findings = length h.findings; counts = no_counts }) [] (asks_in limits.bytes input) refl (record {
       findings = h.findings;
       are_findings = h.are_findings;
@@ -78,26 +78,26 @@ module _ (limits : Limits) (form : Form) (tables : Job) (coming : ℕ → Given)
       summed = refl;
     });
     count = h.count;
-    written = rw (append-nil (tables_text_in form h.findings)) h.written;
+    written = rw (append-nil (tables_text_in wording.form h.findings)) h.written;
   }
 
   -- a front of a text behind another
   longer : (a b c : Option (List ℕ)) (first next : List ℕ) (count : ℕ) → Appends a b first → Appends b c (take count next) → Appends a c (take (length first + count) (first ++ next))
   longer a b c first next count h k = rw (take-append-add first next count) (Appends-trans a b c first (take count next) h k)
 
-  pub front-replies : (old mid new : Option (List ℕ)) (count : ℕ) → WritesFindings form tables old mid count → FrontsReplies limits form tables coming (asks_in limits.bytes input) mid new → WritesChangingFront limits form tables coming input old new
+  pub front-replies : (old mid new : Option (List ℕ)) (count : ℕ) → WritesFindings wording.form tables old mid count → FrontsReplies limits wording tables coming (asks_in limits.bytes input) mid new → WritesChangingFront limits wording tables coming input old new
   front-replies old mid new count h k = record {
-    text = tables_text_in form h.findings ++ texts_of k.replies;
+    text = tables_text_in wording.form h.findings ++ texts_of k.replies;
     due = some (record { findings = length h.findings; counts = counts_of k.replies }) k.came k.rest k.parts (record { findings = h.findings; are_findings = h.are_findings; replies = k.replies; are_replies = k.are_replies; is = refl; summed = refl });
-    count = length (tables_text_in form h.findings) + k.count;
-    written = longer old mid new (tables_text_in form h.findings) (texts_of k.replies) k.count h.written k.written;
+    count = length (tables_text_in wording.form h.findings) + k.count;
+    written = longer old mid new (tables_text_in wording.form h.findings) (texts_of k.replies) k.count h.written k.written;
   }
 
-  module _ (old mid late new : Option (List ℕ)) (count : ℕ) (counts : EnvelopeCounts) (h : WritesFindings form tables old mid count) (k : RepliesToAll limits form tables coming input mid late counts) where
+  module _ (old mid late new : Option (List ℕ)) (count : ℕ) (counts : EnvelopeCounts) (h : WritesFindings wording.form tables old mid count) (k : RepliesToAll limits wording tables coming input mid late counts) where
     abbrev body : List ℕ
-    body = tables_text_in form h.findings ++ texts_of k.replies
+    body = tables_text_in wording.form h.findings ++ texts_of k.replies
 
-    answered : AnswersAsks limits form tables coming (asks_in limits.bytes input) body (record { findings = count; counts = counts })
+    answered : AnswersAsks limits wording tables coming (asks_in limits.bytes input) body (record { findings = count; counts = counts })
     answered = record {
       findings = h.findings;
       are_findings = h.are_findings;
@@ -108,22 +108,22 @@ module _ (limits : Limits) (form : Form) (tables : Job) (coming : ℕ → Given)
     }
 
     begun : Appends old late body
-    begun = Appends-trans old mid late (tables_text_in form h.findings) (texts_of k.replies) h.written k.written
+    begun = Appends-trans old mid late (tables_text_in wording.form h.findings) (texts_of k.replies) h.written k.written
 
-    pub front-done : Fronts late new (done_text_in form counts) → WritesChangingFront limits form tables coming input old new
+    pub front-done : Fronts late new (done_text_in wording.form counts) → WritesChangingFront limits wording tables coming input old new
     front-done w = record {
-      text = body ++ done_text_in form counts;
+      text = body ++ done_text_in wording.form counts;
       due = whole (record { findings = count; counts = counts }) body answered refl;
       count = length body + w.count;
-      written = longer old late new body (done_text_in form counts) w.count begun w.written;
+      written = longer old late new body (done_text_in wording.form counts) w.count begun w.written;
     }
 
-    pub plans : AreTableCountsWithin limits tables → Appends late new (done_text_in form counts) → PlansChanging limits form tables coming input old new (record { findings = count; counts = counts })
+    pub plans : AreTableCountsWithin limits tables → Appends late new (done_text_in wording.form counts) → PlansChanging limits wording tables coming input old new (record { findings = count; counts = counts })
     plans few w = record {
       few = few;
       text = body;
       due = answered;
-      written = Appends-trans old late new body (done_text_in form counts) begun w;
+      written = Appends-trans old late new body (done_text_in wording.form counts) begun w;
     }
 
 -- why a run stops
@@ -182,19 +182,19 @@ counts-replied counts [] = refl
 counts-replied counts (b ∷ bs) = counts-replied (with_outcome counts b.outcome) bs
 
 -- Replies to envelopes alone are blocks.
-module _ (limits : Limits) (form : Form) (tables : Job) where
+module _ (limits : Limits) (wording : Wording) (tables : Job) where
   record OnlyBlocks (sections : List Section) (replies : List Reply) : Type 0 where
     bs : List Block
-    are_blocks : AreBlocks limits form tables sections bs
+    are_blocks : AreBlocks limits wording tables sections bs
     is : replies ≡ replied bs
 
-  only-blocks : (sections : List Section) (replies : List Reply) (coming : ℕ → Given) → AreReplies limits form tables coming (map plan sections) replies → OnlyBlocks sections replies
-  only-blocks [] [] coming h = record { bs = []; are_blocks = AreBlocks-none limits form tables; is = refl }
+  only-blocks : (sections : List Section) (replies : List Reply) (coming : ℕ → Given) → AreReplies limits wording tables coming (map plan sections) replies → OnlyBlocks sections replies
+  only-blocks [] [] coming h = record { bs = []; are_blocks = AreBlocks-none limits wording tables; is = refl }
   only-blocks (s ∷ ss) (block b ∷ replies) coming h =
       let later = only-blocks ss replies (coming_behind coming (block b)) h.1 in
       record {
         bs = b ∷ later.bs;
-        are_blocks = AreBlocks-more limits form tables ss later.bs later.are_blocks (s ∷ []) (b ∷ []) (AreBlocks-one limits form tables s b h.0);
+        are_blocks = AreBlocks-more limits wording tables ss later.bs later.are_blocks (s ∷ []) (b ∷ []) (AreBlocks-one limits wording tables s b h.0);
         is = ap (λ rs. block b ∷ rs) later.is;
       }
   only-blocks (s ∷ ss) (changed text after ∷ replies) coming h = absurd h.0
@@ -202,7 +202,7 @@ module _ (limits : Limits) (form : Form) (tables : Job) where
   only-blocks (s ∷ ss) [] coming h = absurd h
 
   module _ (coming : ℕ → Given) where
-    plain-answer : (sections : List Section) (front : List ℕ) (summary : EachSummary) → AnswersAsks limits form tables coming (map plan sections) front summary → IsEachAnswer limits form tables sections (front ++ done_text_in form summary.counts) summary
+    plain-answer : (sections : List Section) (front : List ℕ) (summary : EachSummary) → AnswersAsks limits wording tables coming (map plan sections) front summary → IsEachAnswer limits wording tables sections (front ++ done_text_in wording.form summary.counts) summary
     plain-answer sections front summary h =
         let only = only-blocks sections h.replies coming h.are_replies in
         let text : texts_of h.replies ≡ blocks.texts_of only.bs = ap texts_of only.is ∙ texts-replied only.bs in
@@ -212,7 +212,7 @@ module _ (limits : Limits) (form : Form) (tables : Job) where
           are_findings = h.are_findings;
           blocks = only.bs;
           are_blocks = only.are_blocks;
-          written = ap (λ l. l ++ done_text_in form summary.counts) (h.is ∙ ap (λ l. tables_text_in form h.findings ++ l) text) ∙ ap (λ (c : EnvelopeCounts). (tables_text_in form h.findings ++ blocks.texts_of only.bs) ++ done_text_in form c) (ap (λ (q : EachSummary). q.counts) h.summed ∙ counts);
+          written = ap (λ l. l ++ done_text_in wording.form summary.counts) (h.is ∙ ap (λ l. tables_text_in wording.form h.findings ++ l) text) ∙ ap (λ (c : EnvelopeCounts). (tables_text_in wording.form h.findings ++ blocks.texts_of only.bs) ++ done_text_in wording.form c) (ap (λ (q : EachSummary). q.counts) h.summed ∙ counts);
           summed = h.summed ∙ ap (λ (c : EnvelopeCounts). summary_with (length h.findings) c) counts;
         }
 
@@ -232,7 +232,7 @@ module _ (limits : Limits) (form : Form) (tables : Job) where
         let later = first-sections ss came rest tail in
         record { first = s ∷ later.first; rest = later.rest; parts = ap (λ l. s ∷ l) later.parts; is = ap (λ (a : Ask). a ∷ came) (sym head) ∙ ap (λ (asks : List Ask). plan s ∷ asks) later.is }
 
-    plain-due : (sections : List Section) (text : List ℕ) → IsDueChanging limits form tables coming (map plan sections) text → IsDue limits form tables sections text
+    plain-due : (sections : List Section) (text : List ℕ) → IsDueChanging limits wording tables coming (map plan sections) text → IsDue limits wording tables sections text
     plain-due sections text (nothing e) = due_nothing e
     plain-due sections text (some summary came rest e h) =
         let parts = first-sections sections came rest e in
@@ -243,7 +243,7 @@ module _ (limits : Limits) (form : Form) (tables : Job) where
           came = parts.first;
           blocks = only.bs;
           have_come = record { rest = parts.rest; parts = parts.parts; are_blocks = only.are_blocks };
-          is = h.is ∙ ap (λ l. tables_text_in form h.findings ++ l) (ap texts_of only.is ∙ texts-replied only.bs);
+          is = h.is ∙ ap (λ l. tables_text_in wording.form h.findings ++ l) (ap texts_of only.is ∙ texts-replied only.bs);
         })
     plain-due sections text (whole summary front h e) = due_whole summary (rw e (plain-answer sections front summary h))
 
@@ -280,32 +280,32 @@ module _ (max : ℕ) where
       ∙ ap (λ l. l ++ alone_of (asks_from max (behind max (kind_of max x) begun x) xs)) (alone-line x begun p.0)
       ∙ ap (λ l. asked_at (kind_of max x) begun ++ l) (alone-lines (behind max (kind_of max x) begun x) xs p.1)
 
-module _ (limits : Limits) (tables : Job) (input : List ℕ) (none : has_tables limits.bytes input ≡ false) (form : Form) (coming : ℕ → Given) where
+module _ (limits : Limits) (tables : Job) (input : List ℕ) (none : has_tables limits.bytes input ≡ false) (wording : Wording) (coming : ℕ → Given) where
   asks-are : asks_in limits.bytes input ≡ map plan (sections_in limits.bytes input)
   asks-are = sym (alone-lines limits.bytes None (job_lines input) none)
 
-  pub plain-plans : (old new : Option (List ℕ)) (summary : EachSummary) → PlansChanging limits form tables coming input old new summary → PlansBeside limits form tables input old new summary
+  pub plain-plans : (old new : Option (List ℕ)) (summary : EachSummary) → PlansChanging limits wording tables coming input old new summary → PlansBeside limits wording tables input old new summary
   plain-plans old new summary h = record {
     few = h.few;
-    text = h.text ++ done_text_in form summary.counts;
-    due = plain-answer limits form tables coming (sections_in limits.bytes input) h.text summary (rw asks-are at h.due);
+    text = h.text ++ done_text_in wording.form summary.counts;
+    due = plain-answer limits wording tables coming (sections_in limits.bytes input) h.text summary (rw asks-are at h.due);
     written = h.written;
   }
 
-  pub plain-front : (old new : Option (List ℕ)) → WritesChangingFront limits form tables coming input old new → WritesBesideFront limits form tables input old new
+  pub plain-front : (old new : Option (List ℕ)) → WritesChangingFront limits wording tables coming input old new → WritesBesideFront limits wording tables input old new
   plain-front old new h = record {
     text = h.text;
-    due = plain-due limits form tables coming (sections_in limits.bytes input) h.text (rw asks-are at h.due);
+    due = plain-due limits wording tables coming (sections_in limits.bytes input) h.text (rw asks-are at h.due);
     count = h.count;
     written = h.written;
   }
 
 -- What a run ends with, of bytes that may be known.
-module _ (limits : Limits) (tables : Job) (remaining : Option (List ℕ)) (form : Form) (coming : ℕ → Given) (old new : Option (List ℕ)) where
-  pub known-plain : (r : Result EachSummary RunFault) → IfOk r (λ summary. IfSome remaining (λ input. PlansChanging limits form tables coming input old new summary)) → IfOk r (λ summary. IfSome remaining (λ input. has_tables limits.bytes input ≡ false → PlansBeside limits form tables input old new summary))
-  known-plain (Ok summary) h = if_some_more remaining h (λ input k none. plain-plans limits tables input none form coming old new summary k)
+module _ (limits : Limits) (tables : Job) (remaining : Option (List ℕ)) (wording : Wording) (coming : ℕ → Given) (old new : Option (List ℕ)) where
+  pub known-plain : (r : Result EachSummary RunFault) → IfOk r (λ summary. IfSome remaining (λ input. PlansChanging limits wording tables coming input old new summary)) → IfOk r (λ summary. IfSome remaining (λ input. has_tables limits.bytes input ≡ false → PlansBeside limits wording tables input old new summary))
+  known-plain (Ok summary) h = if_some_more remaining h (λ input k none. plain-plans limits tables input none wording coming old new summary k)
   known-plain (Err fault) h = tt
 
-  pub known-plain_front : (r : Result EachSummary RunFault) → IfErr r (λ fault. IfSome remaining (λ input. WritesChangingFront limits form tables coming input old new)) → IfErr r (λ fault. IfSome remaining (λ input. has_tables limits.bytes input ≡ false → WritesBesideFront limits form tables input old new))
+  pub known-plain_front : (r : Result EachSummary RunFault) → IfErr r (λ fault. IfSome remaining (λ input. WritesChangingFront limits wording tables coming input old new)) → IfErr r (λ fault. IfSome remaining (λ input. has_tables limits.bytes input ≡ false → WritesBesideFront limits wording tables input old new))
   known-plain_front (Ok summary) h = tt
-  known-plain_front (Err fault) h = if_some_more remaining h (λ input k none. plain-front limits tables input none form coming old new k)
+  known-plain_front (Err fault) h = if_some_more remaining h (λ input k none. plain-front limits tables input none wording coming old new k)

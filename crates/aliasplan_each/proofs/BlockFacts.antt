@@ -1,20 +1,19 @@
 -- What becomes of an envelope, and how blocks make an answer.
-use Rattle.std.proofs.Common.{◌≡◌, ℕ, zero, suc, ◌+◌, ◌<◌, ◌≤◌, inl, inr, List, [], ◌∷◌, ◌++◌, map, take, get_or, slice_get, Option, Some, None, Result, Ok, Err, OnOk, sym, ap, ◌∙◌, subst, append_assoc, length, refl, arith}
+use Rattle.std.proofs.Common.{◌≡◌, Bool, false, true, ℕ, zero, suc, ◌+◌, ◌<◌, ◌≤◌, inl, inr, List, [], ◌∷◌, ◌++◌, map, take, get_or, slice_get, Option, Some, None, Result, Ok, Err, OnOk, sym, ap, ◌∙◌, subst, append_assoc, length, refl, arith}
+use Rattle.std.specs.Prelude.{nat_lt, if◌then◌else◌}
 use Rattle.std.specs.Option.{option_map}
 use Rattle.std.specs.List.{fold}
-use Rattle.std.specs.Result.{IfErr}
 use Rattle.std.proofs.lemmas.Bool.{lt-ltb, le-ltb, cases_lt}
 use Rattle.std.proofs.lemmas.List.{append-nil, map_more, take_all, length-take}
 use Rattle.std.proofs.lemmas.List.Concat.{flat_map-append}
 use Rattle.std.proofs.lemmas.Option.{same_Some}
-use Rattle.relay_wire.specs.declared.plan.Plan.{Plan}
 use Rattle.relay_job.specs.declared.job.Job.{Job}
 use Rattle.relay_job.specs.declared.envelope.Envelope.{Envelope}
 use Rattle.relay_job.specs.declared.fault.RunFault.{RunFault}
 use Rattle.relay_job.specs.declared.fault.RunFault.TheVariants.{Read, TooLong, BadJob, BadSetting, BadEnvelope, TooManyNames, TooManyOwners, TooManyPairs, Write, Memory}
-use Rattle.relay_job.specs.Envelopes.{envelope_of, envelope_by, envelope_commands, envelope_unless}
+use Rattle.relay_job.specs.Envelopes.{envelope_of, with_envelope, envelope_by, envelope_commands, envelope_unless}
 use Rattle.relay_job.specs.JobParts.{first_bad_command}
-use Rattle.relay_job.specs.JobAnswers.{Fails, Answers}
+use Rattle.relay_job.specs.JobAnswers.{Fails}
 use Rattle.relay_envelopes.specs.declared.refusal.Refusal.{Refusal}
 use Rattle.relay_envelopes.specs.declared.refusal.Refusal.TheVariants as refusals
 use Rattle.relay_envelopes.specs.declared.counts.EnvelopeCounts.{EnvelopeCounts}
@@ -22,10 +21,10 @@ use Rattle.relay_envelopes.specs.declared.section.EnvelopeSection.{EnvelopeSecti
 use Rattle.relay_envelopes.specs.Sections.{Section}
 use Rattle.relay_envelopes.specs.Envelopes.{section_in}
 use Rattle.relay_envelopes.specs.EachText.{with_planned, with_refused}
-use Rattle.relay_planning.specs.declared.options.Form.{Form}
+use Rattle.aliasplan_each.specs.declared.wording.Wording.{Wording}
 use Rattle.relay_planning.specs.declared.options.Limits.{Limits}
-use Rattle.aliasplan_each.specs.Forms.{planned_text_in, refused_text_in}
-use Rattle.aliasplan_each.specs.Blocks.{Block, Outcome, refusal_of, section_envelope, IsOutcome, IsOwnPlan, IsRefusedFor, IsSectionFault, IsBlock, Grows, GrowsByAll, with_outcome, texts_of}
+use Rattle.aliasplan_each.specs.Forms.{planned_text_in, refused_text_in, returned_block_in}
+use Rattle.aliasplan_each.specs.Blocks.{Block, Outcome, refusal_of, section_envelope, IsOutcome, IsPlannedWith, IsRefusedFor, IsSectionFault, IsUnplanned, IsBlock, Grows, GrowsByAll, with_outcome, texts_of}
 use Rattle.aliasplan_each.specs.Blocks.Outcome.{planned, refused}
 use Rattle.aliasplan_each.specs.Feeding.{kept}
 
@@ -34,86 +33,136 @@ pub on_ok_both : {T E P Q R : Type 0} (r : Result T E) → OnOk r P → OnOk r Q
 on_ok_both (Ok a) p q f = f p q
 on_ok_both (Err e) p q f = tt
 
--- A section that is no envelope has one fault alone.
-abbrev pub IsBadEnvelope : RunFault → Type 0
-IsBadEnvelope (BadEnvelope number) = Unit {0}
-IsBadEnvelope Read = ⊥
-IsBadEnvelope TooLong = ⊥
-IsBadEnvelope (BadJob number) = ⊥
-IsBadEnvelope (BadSetting number) = ⊥
-IsBadEnvelope TooManyNames = ⊥
-IsBadEnvelope TooManyOwners = ⊥
-IsBadEnvelope TooManyPairs = ⊥
-IsBadEnvelope Write = ⊥
-IsBadEnvelope Memory = ⊥
+-- what a job isn't planned for
+abbrev pub IsPlanFault : RunFault → Type 0
+IsPlanFault TooManyNames = Unit {0}
+IsPlanFault TooManyOwners = Unit {0}
+IsPlanFault TooManyPairs = Unit {0}
+IsPlanFault Memory = Unit {0}
+IsPlanFault (BadEnvelope number) = ⊥
+IsPlanFault TooLong = ⊥
+IsPlanFault Read = ⊥
+IsPlanFault (BadJob number) = ⊥
+IsPlanFault (BadSetting number) = ⊥
+IsPlanFault Write = ⊥
 
-bad-alone : (o : Option ℕ) (envelope : Envelope) (fault : RunFault) → envelope_unless (option_map BadEnvelope o) envelope ≡ Err fault → IsBadEnvelope fault
-bad-alone (Some n) envelope fault h = let e : BadEnvelope n ≡ fault = cc in subst IsBadEnvelope e tt
+-- A section that is too long, or no envelope, has no other fault.
+abbrev pub IsUnread : RunFault → Type 0
+IsUnread (BadEnvelope number) = Unit {0}
+IsUnread TooLong = Unit {0}
+IsUnread Read = ⊥
+IsUnread (BadJob number) = ⊥
+IsUnread (BadSetting number) = ⊥
+IsUnread TooManyNames = ⊥
+IsUnread TooManyOwners = ⊥
+IsUnread TooManyPairs = ⊥
+IsUnread Write = ⊥
+IsUnread Memory = ⊥
+
+bad-alone : (o : Option ℕ) (envelope : Envelope) (fault : RunFault) → envelope_unless (option_map BadEnvelope o) envelope ≡ Err fault → IsUnread fault
+bad-alone (Some n) envelope fault h = let e : BadEnvelope n ≡ fault = cc in subst IsUnread e tt
 bad-alone None envelope fault h = absurd (let no : ⊥ = cc in no)
 
-fault_of_envelope : (origin text : List ℕ) (fault : RunFault) → envelope_of origin text ≡ Err fault → IsBadEnvelope fault
+fault_of_envelope : (origin text : List ℕ) (fault : RunFault) → envelope_of origin text ≡ Err fault → IsUnread fault
 unfolding envelope_of
 fault_of_envelope origin text fault h = bad-alone (first_bad_command origin 0 (envelope_commands text)) (envelope_by origin (envelope_commands text)) fault h
 
+fault_unless : (long : Bool) (origin text : List ℕ) (fault : RunFault) → (if long then Err TooLong else envelope_of origin text) ≡ Err fault → IsUnread fault
+fault_unless true origin text fault h = let e : TooLong ≡ fault = cc in subst IsUnread e tt
+fault_unless false origin text fault h = fault_of_envelope origin text fault h
+
 module _ (limits : Limits) (tables : Job) (section : Section) where
-  -- a section that is too long, or is no envelope
-  pub long_section : limits.bytes < length section.bytes → IsSectionFault limits tables section TooLong
+  -- a section that is too long, and one that isn't
+  pub long_section : limits.bytes < length section.bytes → section_envelope limits tables section ≡ Err TooLong
   long_section h = rw (lt-ltb _ _ h) refl
 
   pub short_section : length section.bytes ≤ limits.bytes → section_envelope limits tables section ≡ envelope_of tables.settings.origin section.bytes
   short_section h = rw (le-ltb _ _ h) refl
 
-  fault_of_envelope_in : (fault : RunFault) → section_envelope limits tables section ≡ envelope_of tables.settings.origin section.bytes → Fails fault (envelope_of tables.settings.origin section.bytes) → IsSectionFault limits tables section fault
-  fault_of_envelope_in (BadEnvelope number) e h = e ∙ h
-  fault_of_envelope_in Memory e h = tt
-  fault_of_envelope_in Read e h = absurd (fault_of_envelope tables.settings.origin section.bytes Read h)
-  fault_of_envelope_in TooLong e h = absurd (fault_of_envelope tables.settings.origin section.bytes TooLong h)
-  fault_of_envelope_in (BadJob number) e h = absurd (fault_of_envelope tables.settings.origin section.bytes (BadJob number) h)
-  fault_of_envelope_in (BadSetting number) e h = absurd (fault_of_envelope tables.settings.origin section.bytes (BadSetting number) h)
-  fault_of_envelope_in TooManyNames e h = absurd (fault_of_envelope tables.settings.origin section.bytes TooManyNames h)
-  fault_of_envelope_in TooManyOwners e h = absurd (fault_of_envelope tables.settings.origin section.bytes TooManyOwners h)
-  fault_of_envelope_in TooManyPairs e h = absurd (fault_of_envelope tables.settings.origin section.bytes TooManyPairs h)
-  fault_of_envelope_in Write e h = absurd (fault_of_envelope tables.settings.origin section.bytes Write h)
+  unread : (fault : RunFault) → section_envelope limits tables section ≡ Err fault → IsUnread fault
+  unread fault h = fault_unless (nat_lt limits.bytes (length section.bytes)) tables.settings.origin section.bytes fault h
 
-  pub fault_of_section : (fault : RunFault) → length section.bytes ≤ limits.bytes → Fails fault (envelope_of tables.settings.origin section.bytes) → IsSectionFault limits tables section fault
-  fault_of_section fault h f = fault_of_envelope_in fault (short_section h) f
+module _ (limits : Limits) (returns : Bool) (tables : Job) (section : Section) where
+  pub fault_of_section : (fault : RunFault) → Fails fault (section_envelope limits tables section) → IsSectionFault limits returns tables section fault
+  fault_of_section (BadEnvelope number) h = h
+  fault_of_section TooLong h = h
+  fault_of_section Memory h = tt
+  fault_of_section Read h = absurd (unread limits tables section Read h)
+  fault_of_section (BadJob number) h = absurd (unread limits tables section (BadJob number) h)
+  fault_of_section (BadSetting number) h = absurd (unread limits tables section (BadSetting number) h)
+  fault_of_section TooManyNames h = absurd (unread limits tables section TooManyNames h)
+  fault_of_section TooManyOwners h = absurd (unread limits tables section TooManyOwners h)
+  fault_of_section TooManyPairs h = absurd (unread limits tables section TooManyPairs h)
+  fault_of_section Write h = absurd (unread limits tables section Write h)
 
-  pub answers_fault : (r : Result Envelope RunFault) → length section.bytes ≤ limits.bytes → Answers r (envelope_of tables.settings.origin section.bytes) → IfErr r (IsSectionFault limits tables section)
-  answers_fault (Ok envelope) h a = tt
-  answers_fault (Err fault) h a = fault_of_section fault h a
-
-  refused_for : (fault : RunFault) (refusal : Refusal) → IsSectionFault limits tables section fault → refusal_of fault ≡ Some refusal → IsRefusedFor limits tables section refusal
-  refused_for (BadEnvelope number) refusal h e = let same : refusals.BadEnvelope number ≡ refusal = cc in subst (IsRefusedFor limits tables section) same h
-  refused_for TooManyNames refusal h e = let same : refusals.TooManyNames ≡ refusal = cc in subst (IsRefusedFor limits tables section) same h
-  refused_for TooManyOwners refusal h e = let same : refusals.TooManyOwners ≡ refusal = cc in subst (IsRefusedFor limits tables section) same h
-  refused_for TooManyPairs refusal h e = let same : refusals.TooManyPairs ≡ refusal = cc in subst (IsRefusedFor limits tables section) same h
-  refused_for TooLong refusal h e = let same : refusals.TooLong ≡ refusal = cc in subst (IsRefusedFor limits tables section) same h
+  refused_for : (fault : RunFault) (refusal : Refusal) → IsSectionFault limits returns tables section fault → refusal_of fault ≡ Some refusal → IsRefusedFor limits returns tables section refusal
+  refused_for (BadEnvelope number) refusal h e = let same : refusals.BadEnvelope number ≡ refusal = cc in subst (IsRefusedFor limits returns tables section) same h
+  refused_for TooManyNames refusal h e = let same : refusals.TooManyNames ≡ refusal = cc in subst (IsRefusedFor limits returns tables section) same h
+  refused_for TooManyOwners refusal h e = let same : refusals.TooManyOwners ≡ refusal = cc in subst (IsRefusedFor limits returns tables section) same h
+  refused_for TooManyPairs refusal h e = let same : refusals.TooManyPairs ≡ refusal = cc in subst (IsRefusedFor limits returns tables section) same h
+  refused_for TooLong refusal h e = let same : refusals.TooLong ≡ refusal = cc in subst (IsRefusedFor limits returns tables section) same h
   refused_for Memory refusal h e = absurd (let no : ⊥ = cc in no)
   refused_for Read refusal h e = absurd h
   refused_for (BadJob number) refusal h e = absurd h
   refused_for (BadSetting number) refusal h e = absurd h
   refused_for Write refusal h e = absurd h
 
-  module _ (form : Form) (old new : List ℕ) (before after : EnvelopeCounts) where
-    -- the block of a plan, and that of a refusal
-    pub grows_by_plan : (plan : Plan) → IsOwnPlan limits tables section plan → new ≡ old ++ planned_text_in form section.id plan → after ≡ with_planned before (length plan.findings) → Grows limits form tables section old new before after
-    grows_by_plan plan own more counted = record {
-      block = record { text = planned_text_in form section.id plan; outcome = planned (length plan.findings) };
-      is = record { envelope = own.envelope; read = own.read; within = own.within; plan = plan; planned = own.planned; sound = own.sound; fewest = own.fewest; written = refl; counted = refl };
-      written = more;
-      counted = counted;
-    }
+  -- an envelope whose job isn't planned, or its returns aren't told
+  module _ (envelope : Envelope) (read : section_envelope limits tables section ≡ Ok envelope) where
+    no_other : (with : Bool) (fault : RunFault) → IsUnplanned with limits (with_envelope tables envelope) fault → IsPlanFault fault
+    no_other false (BadEnvelope number) h = h
+    no_other false Memory h = tt
+    no_other false Read h = h
+    no_other false TooLong h = h
+    no_other false (BadJob number) h = h
+    no_other false (BadSetting number) h = h
+    no_other false TooManyNames h = tt
+    no_other false TooManyOwners h = tt
+    no_other false TooManyPairs h = tt
+    no_other false Write h = h
+    no_other true (BadEnvelope number) h = h
+    no_other true Memory h = tt
+    no_other true Read h = h
+    no_other true TooLong h = h
+    no_other true (BadJob number) h = h
+    no_other true (BadSetting number) h = h
+    no_other true TooManyNames h = tt
+    no_other true TooManyOwners h = tt
+    no_other true TooManyPairs h = tt
+    no_other true Write h = h
 
-    pub grows_by_refusal : (fault : RunFault) (refusal : Refusal) → IsSectionFault limits tables section fault → refusal_of fault ≡ Some refusal → new ≡ old ++ refused_text_in form section.id refusal → after ≡ with_refused before → Grows limits form tables section old new before after
-    grows_by_refusal fault refusal h e more counted = record {
-      block = record { text = refused_text_in form section.id refusal; outcome = refused refusal };
-      is = record { refused = refused_for fault refusal h e; written = refl };
-      written = more;
-      counted = counted;
-    }
+    pub fault_of_job : (fault : RunFault) → IsUnplanned returns limits (with_envelope tables envelope) fault → IsSectionFault limits returns tables section fault
+    fault_of_job (BadEnvelope number) h = absurd (no_other returns (BadEnvelope number) h)
+    fault_of_job Memory h = tt
+    fault_of_job Read h = no_other returns Read h
+    fault_of_job TooLong h = absurd (no_other returns TooLong h)
+    fault_of_job (BadJob number) h = no_other returns (BadJob number) h
+    fault_of_job (BadSetting number) h = no_other returns (BadSetting number) h
+    fault_of_job TooManyNames h = record { envelope = envelope; read = read; refused = h }
+    fault_of_job TooManyOwners h = record { envelope = envelope; read = read; refused = h }
+    fault_of_job TooManyPairs h = record { envelope = envelope; read = read; refused = h }
+    fault_of_job Write h = no_other returns Write h
+
+module _ (limits : Limits) (wording : Wording) (tables : Job) (section : Section) (old new : List ℕ) (before after : EnvelopeCounts) where
+  -- the block of a plan, and that of a refusal
+  pub grows_by_plan : (text : List ℕ) (findings : ℕ) → IsPlannedWith limits wording.form tables wording.returns section text findings → new ≡ old ++ text → after ≡ with_planned before findings → Grows limits wording tables section old new before after
+  grows_by_plan text findings is more counted = record {
+    block = record { text = text; outcome = planned findings };
+    is = is;
+    written = more;
+    counted = counted;
+  }
+
+  pub grows_by_refusal : (fault : RunFault) (refusal : Refusal) → IsSectionFault limits wording.returns tables section fault → refusal_of fault ≡ Some refusal → new ≡ old ++ refused_text_in wording.form section.id refusal → after ≡ with_refused before → Grows limits wording tables section old new before after
+  grows_by_refusal fault refusal h e more counted = record {
+    block = record { text = refused_text_in wording.form section.id refusal; outcome = refused refusal };
+    is = record { refused = refused_for limits wording.returns tables section fault refusal h e; written = refl };
+    written = more;
+    counted = counted;
+  }
 
 -- Sections of which the same is kept have the same blocks.
-module _ (limits : Limits) (form : Form) (tables : Job) (s t : Section) (same : kept limits.bytes s ≡ kept limits.bytes t) where
+module _ (limits : Limits) (wording : Wording) (tables : Job) (s t : Section) (same : kept limits.bytes s ≡ kept limits.bytes t) where
   cut-envelope : (s : Section) → section_envelope limits tables (kept limits.bytes s) ≡ section_envelope limits tables s
   cut-envelope s = elim (cases_lt limits.bytes (length s.bytes)) [
     | inl long ↦ (
@@ -132,15 +181,15 @@ module _ (limits : Limits) (form : Form) (tables : Job) (s t : Section) (same : 
   ids : s.id ≡ t.id
   ids = ap (λ (q : Section). q.id) same
 
-  refused-kept : (refusal : Refusal) → IsRefusedFor limits tables s refusal → IsRefusedFor limits tables t refusal
+  refused-kept : (refusal : Refusal) → IsRefusedFor limits wording.returns tables s refusal → IsRefusedFor limits wording.returns tables t refusal
   refused-kept (refusals.BadEnvelope number) h = alike ∙ h
   refused-kept refusals.TooLong h = alike ∙ h
   refused-kept refusals.TooManyNames h = record { envelope = h.envelope; read = alike ∙ h.read; refused = h.refused }
   refused-kept refusals.TooManyOwners h = record { envelope = h.envelope; read = alike ∙ h.read; refused = h.refused }
   refused-kept refusals.TooManyPairs h = record { envelope = h.envelope; read = alike ∙ h.read; refused = h.refused }
 
-  outcome-kept : (text : List ℕ) (outcome : Outcome) → IsOutcome limits form tables s text outcome → IsOutcome limits form tables t text outcome
-  outcome-kept text (planned findings) h = record {
+  planned-kept : (returns : Bool) (text : List ℕ) (findings : ℕ) → IsPlannedWith limits wording.form tables returns s text findings → IsPlannedWith limits wording.form tables returns t text findings
+  planned-kept false text findings h = record {
     envelope = h.envelope;
     read = alike ∙ h.read;
     within = h.within;
@@ -148,12 +197,28 @@ module _ (limits : Limits) (form : Form) (tables : Job) (s t : Section) (same : 
     planned = h.planned;
     sound = h.sound;
     fewest = h.fewest;
-    written = h.written ∙ ap (λ id. planned_text_in form id h.plan) ids;
+    written = h.written ∙ ap (λ id. planned_text_in wording.form id h.plan) ids;
     counted = h.counted;
   }
-  outcome-kept text (refused refusal) h = record { refused = refused-kept refusal h.refused; written = h.written ∙ ap (λ id. refused_text_in form id refusal) ids }
+  planned-kept true text findings h = record {
+    envelope = h.envelope;
+    read = alike ∙ h.read;
+    within = h.within;
+    plan = h.plan;
+    planned = h.planned;
+    returns = h.returns;
+    returned = h.returned;
+    sound = h.sound;
+    fewest = h.fewest;
+    written = h.written ∙ ap (λ id. returned_block_in wording.form id h.plan h.returns) ids;
+    counted = h.counted;
+  }
 
-  pub IsBlock-kept : (b : Block) → IsBlock limits form tables s b → IsBlock limits form tables t b
+  outcome-kept : (text : List ℕ) (outcome : Outcome) → IsOutcome limits wording tables s text outcome → IsOutcome limits wording tables t text outcome
+  outcome-kept text (planned findings) h = planned-kept wording.returns text findings h
+  outcome-kept text (refused refusal) h = record { refused = refused-kept refusal h.refused; written = h.written ∙ ap (λ id. refused_text_in wording.form id refusal) ids }
+
+  pub IsBlock-kept : (b : Block) → IsBlock limits wording tables s b → IsBlock limits wording tables t b
   IsBlock-kept b h = outcome-kept b.text b.outcome h
 
 abbrev pub with_block : EnvelopeCounts → Block → EnvelopeCounts
@@ -163,15 +228,15 @@ fold-append : (before : EnvelopeCounts) (blocks : List Block) (block : Block) �
 fold-append before [] block = refl
 fold-append before (b ∷ bs) block = fold-append (with_block before b) bs block
 
-module _ (limits : Limits) (form : Form) (tables : Job) where
+module _ (limits : Limits) (wording : Wording) (tables : Job) where
   -- `AreBlocks`, by recursion
   abbrev pub Answer : List Section → List Block → Type 0
   Answer [] [] = Unit {0}
   Answer [] (block ∷ blocks) = ⊥
   Answer (section ∷ sections) [] = ⊥
-  Answer (section ∷ sections) (block ∷ blocks) = IsBlock limits form tables section block × Answer sections blocks
+  Answer (section ∷ sections) (block ∷ blocks) = IsBlock limits wording tables section block × Answer sections blocks
 
-  answer_more : (sections : List Section) (blocks : List Block) (section : Section) (block : Block) → Answer sections blocks → IsBlock limits form tables section block → Answer (sections ++ section ∷ []) (blocks ++ block ∷ [])
+  answer_more : (sections : List Section) (blocks : List Block) (section : Section) (block : Block) → Answer sections blocks → IsBlock limits wording tables section block → Answer (sections ++ section ∷ []) (blocks ++ block ∷ [])
   answer_more [] [] section block h is = (is, tt)
   answer_more [] (b ∷ bs) section block h is = absurd h
   answer_more (s ∷ ss) [] section block h is = absurd h
@@ -183,14 +248,14 @@ module _ (limits : Limits) (form : Form) (tables : Job) where
   as_many (s ∷ ss) [] h = absurd h
   as_many (s ∷ ss) (b ∷ bs) h = ap suc (as_many ss bs h.1)
 
-  block_at : (sections : List Section) (blocks : List Block) → Answer sections blocks → (k : ℕ) (section : Section) (block : Block) → slice_get sections k ≡ Some section → slice_get blocks k ≡ Some block → IsBlock limits form tables section block
+  block_at : (sections : List Section) (blocks : List Block) → Answer sections blocks → (k : ℕ) (section : Section) (block : Block) → slice_get sections k ≡ Some section → slice_get blocks k ≡ Some block → IsBlock limits wording tables section block
   block_at [] [] h k section block e f = absurd (let no : ⊥ = cc in no)
   block_at [] (b ∷ bs) h k section block e f = absurd h
   block_at (s ∷ ss) [] h k section block e f = absurd h
   block_at (s ∷ ss) (b ∷ bs) h zero section block e f =
       let one : s ≡ section = same_Some s section e in
       let other : b ≡ block = same_Some b block f in
-      subst (λ (x : Section). IsBlock limits form tables x block) one (subst (λ (x : Block). IsBlock limits form tables s x) other h.0)
+      subst (λ (x : Section). IsBlock limits wording tables x block) one (subst (λ (x : Block). IsBlock limits wording tables s x) other h.0)
   block_at (s ∷ ss) (b ∷ bs) h (suc k) section block e f = block_at ss bs h.1 k section block e f
 
   -- what has been added for the sections so far
@@ -203,7 +268,7 @@ module _ (limits : Limits) (form : Form) (tables : Job) where
   pub none_grown : (old : List ℕ) (before : EnvelopeCounts) → Grown [] old old before before
   none_grown old before = record { blocks = []; answer = tt; written = sym (append-nil old); counted = refl }
 
-  grown_more : (sections : List Section) (section : Section) (old between new : List ℕ) (before middle after : EnvelopeCounts) → Grown sections old between before middle → Grows limits form tables section between new middle after → Grown (sections ++ section ∷ []) old new before after
+  grown_more : (sections : List Section) (section : Section) (old between new : List ℕ) (before middle after : EnvelopeCounts) → Grown sections old between before middle → Grows limits wording tables section between new middle after → Grown (sections ++ section ∷ []) old new before after
   grown_more sections section old between new before middle after h g = record {
     blocks = h.blocks ++ g.block ∷ [];
     answer = answer_more sections h.blocks section g.block h.answer g.is;
@@ -213,12 +278,12 @@ module _ (limits : Limits) (form : Form) (tables : Job) where
     counted = g.counted ∙ ap (λ counts. with_outcome counts g.block.outcome) h.counted ∙ sym (fold-append before h.blocks g.block);
   }
 
-  pub grown_next : (all : List EnvelopeSection) (k : ℕ) (section : EnvelopeSection) → k < length all → (old between new : List ℕ) (before middle after : EnvelopeCounts) → Grown (map section_in (take k all)) old between before middle → Grows limits form tables (section_in (get_or all k section)) between new middle after → Grown (map section_in (take (k + 1) all)) old new before after
+  pub grown_next : (all : List EnvelopeSection) (k : ℕ) (section : EnvelopeSection) → k < length all → (old between new : List ℕ) (before middle after : EnvelopeCounts) → Grown (map section_in (take k all)) old between before middle → Grows limits wording tables (section_in (get_or all k section)) between new middle after → Grown (map section_in (take (k + 1) all)) old new before after
   grown_next all k section short old between new before middle after h g =
       subst (λ (sections : List Section). Grown sections old new before after) (sym (map_more section_in all k section short))
       (grown_more (map section_in (take k all)) (section_in (get_or all k section)) old between new before middle after h g)
 
-  pub all_grown : (sections : List Section) (old new : List ℕ) (before after : EnvelopeCounts) → Grown sections old new before after → GrowsByAll limits form tables sections old new before after
+  pub all_grown : (sections : List Section) (old new : List ℕ) (before after : EnvelopeCounts) → Grown sections old new before after → GrowsByAll limits wording tables sections old new before after
   all_grown sections old new before after h = record {
     blocks = h.blocks;
     are_blocks = record { len = as_many sections h.blocks h.answer; each = block_at sections h.blocks h.answer };

@@ -9,7 +9,7 @@ use Rattle.relay_job.specs.JobText.{job_unless, sections_of}
 use Rattle.relay_job.specs.Tables.{without_envelope}
 use Rattle.relay_envelopes.specs.declared.counts.EnvelopeCounts.{EnvelopeCounts}
 use Rattle.relay_envelopes.specs.Sections.{Section, front_of, each_fault, each_tables_of}
-use Rattle.relay_planning.specs.declared.options.Form.{Form}
+use Rattle.aliasplan_each.specs.declared.wording.Wording.{Wording}
 use Rattle.relay_planning.specs.declared.options.Limits.{Limits}
 use Rattle.aliasplan.specs.Outcomes.{AreTableCountsWithin, HasRefusedTables}
 use Rattle.aliasplan_each.specs.declared.summary.EachSummary.{EachSummary}
@@ -29,12 +29,12 @@ unfolding each_tables_of
 tables_alone text tables h = alone-by (each_fault text) (sections_of (front_of text)) tables h
 
 -- The lines of files and tables, the blocks, and the last line are the answer.
-pub answer_is : (limits : Limits) (form : Form) (tables : Job) (sections : List Section) (none begun grown text : List ℕ) (count : ℕ) (before after : EnvelopeCounts)
-    → none ≡ [] → before ≡ no_counts → BeginsEach form tables none begun count → GrowsByAll limits form tables sections begun grown before after → text ≡ grown ++ done_text_in form after
-    → IsEachAnswer limits form tables sections text (record { findings = count; counts = after })
-answer_is limits form tables sections none begun grown text count before after empty uncounted b g ended =
+pub answer_is : (limits : Limits) (wording : Wording) (tables : Job) (sections : List Section) (none begun grown text : List ℕ) (count : ℕ) (before after : EnvelopeCounts)
+    → none ≡ [] → before ≡ no_counts → BeginsEach wording.form tables none begun count → GrowsByAll limits wording tables sections begun grown before after → text ≡ grown ++ done_text_in wording.form after
+    → IsEachAnswer limits wording tables sections text (record { findings = count; counts = after })
+answer_is limits wording tables sections none begun grown text count before after empty uncounted b g ended =
     let counted : after ≡ counts_of g.blocks = g.counted ∙ ap (λ (c : EnvelopeCounts). fold with_block c g.blocks) uncounted in
-    let lines : begun ≡ tables_text_in form b.findings = b.written ∙ ap (λ (t : List ℕ). t ++ tables_text_in form b.findings) empty in
+    let lines : begun ≡ tables_text_in wording.form b.findings = b.written ∙ ap (λ (t : List ℕ). t ++ tables_text_in wording.form b.findings) empty in
     let summary : ℕ → EnvelopeCounts → EachSummary = λ n c. record { findings = n; counts = c } in
     record {
       findings = b.findings;
@@ -43,8 +43,8 @@ answer_is limits form tables sections none begun grown text count before after e
       are_blocks = g.are_blocks;
       written =
           ended
-          ∙ ap (λ (t : List ℕ). t ++ done_text_in form after) (g.written ∙ ap (λ (t : List ℕ). t ++ texts_of g.blocks) lines)
-          ∙ ap (λ (c : EnvelopeCounts). (tables_text_in form b.findings ++ texts_of g.blocks) ++ done_text_in form c) counted;
+          ∙ ap (λ (t : List ℕ). t ++ done_text_in wording.form after) (g.written ∙ ap (λ (t : List ℕ). t ++ texts_of g.blocks) lines)
+          ∙ ap (λ (c : EnvelopeCounts). (tables_text_in wording.form b.findings ++ texts_of g.blocks) ++ done_text_in wording.form c) counted;
       summed = ap (λ (n : ℕ). summary n after) b.counted ∙ ap (summary (length b.findings)) counted;
     }
 
@@ -76,12 +76,12 @@ module _ (limits : Limits) (text : List ℕ) (size : length text ≤ limits.byte
   refuses_tables tables is Write h = absurd h
 
   -- the answer of a planner of the text's tables
-  pub text_is : (form : Form) (tables planner : Job) (sections : List Section) (answer : List ℕ) (summary : EachSummary)
-      → AreEachParts text tables sections → planner ≡ without_envelope tables → AreTableCountsWithin limits tables → IsEachAnswer limits form planner sections answer summary → IsEachText limits form text answer summary
-  text_is form tables planner sections answer summary parts is few answered = record {
+  pub text_is : (wording : Wording) (tables planner : Job) (sections : List Section) (answer : List ℕ) (summary : EachSummary)
+      → AreEachParts text tables sections → planner ≡ without_envelope tables → AreTableCountsWithin limits tables → IsEachAnswer limits wording planner sections answer summary → IsEachText limits wording text answer summary
+  text_is wording tables planner sections answer summary parts is few answered = record {
     size = size;
     tables = tables;
     read = parts.read;
     few = few;
-    answered = subst (λ (found : List Section). IsEachAnswer limits form tables found answer summary) parts.sections_are (subst (λ (job : Job). IsEachAnswer limits form job sections answer summary) (is ∙ tables_alone text tables parts.read) answered);
+    answered = subst (λ (found : List Section). IsEachAnswer limits wording tables found answer summary) parts.sections_are (subst (λ (job : Job). IsEachAnswer limits wording job sections answer summary) (is ∙ tables_alone text tables parts.read) answered);
   }

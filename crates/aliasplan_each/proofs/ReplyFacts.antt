@@ -12,7 +12,7 @@ use Rattle.std.proofs.lemmas.List.Sums.{fold-append}
 use Rattle.relay_job.specs.declared.job.Job.{Job}
 use Rattle.relay_envelopes.specs.declared.counts.EnvelopeCounts.{EnvelopeCounts}
 use Rattle.relay_envelopes.specs.Sections.{Section}
-use Rattle.relay_planning.specs.declared.options.Form.{Form}
+use Rattle.aliasplan_each.specs.declared.wording.Wording.{Wording}
 use Rattle.relay_planning.specs.declared.options.Limits.{Limits}
 use Rattle.aliasplan_each.specs.Asks.{Ask, planned, asks_in}
 use Rattle.aliasplan_each.specs.Asks.Ask.{plan, change}
@@ -34,23 +34,23 @@ tables_after tables replies = fold tables_behind tables replies
 abbrev pub coming_after : (ℕ → Given) → List Reply → ℕ → Given
 coming_after coming replies = fold coming_behind coming replies
 
-module _ (limits : Limits) (form : Form) where
-  AreReplies-more : (asks more : List Ask) (replies added : List Reply) (tables : Job) (coming : ℕ → Given) → AreReplies limits form tables coming asks replies → AreReplies limits form (tables_after tables replies) (coming_after coming replies) more added → AreReplies limits form tables coming (asks ++ more) (replies ++ added)
+module _ (limits : Limits) (wording : Wording) where
+  AreReplies-more : (asks more : List Ask) (replies added : List Reply) (tables : Job) (coming : ℕ → Given) → AreReplies limits wording tables coming asks replies → AreReplies limits wording (tables_after tables replies) (coming_after coming replies) more added → AreReplies limits wording tables coming (asks ++ more) (replies ++ added)
   AreReplies-more [] more [] added tables coming h k = k
   AreReplies-more (ask ∷ asks) more (reply ∷ replies) added tables coming h k = (h.0, AreReplies-more asks more replies added (tables_behind tables reply) (coming_behind coming reply) h.1 k)
   AreReplies-more [] more (reply ∷ replies) added tables coming h k = absurd h
   AreReplies-more (ask ∷ asks) more [] added tables coming h k = absurd h
 
   -- What isn't kept of a section changes no reply.
-  IsReply-alike : (ask other : Ask) (tables : Job) (given : Given) (reply : Reply) → kept_ask limits.bytes ask ≡ kept_ask limits.bytes other → IsReply limits form tables given ask reply → IsReply limits form tables given other reply
-  IsReply-alike (plan s) (plan t) tables given (block b) e h = let same : kept limits.bytes s ≡ kept limits.bytes t = cc in IsBlock-kept limits form tables s t same b h
+  IsReply-alike : (ask other : Ask) (tables : Job) (given : Given) (reply : Reply) → kept_ask limits.bytes ask ≡ kept_ask limits.bytes other → IsReply limits wording tables given ask reply → IsReply limits wording tables given other reply
+  IsReply-alike (plan s) (plan t) tables given (block b) e h = let same : kept limits.bytes s ≡ kept limits.bytes t = cc in IsBlock-kept limits wording tables s t same b h
   IsReply-alike change change tables given (changed text after) e h = h
   IsReply-alike (plan s) change tables given reply e h = absurd (let no : ⊥ = cc in no)
   IsReply-alike change (plan t) tables given reply e h = absurd (let no : ⊥ = cc in no)
   IsReply-alike (plan s) (plan t) tables given (changed text after) e h = absurd h
   IsReply-alike change change tables given (block b) e h = absurd h
 
-  AreReplies-alike : (asks others : List Ask) (replies : List Reply) (tables : Job) (coming : ℕ → Given) → AreAlike limits.bytes asks others → AreReplies limits form tables coming asks replies → AreReplies limits form tables coming others replies
+  AreReplies-alike : (asks others : List Ask) (replies : List Reply) (tables : Job) (coming : ℕ → Given) → AreAlike limits.bytes asks others → AreReplies limits wording tables coming asks replies → AreReplies limits wording tables coming others replies
   AreReplies-alike [] [] replies tables coming e h = h
   AreReplies-alike (a ∷ more) (b ∷ bs) (reply ∷ replies) tables coming e h =
       let head : kept_ask limits.bytes a ≡ kept_ask limits.bytes b = cc in
@@ -67,14 +67,14 @@ first-alike max asks came left e =
     ∙ ap (take (length came)) (sym (map-append (kept_ask max) came left) ∙ sym e)
     ∙ take-map (kept_ask max) (length came) asks
 
-module _ (limits : Limits) (form : Form) (tables : Job) (coming : ℕ → Given) where
+module _ (limits : Limits) (wording : Wording) (tables : Job) (coming : ℕ → Given) where
   -- The answers to what has come are written, and this is left.
   pub record HasReplied (input : List ℕ) (left : List Ask) (rest : ℕ) (old now : Option (List ℕ)) (counts : EnvelopeCounts) (planner : Job) (given : ℕ → Given) : Type 0 where
     pub came : List Ask
     pub asks : AreAlike limits.bytes (asks_in limits.bytes input) (came ++ left)
     pub fewer : rest ≤ length input
     pub replies : List Reply
-    pub are_replies : AreReplies limits form tables coming came replies
+    pub are_replies : AreReplies limits wording tables coming came replies
     pub written : Appends old now (texts_of replies)
     pub counted : counts ≡ counts_of replies
     pub planner_is : planner ≡ tables_after tables replies
@@ -100,28 +100,28 @@ module _ (limits : Limits) (form : Form) (tables : Job) (coming : ℕ → Given)
     given_is = λ k. refl;
   })
 
-  pub FrontsReplies-none : (asks : List Ask) (old : Option (List ℕ)) → FrontsReplies limits form tables coming asks old old
+  pub FrontsReplies-none : (asks : List Ask) (old : Option (List ℕ)) → FrontsReplies limits wording tables coming asks old old
   FrontsReplies-none asks old = record { came = []; rest = asks; parts = refl; replies = []; are_replies = tt; count = 0; written = Appends-nil old }
 
   module _ (input : List ℕ) (left : List Ask) (rest : ℕ) (old now : Option (List ℕ)) (counts : EnvelopeCounts) (planner : Job) (given : ℕ → Given)
       (h : HasReplied input left rest old now counts planner given) where
-    front-replied : FrontsReplies limits form tables coming (asks_in limits.bytes input) old now
+    front-replied : FrontsReplies limits wording tables coming (asks_in limits.bytes input) old now
     front-replied = record {
       came = take (length h.came) (asks_in limits.bytes input);
       rest = drop (length h.came) (asks_in limits.bytes input);
       parts = sym (take-append-drop (length h.came) (asks_in limits.bytes input));
       replies = h.replies;
-      are_replies = AreReplies-alike limits form h.came _ h.replies tables coming (first-alike limits.bytes (asks_in limits.bytes input) h.came left h.asks) h.are_replies;
+      are_replies = AreReplies-alike limits wording h.came _ h.replies tables coming (first-alike limits.bytes (asks_in limits.bytes input) h.came left h.asks) h.are_replies;
       count = length (texts_of h.replies);
       written = rw (take-length (texts_of h.replies)) h.written;
     }
 
     -- this is asked next, and this is the reply
-    module _ (ask : Ask) (reply : Reply) (after : List Ask) (less : ℕ) (new : Option (List ℕ)) (leads : Leads limits.bytes left (ask ∷ []) after rest less) (is : IsReply limits form planner (given 0) ask reply) where
-      replies-more : AreReplies limits form tables coming (h.came ++ ask ∷ []) (h.replies ++ reply ∷ [])
+    module _ (ask : Ask) (reply : Reply) (after : List Ask) (less : ℕ) (new : Option (List ℕ)) (leads : Leads limits.bytes left (ask ∷ []) after rest less) (is : IsReply limits wording planner (given 0) ask reply) where
+      replies-more : AreReplies limits wording tables coming (h.came ++ ask ∷ []) (h.replies ++ reply ∷ [])
       replies-more =
-          AreReplies-more limits form h.came (ask ∷ []) h.replies (reply ∷ []) tables coming h.are_replies
-          (subst (λ (t : Job). IsReply limits form t (coming_after coming h.replies 0) ask reply) h.planner_is (subst (λ (g : Given). IsReply limits form planner g ask reply) (h.given_is 0) is), tt)
+          AreReplies-more limits wording h.came (ask ∷ []) h.replies (reply ∷ []) tables coming h.are_replies
+          (subst (λ (t : Job). IsReply limits wording t (coming_after coming h.replies 0) ask reply) h.planner_is (subst (λ (g : Given). IsReply limits wording planner g ask reply) (h.given_is 0) is), tt)
 
       asks-more : AreAlike limits.bytes (asks_in limits.bytes input) ((h.came ++ ask ∷ []) ++ after)
       asks-more =
@@ -144,13 +144,13 @@ module _ (limits : Limits) (form : Form) (tables : Job) (coming : ℕ → Given)
         given_is = λ k. later k ∙ same k ∙ sym (ap (λ (f : ℕ → Given). f k) (fold-append coming_behind coming h.replies (reply ∷ [])));
       }
 
-      stopped : (count : ℕ) → Appends now new (take count (text_of reply)) → FrontsReplies limits form tables coming (asks_in limits.bytes input) old new
+      stopped : (count : ℕ) → Appends now new (take count (text_of reply)) → FrontsReplies limits wording tables coming (asks_in limits.bytes input) old new
       stopped count w = record {
         came = take (length (h.came ++ ask ∷ [])) (asks_in limits.bytes input);
         rest = drop (length (h.came ++ ask ∷ [])) (asks_in limits.bytes input);
         parts = sym (take-append-drop (length (h.came ++ ask ∷ [])) (asks_in limits.bytes input));
         replies = h.replies ++ reply ∷ [];
-        are_replies = AreReplies-alike limits form (h.came ++ ask ∷ []) _ (h.replies ++ reply ∷ []) tables coming (first-alike limits.bytes (asks_in limits.bytes input) (h.came ++ ask ∷ []) after asks-more) replies-more;
+        are_replies = AreReplies-alike limits wording (h.came ++ ask ∷ []) _ (h.replies ++ reply ∷ []) tables coming (first-alike limits.bytes (asks_in limits.bytes input) (h.came ++ ask ∷ []) after asks-more) replies-more;
         count = length (texts_of h.replies) + count;
         written =
             let cut : take (length (texts_of h.replies) + count) (texts_of (h.replies ++ reply ∷ [])) ≡ texts_of h.replies ++ take count (text_of reply) = ap (take (length (texts_of h.replies) + count)) text-more ∙ take-append-add (texts_of h.replies) (text_of reply) count in
@@ -158,7 +158,7 @@ module _ (limits : Limits) (form : Form) (tables : Job) (coming : ℕ → Given)
       }
 
   -- nothing more was written
-  FrontsReplies-nothing : (asks : List Ask) (old now new : Option (List ℕ)) → FrontsReplies limits form tables coming asks old now → Appends now new [] → FrontsReplies limits form tables coming asks old new
+  FrontsReplies-nothing : (asks : List Ask) (old now new : Option (List ℕ)) → FrontsReplies limits wording tables coming asks old now → Appends now new [] → FrontsReplies limits wording tables coming asks old new
   FrontsReplies-nothing asks old now new h w = record {
     came = h.came;
     rest = h.rest;
@@ -172,7 +172,7 @@ module _ (limits : Limits) (form : Form) (tables : Job) (coming : ℕ → Given)
   -- The steps of a run.
   module _ (remaining : Option (List ℕ)) (number : ℕ) (asked : Bool) (begun : Option Section) (bytes : Option (List ℕ)) (old now : Option (List ℕ)) (counts : EnvelopeCounts) (planner : Job) (given : ℕ → Given) where
     module _ (next : ℕ) (turns : Bool) (goes_on : Option Section) (left : Option (List ℕ)) (new : Option (List ℕ)) where
-      pub Replied-block : (s : Section) (more : EnvelopeCounts) → RepliedKnown remaining number asked begun bytes old now counts planner given → LeadsKnown limits.bytes number asked begun bytes (planned (Some s)) next turns goes_on left → WritesBlock limits form planner s now new counts more → RepliedKnown remaining next turns goes_on left old new more planner given
+      pub Replied-block : (s : Section) (more : EnvelopeCounts) → RepliedKnown remaining number asked begun bytes old now counts planner given → LeadsKnown limits.bytes number asked begun bytes (planned (Some s)) next turns goes_on left → WritesBlock limits wording planner s now new counts more → RepliedKnown remaining next turns goes_on left old new more planner given
       Replied-block s more h k w = at remaining bytes left h k where
         at : (remaining bytes left : Option (List ℕ)) → RepliedKnown remaining number asked begun bytes old now counts planner given → LeadsKnown limits.bytes number asked begun bytes (planned (Some s)) next turns goes_on left → RepliedKnown remaining next turns goes_on left old new more planner given
         at None bytes left h k = tt
@@ -180,9 +180,9 @@ module _ (limits : Limits) (form : Form) (tables : Job) (coming : ℕ → Given)
         at (Some input) (Some ls) None h k = absurd k
         at (Some input) (Some ls) (Some ys) h k = replied-more input _ _ old now counts planner given h (plan s) (block w.block) _ _ new k w.is more planner given w.written w.counted refl (λ k. refl) h.given_is
 
-      pub Replied-stopped : (s : Section) → RepliedKnown remaining number asked begun bytes old now counts planner given → LeadsKnown limits.bytes number asked begun bytes (planned (Some s)) next turns goes_on left → FrontsBlock limits form planner s now new → IfSome remaining (λ input. FrontsReplies limits form tables coming (asks_in limits.bytes input) old new)
+      pub Replied-stopped : (s : Section) → RepliedKnown remaining number asked begun bytes old now counts planner given → LeadsKnown limits.bytes number asked begun bytes (planned (Some s)) next turns goes_on left → FrontsBlock limits wording planner s now new → IfSome remaining (λ input. FrontsReplies limits wording tables coming (asks_in limits.bytes input) old new)
       Replied-stopped s h k w = at remaining bytes left h k w where
-        at : (remaining bytes left : Option (List ℕ)) → RepliedKnown remaining number asked begun bytes old now counts planner given → LeadsKnown limits.bytes number asked begun bytes (planned (Some s)) next turns goes_on left → FrontsBlock limits form planner s now new → IfSome remaining (λ input. FrontsReplies limits form tables coming (asks_in limits.bytes input) old new)
+        at : (remaining bytes left : Option (List ℕ)) → RepliedKnown remaining number asked begun bytes old now counts planner given → LeadsKnown limits.bytes number asked begun bytes (planned (Some s)) next turns goes_on left → FrontsBlock limits wording planner s now new → IfSome remaining (λ input. FrontsReplies limits wording tables coming (asks_in limits.bytes input) old new)
         at None bytes left h k w = tt
         at (Some input) None left h k w = absurd h
         at (Some input) (Some ls) None h k w = absurd k
@@ -191,7 +191,7 @@ module _ (limits : Limits) (form : Form) (tables : Job) (coming : ℕ → Given)
 
     -- `%tables` is answered
     module _ (next : ℕ) (goes_on : Option Section) (left : Option (List ℕ)) (new : Option (List ℕ)) where
-      pub Replied-change : (after : Job) (gives : ℕ → Given) → RepliedKnown remaining number asked begun bytes old now counts planner given → LeadsKnown limits.bytes number asked begun bytes [] next true goes_on left → WritesChange limits form (given 0) planner after now new → ((k : ℕ) → gives k ≡ given (k + 1)) → RepliedKnown remaining next false goes_on left old new counts after gives
+      pub Replied-change : (after : Job) (gives : ℕ → Given) → RepliedKnown remaining number asked begun bytes old now counts planner given → LeadsKnown limits.bytes number asked begun bytes [] next true goes_on left → WritesChange limits wording.form (given 0) planner after now new → ((k : ℕ) → gives k ≡ given (k + 1)) → RepliedKnown remaining next false goes_on left old new counts after gives
       Replied-change after gives h k w later = at remaining bytes left h k where
         at : (remaining bytes left : Option (List ℕ)) → RepliedKnown remaining number asked begun bytes old now counts planner given → LeadsKnown limits.bytes number asked begun bytes [] next true goes_on left → RepliedKnown remaining next false goes_on left old new counts after gives
         at None bytes left h k = tt
@@ -199,18 +199,18 @@ module _ (limits : Limits) (form : Form) (tables : Job) (coming : ℕ → Given)
         at (Some input) (Some ls) None h k = absurd k
         at (Some input) (Some ls) (Some ys) h k = replied-more input _ _ old now counts planner given h change (changed w.text after) _ _ new (record { asks = k.asks; fewer = k.fewer }) w.is counts after gives w.written refl refl later (λ k. h.given_is (k + 1))
 
-      pub Replied-stopped_change : RepliedKnown remaining number asked begun bytes old now counts planner given → LeadsKnown limits.bytes number asked begun bytes [] next true goes_on left → FrontsChange limits form (given 0) planner now new → IfSome remaining (λ input. FrontsReplies limits form tables coming (asks_in limits.bytes input) old new)
+      pub Replied-stopped_change : RepliedKnown remaining number asked begun bytes old now counts planner given → LeadsKnown limits.bytes number asked begun bytes [] next true goes_on left → FrontsChange limits wording.form (given 0) planner now new → IfSome remaining (λ input. FrontsReplies limits wording tables coming (asks_in limits.bytes input) old new)
       Replied-stopped_change h k w = at remaining bytes left h k where
-        at : (remaining bytes left : Option (List ℕ)) → RepliedKnown remaining number asked begun bytes old now counts planner given → LeadsKnown limits.bytes number asked begun bytes [] next true goes_on left → IfSome remaining (λ input. FrontsReplies limits form tables coming (asks_in limits.bytes input) old new)
+        at : (remaining bytes left : Option (List ℕ)) → RepliedKnown remaining number asked begun bytes old now counts planner given → LeadsKnown limits.bytes number asked begun bytes [] next true goes_on left → IfSome remaining (λ input. FrontsReplies limits wording tables coming (asks_in limits.bytes input) old new)
         at None bytes left h k = tt
         at (Some input) None left h k = absurd h
         at (Some input) (Some ls) None h k = absurd k
         at (Some input) (Some ls) (Some ys) h k = stopped input _ _ old now counts planner given h change (changed w.text w.after) _ _ new (record { asks = k.asks; fewer = k.fewer }) w.is w.count w.written
 
     -- none is to come
-    pub Replied-end : (next : ℕ) (goes_on : Option Section) (left : Option (List ℕ)) → RepliedKnown remaining number asked begun bytes old now counts planner given → LeadsKnown limits.bytes number asked begun bytes [] next false goes_on left → goes_on ≡ None → IsAtEnd left → IfSome remaining (λ input. RepliesToAll limits form tables coming input old now counts)
+    pub Replied-end : (next : ℕ) (goes_on : Option Section) (left : Option (List ℕ)) → RepliedKnown remaining number asked begun bytes old now counts planner given → LeadsKnown limits.bytes number asked begun bytes [] next false goes_on left → goes_on ≡ None → IsAtEnd left → IfSome remaining (λ input. RepliesToAll limits wording tables coming input old now counts)
     Replied-end next goes_on left h k none end = at remaining bytes left h k end where
-      at : (remaining bytes left : Option (List ℕ)) → RepliedKnown remaining number asked begun bytes old now counts planner given → LeadsKnown limits.bytes number asked begun bytes [] next false goes_on left → IsAtEnd left → IfSome remaining (λ input. RepliesToAll limits form tables coming input old now counts)
+      at : (remaining bytes left : Option (List ℕ)) → RepliedKnown remaining number asked begun bytes old now counts planner given → LeadsKnown limits.bytes number asked begun bytes [] next false goes_on left → IsAtEnd left → IfSome remaining (λ input. RepliesToAll limits wording tables coming input old now counts)
       at None bytes left h k end = tt
       at (Some input) None left h k end = absurd h
       at (Some input) (Some ls) None h k end = absurd k
@@ -220,14 +220,14 @@ module _ (limits : Limits) (form : Form) (tables : Job) (coming : ℕ → Given)
           let all : AreAlike limits.bytes h.came (asks_in limits.bytes input) = sym (h.asks ∙ map-append (kept_ask limits.bytes) h.came (to_come limits.bytes number asked begun ls) ∙ ap (λ l. map (kept_ask limits.bytes) h.came ++ l) led ∙ append-nil (map (kept_ask limits.bytes) h.came)) in
           record {
             replies = h.replies;
-            are_replies = AreReplies-alike limits form h.came (asks_in limits.bytes input) h.replies tables coming all h.are_replies;
+            are_replies = AreReplies-alike limits wording h.came (asks_in limits.bytes input) h.replies tables coming all h.are_replies;
             written = h.written;
             counted = h.counted;
           }
 
-    pub Replied-front : RepliedKnown remaining number asked begun bytes old now counts planner given → IfSome remaining (λ input. FrontsReplies limits form tables coming (asks_in limits.bytes input) old now)
+    pub Replied-front : RepliedKnown remaining number asked begun bytes old now counts planner given → IfSome remaining (λ input. FrontsReplies limits wording tables coming (asks_in limits.bytes input) old now)
     Replied-front h = at remaining bytes h where
-      at : (remaining bytes : Option (List ℕ)) → RepliedKnown remaining number asked begun bytes old now counts planner given → IfSome remaining (λ input. FrontsReplies limits form tables coming (asks_in limits.bytes input) old now)
+      at : (remaining bytes : Option (List ℕ)) → RepliedKnown remaining number asked begun bytes old now counts planner given → IfSome remaining (λ input. FrontsReplies limits wording tables coming (asks_in limits.bytes input) old now)
       at None bytes h = tt
       at (Some input) None h = absurd h
       at (Some input) (Some ls) h = front-replied input _ _ old now counts planner given h

@@ -7,6 +7,7 @@ use Rattle.relay_job.specs.declared.fault.RunFault.TheVariants.{Read, TooLong, B
 use Rattle.relay_envelopes.specs.declared.counts.EnvelopeCounts.{EnvelopeCounts}
 use Rattle.relay_envelopes.specs.Sections.{Section}
 use Rattle.relay_planning.specs.declared.options.Form.{Form}
+use Rattle.aliasplan_each.specs.declared.wording.Wording.{Wording}
 use Rattle.relay_planning.specs.declared.options.Limits.{Limits}
 use Rattle.aliasplan.specs.Checks.{AreLines}
 use Rattle.relay_planning.specs.Report.{texts, IsLineOf}
@@ -39,15 +40,15 @@ pub record FrontsFindings (form : Form) (tables : Job) (old new : Option (List �
   pub count : ℕ
   pub written : Appends old new (take count (tables_text_in form findings))
 
-module _ (limits : Limits) (form : Form) (tables : Job) where
+module _ (limits : Limits) (wording : Wording) (tables : Job) where
   -- the block of a section is written and counted
   pub record WritesBlock (section : Section) (old new : Option (List ℕ)) (before after : EnvelopeCounts) : Type 0 where
     pub block : Block
-    pub is : IsBlock limits form tables section block
+    pub is : IsBlock limits wording tables section block
     pub written : Appends old new block.text
     pub counted : after ≡ with_outcome before block.outcome
 
   -- a front of the block is written, or nothing
   pub data FrontsBlock (section : Section) (old new : Option (List ℕ)) : Type 0 where
     nothing : Appends old new [] → FrontsBlock section old new
-    some : (block : Block) (count : ℕ) → IsBlock limits form tables section block → Appends old new (take count block.text) → FrontsBlock section old new
+    some : (block : Block) (count : ℕ) → IsBlock limits wording tables section block → Appends old new (take count block.text) → FrontsBlock section old new

@@ -1,5 +1,5 @@
 -- What becomes of each envelope of many.
-use Rattle.std.specs.Prelude.{◌≡◌, ℕ, nat_lt, List, ◌++◌, length, flat_map, slice_get, Option, Some, None, Result, Ok, Err, if◌then◌else◌, ⊤}
+use Rattle.std.specs.Prelude.{◌≡◌, ℕ, Bool, false, true, nat_lt, List, ◌++◌, length, flat_map, slice_get, Option, Some, None, Result, Ok, Err, if◌then◌else◌, ⊤}
 use Rattle.std.specs.List.{fold}
 use Rattle.relay_wire.specs.declared.plan.Plan.{Plan}
 use Rattle.relay_job.specs.declared.job.Job.{Job}
@@ -16,7 +16,10 @@ use Rattle.relay_planning.specs.declared.options.Form.{Form}
 use Rattle.relay_planning.specs.declared.options.Limits.{Limits}
 use Rattle.relay_planning.specs.Limits.{IsWithin, IsRefused}
 use Rattle.relay_planning.specs.Plans.{IsFewest, IsOwnPlanOf, IsSoundFor}
-use Rattle.aliasplan_each.specs.Forms.{planned_text_in, refused_text_in}
+use Rattle.relay_returns.specs.declared.block.Return.{Return}
+use Rattle.aliasplan.specs.Returns.{AreReturnsOf, IsReturnedWithin, IsUnreturned}
+use Rattle.aliasplan_each.specs.declared.wording.Wording.{Wording}
+use Rattle.aliasplan_each.specs.Forms.{planned_text_in, refused_text_in, returned_block_in}
 
 -- planned, with so many findings, or refused
 pub data Outcome : Type 0 where
@@ -67,32 +70,29 @@ IsEnvelopeFault (faults.BadJob number) = ⊥
 IsEnvelopeFault (faults.BadSetting number) = ⊥
 IsEnvelopeFault faults.Write = ⊥
 
+-- Why a job isn't planned, or its returns aren't told where they are asked for.
+abbrev pub IsUnplanned : Bool → Limits → Job → RunFault → Type 0
+IsUnplanned false limits job fault = IsRefused limits job fault
+IsUnplanned true limits job fault = IsUnreturned limits job fault
+
 module _ (limits : Limits) (tables : Job) where
   -- what a section says, where it isn't too long
   abbrev pub section_envelope : Section → Result Envelope RunFault
   section_envelope section = if nat_lt limits.bytes (length section.bytes) then Err faults.TooLong else envelope_of tables.settings.origin section.bytes
 
-  -- the plan of an envelope's job
-  pub record IsOwnPlan (section : Section) (plan : Plan) : Type 0 where
-    pub envelope : Envelope
-    pub read : section_envelope section ≡ Ok envelope
-    pub within : IsWithin limits (with_envelope tables envelope)
-    pub planned : IsOwnPlanOf (with_envelope tables envelope) plan
-    pub sound : IsSoundFor (with_envelope tables envelope) plan.transactions
-    pub fewest : IsFewest (with_envelope tables envelope) plan.transactions
-
+module _ (limits : Limits) (returns : Bool) (tables : Job) where
   -- an envelope whose job is refused for this
   pub record IsRefusedBy (section : Section) (fault : RunFault) : Type 0 where
     pub envelope : Envelope
-    pub read : section_envelope section ≡ Ok envelope
-    pub refused : IsRefused limits (with_envelope tables envelope) fault
+    pub read : section_envelope limits tables section ≡ Ok envelope
+    pub refused : IsUnplanned returns limits (with_envelope tables envelope) fault
 
   abbrev pub IsRefusedFor : Section → Refusal → Type 0
-  IsRefusedFor section (refusals.BadEnvelope number) = section_envelope section ≡ Err (faults.BadEnvelope number)
+  IsRefusedFor section (refusals.BadEnvelope number) = section_envelope limits tables section ≡ Err (faults.BadEnvelope number)
   IsRefusedFor section refusals.TooManyNames = IsRefusedBy section faults.TooManyNames
   IsRefusedFor section refusals.TooManyOwners = IsRefusedBy section faults.TooManyOwners
   IsRefusedFor section refusals.TooManyPairs = IsRefusedBy section faults.TooManyPairs
-  IsRefusedFor section refusals.TooLong = section_envelope section ≡ Err faults.TooLong
+  IsRefusedFor section refusals.TooLong = section_envelope limits tables section ≡ Err faults.TooLong
 
   -- why an envelope has no plan
   abbrev pub IsSectionFault : Section → RunFault → Type 0
@@ -121,13 +121,33 @@ module _ (limits : Limits) (form : Form) (tables : Job) where
     pub written : text ≡ planned_text_in form section.id plan
     pub counted : findings ≡ length plan.findings
 
+  -- the same, with what is returned to which sender
+  pub record IsReturned (section : Section) (text : List ℕ) (findings : ℕ) : Type 0 where
+    pub envelope : Envelope
+    pub read : section_envelope limits tables section ≡ Ok envelope
+    pub within : IsReturnedWithin limits (with_envelope tables envelope)
+    pub plan : Plan
+    pub planned : IsOwnPlanOf (with_envelope tables envelope) plan
+    pub returns : List Return
+    pub returned : AreReturnsOf (with_envelope tables envelope) returns
+    pub sound : IsSoundFor (with_envelope tables envelope) plan.transactions
+    pub fewest : IsFewest (with_envelope tables envelope) plan.transactions
+    pub written : text ≡ returned_block_in form section.id plan returns
+    pub counted : findings ≡ length plan.findings
+
+  -- with returns or without
+  abbrev pub IsPlannedWith : Bool → Section → List ℕ → ℕ → Type 0
+  IsPlannedWith false section text findings = IsPlanned section text findings
+  IsPlannedWith true section text findings = IsReturned section text findings
+
+module _ (limits : Limits) (wording : Wording) (tables : Job) where
   -- a refused envelope has a line in place of a plan
   pub record IsRefusedBlock (section : Section) (text : List ℕ) (refusal : Refusal) : Type 0 where
-    pub refused : IsRefusedFor limits tables section refusal
-    pub written : text ≡ refused_text_in form section.id refusal
+    pub refused : IsRefusedFor limits wording.returns tables section refusal
+    pub written : text ≡ refused_text_in wording.form section.id refusal
 
   abbrev pub IsOutcome : Section → List ℕ → Outcome → Type 0
-  IsOutcome section text (planned findings) = IsPlanned section text findings
+  IsOutcome section text (planned findings) = IsPlannedWith limits wording.form tables wording.returns section text findings
   IsOutcome section text (refused refusal) = IsRefusedBlock section text refusal
 
   abbrev pub IsBlock : Section → Block → Type 0

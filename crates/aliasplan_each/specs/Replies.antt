@@ -4,7 +4,7 @@ use Rattle.std.specs.List.{fold}
 use Rattle.std.specs.Io.KnownBytes.{Appends}
 use Rattle.relay_job.specs.declared.job.Job.{Job}
 use Rattle.relay_envelopes.specs.declared.counts.EnvelopeCounts.{EnvelopeCounts}
-use Rattle.relay_planning.specs.declared.options.Form.{Form}
+use Rattle.aliasplan_each.specs.declared.wording.Wording.{Wording}
 use Rattle.relay_planning.specs.declared.options.Limits.{Limits}
 use Rattle.relay_planning.specs.Report.{texts, IsLineOf}
 use Rattle.aliasplan.specs.Checks.{AreLines}
@@ -45,10 +45,10 @@ abbrev pub coming_behind : (ℕ → Given) → Reply → ℕ → Given
 coming_behind coming (block b) k = coming k
 coming_behind coming (changed text after) k = coming (k + 1)
 
-module _ (limits : Limits) (form : Form) where
+module _ (limits : Limits) (wording : Wording) where
   abbrev pub IsReply : Job → Given → Ask → Reply → Type 0
-  IsReply tables given (plan section) (block b) = IsBlock limits form tables section b
-  IsReply tables given change (changed text after) = IsChange limits form given tables text after
+  IsReply tables given (plan section) (block b) = IsBlock limits wording tables section b
+  IsReply tables given change (changed text after) = IsChange limits wording.form given tables text after
   IsReply tables given (plan section) (changed text after) = ⊥
   IsReply tables given change (block b) = ⊥
 
@@ -60,14 +60,14 @@ module _ (limits : Limits) (form : Form) where
   AreReplies tables coming [] (reply ∷ replies) = ⊥
   AreReplies tables coming (ask ∷ asks) [] = ⊥
 
-module _ (limits : Limits) (form : Form) (tables : Job) (coming : ℕ → Given) where
+module _ (limits : Limits) (wording : Wording) (tables : Job) (coming : ℕ → Given) where
   -- The findings of the first tables, and an answer to each of some asks.
   pub record AnswersAsks (asks : List Ask) (text : List ℕ) (summary : EachSummary) : Type 0 where
     pub findings : List (List ℕ)
     pub are_findings : AreLines (IsLineOf tables texts) findings
     pub replies : List Reply
-    pub are_replies : AreReplies limits form tables coming asks replies
-    pub is : text ≡ tables_text_in form findings ++ texts_of replies
+    pub are_replies : AreReplies limits wording tables coming asks replies
+    pub is : text ≡ tables_text_in wording.form findings ++ texts_of replies
     pub summed : summary ≡ record { findings = length findings; counts = counts_of replies }
 
   -- The answer to all that was asked is written, and its last line.
@@ -75,13 +75,13 @@ module _ (limits : Limits) (form : Form) (tables : Job) (coming : ℕ → Given)
     pub few : AreTableCountsWithin limits tables
     pub text : List ℕ
     pub due : AnswersAsks (asks_in limits.bytes input) text summary
-    pub written : Appends old new (text ++ done_text_in form summary.counts)
+    pub written : Appends old new (text ++ done_text_in wording.form summary.counts)
 
   -- What a run had to write until it stopped: nothing yet, the answer to what was asked first, or all of it.
   pub data IsDueChanging (asks : List Ask) (text : List ℕ) : Type 0 where
     nothing : text ≡ [] → IsDueChanging asks text
     some : (summary : EachSummary) (came rest : List Ask) → asks ≡ came ++ rest → AnswersAsks came text summary → IsDueChanging asks text
-    whole : (summary : EachSummary) (front : List ℕ) → AnswersAsks asks front summary → text ≡ front ++ done_text_in form summary.counts → IsDueChanging asks text
+    whole : (summary : EachSummary) (front : List ℕ) → AnswersAsks asks front summary → text ≡ front ++ done_text_in wording.form summary.counts → IsDueChanging asks text
 
   -- a front of this is written
   pub record WritesChangingFront (input : List ℕ) (old new : Option (List ℕ)) : Type 0 where

@@ -7,6 +7,7 @@ use Rattle.relay_job.specs.declared.fault.RunFault.TheVariants.{Read, TooLong, B
 use Rattle.relay_job.specs.Tables.{AreTablesWithin}
 use Rattle.relay_envelopes.specs.Sections.{Section, lines_behind, envelopes_of, each_tables_of}
 use Rattle.relay_planning.specs.declared.options.Form.{Form}
+use Rattle.aliasplan_each.specs.declared.wording.Wording.{Wording}
 use Rattle.relay_planning.specs.declared.options.Limits.{Limits}
 use Rattle.aliasplan.specs.Checks.{AreLines}
 use Rattle.aliasplan.specs.Outcomes.{AreTableCountsWithin, HasRefusedTables}
@@ -34,33 +35,33 @@ pub record BeginsEach (form : Form) (tables : Job) (old new : List ℕ) (count :
   pub counted : count ≡ length findings
 
 -- The answer to the sections of envelopes by tables: the findings of files and tables once, a block for each section, and what they come to.
-pub record IsEachAnswer (limits : Limits) (form : Form) (tables : Job) (sections : List Section) (text : List ℕ) (summary : EachSummary) : Type 0 where
+pub record IsEachAnswer (limits : Limits) (wording : Wording) (tables : Job) (sections : List Section) (text : List ℕ) (summary : EachSummary) : Type 0 where
   pub findings : List (List ℕ)
   pub are_findings : AreLines (IsLineOf tables texts) findings
   pub blocks : List Block
-  pub are_blocks : AreBlocks limits form tables sections blocks
-  pub written : text ≡ (tables_text_in form findings ++ texts_of blocks) ++ done_text_in form (counts_of blocks)
+  pub are_blocks : AreBlocks limits wording tables sections blocks
+  pub written : text ≡ (tables_text_in wording.form findings ++ texts_of blocks) ++ done_text_in wording.form (counts_of blocks)
   pub summed : summary ≡ record { findings = length findings; counts = counts_of blocks }
 
 -- The bytes of a text of many envelopes, within the limit: its answer.
-pub record IsEachText (limits : Limits) (form : Form) (input text : List ℕ) (summary : EachSummary) : Type 0 where
+pub record IsEachText (limits : Limits) (wording : Wording) (input text : List ℕ) (summary : EachSummary) : Type 0 where
   pub size : length input ≤ limits.bytes
   pub tables : Job
   pub read : each_tables_of input ≡ Ok tables
   pub few : AreTableCountsWithin limits tables
-  pub answered : IsEachAnswer limits form tables (envelopes_of (lines_behind input)) text summary
+  pub answered : IsEachAnswer limits wording tables (envelopes_of (lines_behind input)) text summary
 
 -- that answer is written
-pub record PlansEach (limits : Limits) (form : Form) (input : List ℕ) (old new : Option (List ℕ)) (summary : EachSummary) : Type 0 where
+pub record PlansEach (limits : Limits) (wording : Wording) (input : List ℕ) (old new : Option (List ℕ)) (summary : EachSummary) : Type 0 where
   pub text : List ℕ
-  pub due : IsEachText limits form input text summary
+  pub due : IsEachText limits wording input text summary
   pub written : Appends old new text
 
 -- A failed write: a front of the answer is written behind what was there.
-pub record WritesEachFront (limits : Limits) (form : Form) (input : List ℕ) (old new : Option (List ℕ)) : Type 0 where
+pub record WritesEachFront (limits : Limits) (wording : Wording) (input : List ℕ) (old new : Option (List ℕ)) : Type 0 where
   pub text : List ℕ
   pub summary : EachSummary
-  pub due : IsEachText limits form input text summary
+  pub due : IsEachText limits wording input text summary
   pub count : ℕ
   pub written : Appends old new (take count text)
 

@@ -18,6 +18,7 @@ use crate::forms::{put_done, put_tables};
 use crate::read_section::ReadSection;
 use crate::summary::EachSummary;
 use crate::tables_source::TablesSource;
+use crate::wording::Wording;
 use aliasplan::{Crew, Feed, Form, Gate, Job, Planner, RunFault, Sink, write_text};
 use relay_envelopes::EnvelopeCounts;
 use std::alloc::Global;
@@ -57,19 +58,20 @@ fn write_findings<S: Sink>(
 // Writes the block of an envelope, and counts it. The answer's text is that of this block alone.
 fn answer_section<S: Sink, G: Gate, R: Threads + Sync>(
     crew: &Crew<G, R>,
+    wording: Wording,
     planner: &Planner,
     section: &ReadSection,
     answers: &mut Answers,
     writer: &mut S,
 ) -> Result<(), RunFault>
     requires { S.has_failed writer.old ≡ false }
-    ensures written { OnOk result (WritesBlock crew.now.limits crew.now.options.form planner.now section.now (S.contents writer.old) (S.contents writer.new) answers.old.counts answers.new.counts) }
-    ensures front { IfErr result (λ fault. FrontsBlock crew.now.limits crew.now.options.form planner.now section.now (S.contents writer.old) (S.contents writer.new)) }
+    ensures written { OnOk result (WritesBlock crew.now.limits wording planner.now section.now (S.contents writer.old) (S.contents writer.new) answers.old.counts answers.new.counts) }
+    ensures front { IfErr result (λ fault. FrontsBlock crew.now.limits wording planner.now section.now (S.contents writer.old) (S.contents writer.new)) }
     ensures only { IfErr result IsWriteFault }
     ensures write { (result ≡ Err RunFault.Write → S.has_failed writer.new ≡ true) × (result ≢ Err RunFault.Write → S.has_failed writer.new ≡ false) }
 {
     answers.text.clear();
-    answers.add(crew, planner, section.as_section())?;
+    answers.add(crew, wording, planner, section.as_section())?;
     write_whole(writer, &answers.text)
 }
 
@@ -77,6 +79,7 @@ fn answer_section<S: Sink, G: Gate, R: Threads + Sync>(
 // one, and counts the envelopes.
 fn answer_asks<F: Feed, S: Sink, T: TablesSource, G: Gate, R: Threads + Sync>(
     crew: &Crew<G, R>,
+    wording: Wording,
     planner: &mut Planner,
     source: &mut T,
     reader: &mut F,
@@ -84,9 +87,9 @@ fn answer_asks<F: Feed, S: Sink, T: TablesSource, G: Gate, R: Threads + Sync>(
 ) -> Result<EnvelopeCounts, RunFault>
     requires reader { (F.has_failed reader.old ≡ false) × (F.has_ended reader.old ≡ false) }
     requires writer { S.has_failed writer.old ≡ false }
-    ensures written { IfOk result (λ counts. IfSome (F.remaining reader.old) (λ input. RepliesToAll crew.now.limits crew.now.options.form planner.old (T.coming source.old) input (S.contents writer.old) (S.contents writer.new) counts)) }
+    ensures written { IfOk result (λ counts. IfSome (F.remaining reader.old) (λ input. RepliesToAll crew.now.limits wording planner.old (T.coming source.old) input (S.contents writer.old) (S.contents writer.new) counts)) }
     ensures refused { IfErr result (λ fault. IfSome (F.remaining reader.old) (λ input. RefusesBeside crew.now.limits planner.old input fault)) }
-    ensures front { IfErr result (λ fault. IfSome (F.remaining reader.old) (λ input. FrontsReplies crew.now.limits crew.now.options.form planner.old (T.coming source.old) (asks_in crew.now.limits.bytes input) (S.contents writer.old) (S.contents writer.new))) }
+    ensures front { IfErr result (λ fault. IfSome (F.remaining reader.old) (λ input. FrontsReplies crew.now.limits wording planner.old (T.coming source.old) (asks_in crew.now.limits.bytes input) (S.contents writer.old) (S.contents writer.new))) }
     ensures read { (result ≡ Err RunFault.Read → F.has_failed reader.new ≡ true) × (result ≢ Err RunFault.Read → F.has_failed reader.new ≡ false) }
     ensures write { (result ≡ Err RunFault.Write → S.has_failed writer.new ≡ true) × (result ≢ Err RunFault.Write → S.has_failed writer.new ≡ false) }
     ensures ended { OnOk result (F.has_ended reader.new ≡ true) }
@@ -95,13 +98,13 @@ fn answer_asks<F: Feed, S: Sink, T: TablesSource, G: Gate, R: Threads + Sync>(
     let mut answers = Answers::none(crew.alloc);
     loop {
         if let Some(section) = feeding.next(crew.alloc, reader, crew.limits.bytes)? {
-            answer_section(crew, &*planner, &section, &mut answers, writer)?;
+            answer_section(crew, wording, &*planner, &section, &mut answers, writer)?;
             continue;
         }
         if !feeding.passes_tables() {
             return Ok(answers.counts);
         }
-        change_tables(crew, planner, source, writer)?;
+        change_tables(crew, wording.form, planner, source, writer)?;
     }
 }
 
@@ -126,6 +129,7 @@ fn write_done<S: Sink>(
 // Writes the answer by tables that are read.
 fn answer_stream<F: Feed, S: Sink, T: TablesSource, G: Gate, R: Threads + Sync>(
     crew: &Crew<G, R>,
+    wording: Wording,
     planner: &mut Planner,
     source: &mut T,
     reader: &mut F,
@@ -134,22 +138,22 @@ fn answer_stream<F: Feed, S: Sink, T: TablesSource, G: Gate, R: Threads + Sync>(
     requires few { AreTableCountsWithin crew.now.limits planner.old }
     requires reader { (F.has_failed reader.old ≡ false) × (F.has_ended reader.old ≡ false) }
     requires writer { S.has_failed writer.old ≡ false }
-    ensures plans { IfOk result (λ summary. IfSome (F.remaining reader.old) (λ input. PlansChanging crew.now.limits crew.now.options.form planner.old (T.coming source.old) input (S.contents writer.old) (S.contents writer.new) summary)) }
+    ensures plans { IfOk result (λ summary. IfSome (F.remaining reader.old) (λ input. PlansChanging crew.now.limits wording planner.old (T.coming source.old) input (S.contents writer.old) (S.contents writer.new) summary)) }
     ensures refuses { IfErr result (λ fault. IfSome (F.remaining reader.old) (λ input. RefusesBeside crew.now.limits planner.old input fault)) }
     ensures read { (result ≡ Err RunFault.Read → F.has_failed reader.new ≡ true) × (result ≢ Err RunFault.Read → F.has_failed reader.new ≡ false) }
     ensures write { (result ≡ Err RunFault.Write → S.has_failed writer.new ≡ true) × (result ≢ Err RunFault.Write → S.has_failed writer.new ≡ false) }
-    ensures front { IfErr result (λ fault. IfSome (F.remaining reader.old) (λ input. WritesChangingFront crew.now.limits crew.now.options.form planner.old (T.coming source.old) input (S.contents writer.old) (S.contents writer.new))) }
+    ensures front { IfErr result (λ fault. IfSome (F.remaining reader.old) (λ input. WritesChangingFront crew.now.limits wording planner.old (T.coming source.old) input (S.contents writer.old) (S.contents writer.new))) }
     ensures ended { OnOk result (F.has_ended reader.new ≡ true) }
 {
-    let findings = write_findings(crew.alloc, crew.options.form, &*planner, writer)?;
-    let counts = answer_asks(crew, planner, source, reader, writer)?;
-    write_done(crew.alloc, crew.options.form, &counts, writer)?;
+    let findings = write_findings(crew.alloc, wording.form, &*planner, writer)?;
+    let counts = answer_asks(crew, wording, planner, source, reader, writer)?;
+    write_done(crew.alloc, wording.form, &counts, writer)?;
     Ok(EachSummary { findings, counts })
 }
 
-/// Plans each envelope that comes from a reader by tables that are read before, and writes its block as soon as its section has ended, with `%end`,
-/// the heading of the next envelope or the end of the input. The lines of files and tables stand first: they are written before anything is read. An ID may
-/// come again.
+/// Plans each envelope that comes from a reader by tables that are read before, and writes its block in this wording as soon as its section has
+/// ended, with `%end`, the heading of the next envelope or the end of the input. The lines of files and tables stand first: they are written
+/// before anything is read. An ID may come again. The form of the crew's options is not regarded.
 ///
 /// Memory doesn't grow with the number of envelopes. The time is near-linear in the bytes, whatever the sizes of the reads.
 ///
@@ -164,6 +168,7 @@ fn answer_stream<F: Feed, S: Sink, T: TablesSource, G: Gate, R: Threads + Sync>(
 /// For a while there is memory of both.
 pub fn run_beside<F: Feed, S: Sink, T: TablesSource, G: Gate, R: Threads + Sync>(
     crew: &Crew<G, R>,
+    wording: Wording,
     tables: Job,
     source: &mut T,
     reader: &mut F,
@@ -173,20 +178,20 @@ pub fn run_beside<F: Feed, S: Sink, T: TablesSource, G: Gate, R: Threads + Sync>
     requires reader { (F.has_failed reader.old ≡ false) × (F.has_ended reader.old ≡ false) }
     requires writer { S.has_failed writer.old ≡ false }
     // The bytes written are the answer to the envelopes that the bytes read are, and to each `%tables` between them.
-    ensures changes { IfOk result (λ summary. IfSome (F.remaining reader.old) (λ input. PlansChanging crew.now.limits crew.now.options.form tables (T.coming source.old) input (S.contents writer.old) (S.contents writer.new) summary)) }
-    ensures changes_front { IfErr result (λ fault. IfSome (F.remaining reader.old) (λ input. WritesChangingFront crew.now.limits crew.now.options.form tables (T.coming source.old) input (S.contents writer.old) (S.contents writer.new))) }
+    ensures changes { IfOk result (λ summary. IfSome (F.remaining reader.old) (λ input. PlansChanging crew.now.limits wording tables (T.coming source.old) input (S.contents writer.old) (S.contents writer.new) summary)) }
+    ensures changes_front { IfErr result (λ fault. IfSome (F.remaining reader.old) (λ input. WritesChangingFront crew.now.limits wording tables (T.coming source.old) input (S.contents writer.old) (S.contents writer.new))) }
     // Where there is no `%tables`, they are the answer to the envelopes.
-    ensures plans { IfOk result (λ summary. IfSome (F.remaining reader.old) (λ input. has_tables crew.now.limits.bytes input ≡ false → PlansBeside crew.now.limits crew.now.options.form tables input (S.contents writer.old) (S.contents writer.new) summary)) }
+    ensures plans { IfOk result (λ summary. IfSome (F.remaining reader.old) (λ input. has_tables crew.now.limits.bytes input ≡ false → PlansBeside crew.now.limits wording tables input (S.contents writer.old) (S.contents writer.new) summary)) }
     ensures refuses { IfErr result (λ fault. IfSome (F.remaining reader.old) (λ input. RefusesBeside crew.now.limits tables input fault)) }
     // Read exactly where the reader failed, and Write exactly where the writer did.
     ensures read { (result ≡ Err RunFault.Read → F.has_failed reader.new ≡ true) × (result ≢ Err RunFault.Read → F.has_failed reader.new ≡ false) }
     ensures write { (result ≡ Err RunFault.Write → S.has_failed writer.new ≡ true) × (result ≢ Err RunFault.Write → S.has_failed writer.new ≡ false) }
     // A refusal leaves the blocks of the envelopes before it, and a failed write a front of what it had to write.
-    ensures front { IfErr result (λ fault. IfSome (F.remaining reader.old) (λ input. has_tables crew.now.limits.bytes input ≡ false → WritesBesideFront crew.now.limits crew.now.options.form tables input (S.contents writer.old) (S.contents writer.new))) }
+    ensures front { IfErr result (λ fault. IfSome (F.remaining reader.old) (λ input. has_tables crew.now.limits.bytes input ≡ false → WritesBesideFront crew.now.limits wording tables input (S.contents writer.old) (S.contents writer.new))) }
     ensures ended { OnOk result (F.has_ended reader.new ≡ true) }
 {
     let mut planner = Planner::by_crew(crew, tables)?;
-    let summary = answer_stream(crew, &mut planner, source, reader, writer);
+    let summary = answer_stream(crew, wording, &mut planner, source, reader, writer);
     drop(planner);
     summary
 }

@@ -56,14 +56,15 @@ fn taken_answer(alloc: Global, form: Form, text: &[u8]) -> Result<Vec<u8>, Alloc
 // Reads the tables of a source anew, with all workers.
 fn read_tables<T: TablesSource, G: Gate, R: Threads + Sync>(
     crew: &Crew<G, R>,
+    form: Form,
     source: &mut T,
 ) -> Result<NewTables, RunFault>
-    ensures read { IfOk result (λ new. HasRead crew.now.limits crew.now.options.form (T.coming source.old 0) new.planner new.answer.items) }
+    ensures read { IfOk result (λ new. HasRead crew.now.limits form (T.coming source.old 0) new.planner new.answer.items) }
     ensures refused { IfErr result (IsKept crew.now.limits (T.coming source.old 0)) }
     ensures later { (k : ℕ) → T.coming source.new k ≡ T.coming source.old (k + 1) }
 {
     let text = source.fetch(crew.alloc, crew.limits.bytes)?;
-    let answer = taken_answer(crew.alloc, crew.options.form, text.as_bytes())?;
+    let answer = taken_answer(crew.alloc, form, text.as_bytes())?;
     let tables = parse_tables(crew.alloc, text.as_bytes())?;
     drop(text);
     let planner = Planner::by_crew(crew, tables)?;
@@ -109,13 +110,14 @@ fn put_kept(form: Form, fault: RunFault, out: &mut Vec<u8>) -> Result<(), AllocE
 // Takes the tables that a source gives, where they are good, in place of those that a planner has; the answer says whether.
 fn take_tables<T: TablesSource, G: Gate, R: Threads + Sync>(
     crew: &Crew<G, R>,
+    form: Form,
     planner: &mut Planner,
     source: &mut T,
 ) -> Result<Vec<u8>, AllocError>
-    ensures changed { IfOk result (λ answer. IsChange crew.now.limits crew.now.options.form (T.coming source.old 0) planner.old answer.items planner.new) }
+    ensures changed { IfOk result (λ answer. IsChange crew.now.limits form (T.coming source.old 0) planner.old answer.items planner.new) }
     ensures later { (k : ℕ) → T.coming source.new k ≡ T.coming source.old (k + 1) }
 {
-    match read_tables(crew, source) {
+    match read_tables(crew, form, source) {
         Ok(
             NewTables {
                 planner: new,
@@ -127,7 +129,7 @@ fn take_tables<T: TablesSource, G: Gate, R: Threads + Sync>(
         }
         Err(fault) => {
             let mut answer = Vec::new(crew.alloc);
-            put_kept(crew.options.form, fault, &mut answer)?;
+            put_kept(form, fault, &mut answer)?;
             Ok(answer)
         }
     }
@@ -136,17 +138,18 @@ fn take_tables<T: TablesSource, G: Gate, R: Threads + Sync>(
 /// Answers `%tables`: has the tables read anew, and plans by them from here on where they are good, and by the old ones where they aren't.
 pub(crate) fn change_tables<T: TablesSource, S: Sink, G: Gate, R: Threads + Sync>(
     crew: &Crew<G, R>,
+    form: Form,
     planner: &mut Planner,
     source: &mut T,
     writer: &mut S,
 ) -> Result<(), RunFault>
     requires { S.has_failed writer.old ≡ false }
-    ensures written { OnOk result (WritesChange crew.now.limits crew.now.options.form (T.coming source.old 0) planner.old planner.new (S.contents writer.old) (S.contents writer.new)) }
-    ensures front { IfErr result (λ fault. FrontsChange crew.now.limits crew.now.options.form (T.coming source.old 0) planner.old (S.contents writer.old) (S.contents writer.new)) }
+    ensures written { OnOk result (WritesChange crew.now.limits form (T.coming source.old 0) planner.old planner.new (S.contents writer.old) (S.contents writer.new)) }
+    ensures front { IfErr result (λ fault. FrontsChange crew.now.limits form (T.coming source.old 0) planner.old (S.contents writer.old) (S.contents writer.new)) }
     ensures only { IfErr result IsWriteFault }
     ensures write { (result ≡ Err RunFault.Write → S.has_failed writer.new ≡ true) × (result ≢ Err RunFault.Write → S.has_failed writer.new ≡ false) }
     ensures later { (k : ℕ) → T.coming source.new k ≡ T.coming source.old (k + 1) }
 {
-    let answer = take_tables(crew, planner, source)?;
+    let answer = take_tables(crew, form, planner, source)?;
     write_whole(writer, &answer)
 }

@@ -13,6 +13,7 @@ ghost use Rattle.aliasplan_each.specs.Blocks.{GrowsByAll};
 use crate::answers::Answers;
 use crate::forms::{put_done, put_tables};
 use crate::summary::EachSummary;
+use crate::wording::Wording;
 use aliasplan::{
     Crew, Feed, Form, Gate, Job, Planner, RunFault, Sink, parse_tables, read_job, write_text,
 };
@@ -88,14 +89,15 @@ fn put_findings(form: Form, planner: &Planner, out: &mut Vec<u8>) -> Result<usiz
 // Adds the blocks of envelopes, in order. `Err` where memory runs out.
 fn add_sections<G: Gate, R: Threads + Sync>(
     crew: &Crew<G, R>,
+    wording: Wording,
     planner: &Planner,
     sections: &[EnvelopeSection<'_>],
     answers: &mut Answers,
 ) -> Result<(), AllocError>
-    ensures { OnOk result (GrowsByAll crew.now.limits crew.now.options.form planner.now (map section_in sections.now) answers.old.text.items answers.new.text.items answers.old.counts answers.new.counts) }
+    ensures { OnOk result (GrowsByAll crew.now.limits wording planner.now (map section_in sections.now) answers.old.text.items answers.new.text.items answers.old.counts answers.new.counts) }
 {
     for section in sections {
-        answers.add(crew, planner, *section)?;
+        answers.add(crew, wording, planner, *section)?;
     }
     Ok(())
 }
@@ -103,17 +105,18 @@ fn add_sections<G: Gate, R: Threads + Sync>(
 // The answer by tables to the sections of envelopes. `Err` where memory runs out.
 fn answer_sections<G: Gate, R: Threads + Sync>(
     crew: &Crew<G, R>,
+    wording: Wording,
     planner: &Planner,
     sections: &[EnvelopeSection<'_>],
 ) -> Result<Answered, RunFault>
-    ensures answer { IfOk result (λ it. IsEachAnswer crew.now.limits crew.now.options.form planner.now (map section_in sections.now) it.text.items it.summary) }
+    ensures answer { IfOk result (λ it. IsEachAnswer crew.now.limits wording planner.now (map section_in sections.now) it.text.items it.summary) }
     ensures memory { IfErr result (λ fault. fault ≡ RunFault.Memory) }
 {
     let mut answers = Answers::none(crew.alloc);
-    let findings = put_findings(crew.options.form, planner, &mut answers.text)?;
-    add_sections(crew, planner, sections, &mut answers)?;
+    let findings = put_findings(wording.form, planner, &mut answers.text)?;
+    add_sections(crew, wording, planner, sections, &mut answers)?;
     let Answers { mut text, counts } = answers;
-    put_done(crew.options.form, &counts, &mut text)?;
+    put_done(wording.form, &counts, &mut text)?;
     let summary = EachSummary { findings, counts };
     Ok(Answered { text, summary })
 }
@@ -121,16 +124,17 @@ fn answer_sections<G: Gate, R: Threads + Sync>(
 // What is written for the bytes of tables and envelopes.
 fn answer_input<G: Gate, R: Threads + Sync>(
     crew: &Crew<G, R>,
+    wording: Wording,
     input: &[u8],
 ) -> Result<Answered, RunFault>
     requires { length input.now ≤ crew.now.limits.bytes }
-    ensures answered { IfOk result (λ it. IsEachText crew.now.limits crew.now.options.form input.now it.text.items it.summary) }
+    ensures answered { IfOk result (λ it. IsEachText crew.now.limits wording input.now it.text.items it.summary) }
     ensures refused { IfErr result (RefusesEachBytes crew.now.limits input.now) }
 {
     let EachParts { tables, sections } = parts_of(crew.alloc, input)?;
     match Planner::new(crew.alloc, crew.options.key, tables, crew.limits) {
         Ok(planner) => {
-            let answered = answer_sections(crew, &planner, &sections);
+            let answered = answer_sections(crew, wording, &planner, &sections);
             drop(planner);
             drop(sections);
             answered
@@ -142,33 +146,34 @@ fn answer_input<G: Gate, R: Threads + Sync>(
     }
 }
 
-/// Reads settings, files, tables and envelopes, plans each envelope by the same tables, and writes a block for each, and nothing else. All of
-/// the text is there before the first write.
+/// Reads settings, files, tables and envelopes, plans each envelope by the same tables, and writes a block for each in this wording, and
+/// nothing else. All of the text is there before the first write. The form of the crew's options is not regarded.
 ///
 /// The faults are those of `run` of aliasplan, but for those of envelopes: `BadEnvelope` and `TooManyPairs` never come, and `TooManyNames` and `TooManyOwners`
 /// only where the tables alone have more than the limits. A bad envelope, and one with too many names or pairs, has a line that says so in
 /// place of a plan, and changes no other's answer.
 pub fn run_each<F: Feed, S: Sink, G: Gate, R: Threads + Sync>(
     crew: &Crew<G, R>,
+    wording: Wording,
     reader: &mut F,
     writer: &mut S,
 ) -> Result<EachSummary, RunFault>
     requires reader { (F.has_failed reader.old ≡ false) × (F.has_ended reader.old ≡ false) }
     requires writer { S.has_failed writer.old ≡ false }
     // The bytes written are the answer to the text that the bytes read are.
-    ensures plans { IfOk result (λ summary. IfSome (F.remaining reader.old) (λ input. PlansEach crew.now.limits crew.now.options.form input (S.contents writer.old) (S.contents writer.new) summary)) }
+    ensures plans { IfOk result (λ summary. IfSome (F.remaining reader.old) (λ input. PlansEach crew.now.limits wording input (S.contents writer.old) (S.contents writer.new) summary)) }
     ensures refuses { IfErr result (λ fault. IfSome (F.remaining reader.old) (λ input. RefusesEach crew.now.limits input fault)) }
     // Read exactly where the reader failed, and Write exactly where the writer did.
     ensures read { (result ≡ Err RunFault.Read → F.has_failed reader.new ≡ true) × (result ≢ Err RunFault.Read → F.has_failed reader.new ≡ false) }
     ensures write { (result ≡ Err RunFault.Write → S.has_failed writer.new ≡ true) × (result ≢ Err RunFault.Write → S.has_failed writer.new ≡ false) }
     // A failed write leaves a front of the text; every other refusal writes nothing.
-    ensures front { result ≡ Err RunFault.Write → IfSome (F.remaining reader.old) (λ input. WritesEachFront crew.now.limits crew.now.options.form input (S.contents writer.old) (S.contents writer.new)) }
+    ensures front { result ≡ Err RunFault.Write → IfSome (F.remaining reader.old) (λ input. WritesEachFront crew.now.limits wording input (S.contents writer.old) (S.contents writer.new)) }
     ensures nothing { IfErr result (λ fault. fault ≢ RunFault.Write → Keeps (S.contents writer.old) (S.contents writer.new)) }
     // But for Read, TooLong and Memory, the reader has ended.
     ensures ended { (result ≢ Err RunFault.Read) → (result ≢ Err RunFault.TooLong) → (result ≢ Err RunFault.Memory) → F.has_ended reader.new ≡ true }
 {
     let input = read_job(crew.alloc, reader, crew.limits.bytes)?;
-    let answered = answer_input(crew, input.as_bytes());
+    let answered = answer_input(crew, wording, input.as_bytes());
     drop(input);
     let Answered { text, summary } = answered?;
     let written = write_text(writer, &text);

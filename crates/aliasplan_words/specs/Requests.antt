@@ -14,7 +14,7 @@ IsWork work = AreOptions work.options × AreLimits work.limits
 -- standard output and the source of random bytes fail a command line
 abbrev pub IsRequest : Request → Type 0
 IsRequest (Plan work output job detail) = IsWork work
-IsRequest (Each work tables path detail) = IsWork work
+IsRequest (Each work output tables path detail) = IsWork work
 IsRequest (Domains work job detail) = IsWork work
 IsRequest (Check work scope job detail) = IsWork work
 IsRequest (Explain work asked job detail) = IsWork work

@@ -63,7 +63,7 @@ pub(crate) const EACH: Argument = Argument {
     name: "each",
     position: Position::Option,
     kind: Kind::Flag,
-    help: "Plans many envelopes by the same tables: in place of %envelope sections %envelope ID; not with --returns",
+    help: "Plans many envelopes by the same tables: in place of %envelope sections %envelope ID",
 };
 
 pub(crate) const TABLES: Argument = Argument {

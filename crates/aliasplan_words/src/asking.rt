@@ -41,7 +41,8 @@ fn each_of(alloc: Global, words: &ArgMatches<'_>, key: TextKey) -> Result<Reques
     let path = job_path(alloc, words.get_str("file"))?;
     let tables = path_of(alloc, words, "tables")?;
     let work = work_of(words, form_of(words), key);
-    Ok(Request::Each(work, tables, path, detail_of(words)))
+    let output = output_of(words);
+    Ok(Request::Each(work, output, tables, path, detail_of(words)))
 }
 
 /// What the words after `plan` ask for of one job.

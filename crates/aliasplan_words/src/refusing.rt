@@ -40,12 +40,9 @@ pub(crate) fn clash_of(words: &ArgMatches<'_>) -> Option<&'static str> {
 
 /// Why words after `plan` can't stand side by side, if they can't.
 fn clash_of_plan(plan: &ArgMatches<'_>) -> Option<&'static str> {
-    let each = plan.get_flag("each");
     if plan.get_flag("returns") && matches!(plan.get_str("form"), Some("json")) {
         Some("--returns has no JSON form")
-    } else if each && plan.get_flag("returns") {
-        Some("--each writes no returns")
-    } else if !each && plan.get_str("tables").is_some() {
+    } else if plan.get_str("tables").is_some() && !plan.get_flag("each") {
         Some("--tables stands with --each alone")
     } else {
         None

@@ -15,9 +15,9 @@ use relay_text::Text;
 pub enum Request {
     /// A plan of a job.
     Plan(Work, Output<'static>, NamedJob, Detail),
-    /// The plans of envelopes, by the tables in the file of the first path, or where there is none, by those in front of the envelopes. These
-    /// are in the file of the second path, or on standard input where there is none.
-    Each(Work, Option<Text>, Option<Text>, Detail),
+    /// The plans of envelopes, with returns where the output is that, by the tables in the file of the first path, or where there is none, by
+    /// those in front of the envelopes. These are in the file of the second path, or on standard input where there is none.
+    Each(Work, Output<'static>, Option<Text>, Option<Text>, Detail),
     /// The domains that a job asks for.
     Domains(Work, NamedJob, Detail),
     /// What is wrong with a job's files and tables.

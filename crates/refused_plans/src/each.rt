@@ -2,11 +2,11 @@
 ghost use Rattle.std.specs.Prelude.{◌≡◌, false};
 
 use crate::devices::{Page, Paper};
-use crate::jobs::FIRST_PLAN;
-use crate::planning::is_planned;
+use crate::jobs::{FIRST_PLAN, LISTS_JOB};
+use crate::planning::{are_returns, is_planned};
 use crate::running::{LIMITS, crew};
-use aliasplan::{Planner, RunFault, parse_tables};
-use aliasplan_each::{EachSummary, TablesSource, run_beside, run_each};
+use aliasplan::{Form, Planner, RunFault, parse_tables};
+use aliasplan_each::{EachSummary, TablesSource, Wording, run_beside, run_each};
 use growth_answers::inputs::is_address;
 use growth_answers::{Answer, Seen, Teller, Unready, call, case, judged, lent, twice};
 use relay_envelopes::{envelopes_place, find_envelopes};
@@ -46,6 +46,16 @@ const ANSWER_END: &[u8] = b"envelope m2\n\
 const LISTS_ENVELOPE: &[u8] = b"MAIL FROM:<editor@example.com>\n\
     RCPT TO:<club@example.org>\n\
     RCPT TO:<east@example.org>\n";
+
+const PLANS: Wording = Wording {
+    form: Form::Plan,
+    returns: false,
+};
+
+const RETURNS: Wording = Wording {
+    form: Form::Plan,
+    returns: true,
+};
 
 fn is_lists_envelope(envelope: &Envelope) -> bool {
     envelope
@@ -109,6 +119,28 @@ fn plans_an_envelope<R: Threads + Sync>(rt: &R, alloc: Global) -> Result<Seen, U
     )
 }
 
+/// What a planner returns of the lists' envelope, and again where it's refused.
+fn returned<R: Threads + Sync>(
+    rt: &R,
+    alloc: Global,
+    planner: &Planner,
+    envelope: &Envelope,
+) -> Seen {
+    let crew = crew(rt, alloc);
+    twice!(are_returns(planner.returns(&crew, envelope)))
+}
+
+#[tactic(auto, unfolding(relay_text::specs::Addresses::is_origin, relay_text::specs::Addresses::is_domain))]
+fn returns_of_an_envelope<R: Threads + Sync>(rt: &R, alloc: Global) -> Result<Seen, Unready> {
+    let envelope = parse_envelope(alloc, LISTS_ENVELOPE, b"example.org")?;
+    let tables = parse_tables(alloc, LISTS_JOB)?;
+    let planner = Planner::new(alloc, 0, tables, LIMITS)?;
+    lent(
+        planner,
+        |planner| Ok(returned(rt, alloc, planner, &envelope)),
+    )
+}
+
 /// Whether the whole answer is written.
 fn is_whole(text: &[u8]) -> bool {
     match text.strip_prefix(ANSWER_FRONT) {
@@ -126,24 +158,34 @@ fn is_answer(answer: Result<EachSummary, RunFault>, paper: &Paper) -> Answer {
 }
 
 /// What a run answers; where it's refused, nothing is written.
-fn written<R: Threads + Sync>(rt: &R, alloc: Global, text: &[u8], paper: &mut Paper) -> Answer
+fn written<R: Threads + Sync>(
+    rt: &R,
+    alloc: Global,
+    wording: Wording,
+    text: &[u8],
+    paper: &mut Paper,
+) -> Answer
     requires { paper.old.failed ≡ false }
 {
     let mut page = Page::new(text);
-    let answer = run_each(&crew(rt, alloc), &mut page, paper);
+    let answer = run_each(&crew(rt, alloc), wording, &mut page, paper);
     match is_answer(answer, paper) {
         Answer::Refused => Answer::refused(paper.text.is_empty()),
         answer => answer,
     }
 }
 
-fn writes_plans<R: Threads + Sync>(rt: &R, alloc: Global) -> Result<Seen, Unready> {
+fn writes_plans<R: Threads + Sync>(
+    rt: &R,
+    alloc: Global,
+    wording: Wording,
+) -> Result<Seen, Unready> {
     let mut text = Vec::from_slice(alloc, FIRST_TABLES)?;
     text.extend_from_slice(ENVELOPES)?;
     let mut paper = Paper::new(alloc)?;
     let mut second = Paper::new(alloc)?;
-    Ok(match written(rt, alloc, &text, &mut paper) {
-        Answer::Refused => Seen::at_last(written(rt, alloc, &text, &mut second)),
+    Ok(match written(rt, alloc, wording, &text, &mut paper) {
+        Answer::Refused => Seen::at_last(written(rt, alloc, wording, &text, &mut second)),
         answer => Seen::at_once(answer),
     })
 }
@@ -172,6 +214,7 @@ fn writes_plans_beside<R: Threads + Sync>(rt: &R, alloc: Global) -> Result<Answe
     let mut page = Page::new(ENVELOPES);
     let answer = run_beside(
         &crew(rt, alloc),
+        PLANS,
         tables,
         &mut FirstTables,
         &mut page,
@@ -200,6 +243,7 @@ fn changes_tables<R: Threads + Sync>(rt: &R, alloc: Global) -> Result<Answer, Un
     let mut page = Page::new(&text);
     let answer = run_beside(
         &crew(rt, alloc),
+        PLANS,
         tables,
         &mut FirstTables,
         &mut page,
@@ -215,7 +259,17 @@ pub(crate) fn tell<R: Print + AllocGlobal + Threads + Sync>(teller: &mut Teller<
     call!(teller, "find_envelopes", finds_envelopes(alloc));
     call!(teller, "Planner::new", makes_a_planner(alloc));
     case!(teller, "Planner::plan", plans_an_envelope(rt, alloc));
-    case!(teller, "run_each", writes_plans(rt, alloc));
+    case!(
+        teller,
+        "Planner::returns",
+        returns_of_an_envelope(rt, alloc)
+    );
+    case!(teller, "run_each", writes_plans(rt, alloc, PLANS));
+    case!(
+        teller,
+        "run_each and returns",
+        writes_plans(rt, alloc, RETURNS)
+    );
     call!(teller, "run_beside", writes_plans_beside(rt, alloc));
     call!(teller, "run_beside and %tables", changes_tables(rt, alloc));
 }

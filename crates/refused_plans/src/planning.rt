@@ -108,7 +108,7 @@ fn is_bobs_return(returned: &Returned) -> bool {
 }
 
 /// Whether bob is missing, and nothing else is returned.
-fn are_returns(returned: Result<Returned, RunFault>) -> Answer {
+pub(crate) fn are_returns(returned: Result<Returned, RunFault>) -> Answer {
     match returned {
         Ok(returned) => judged(returned, is_bobs_return),
         Err(RunFault::Memory) => Answer::Refused,

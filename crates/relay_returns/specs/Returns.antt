@@ -63,6 +63,9 @@ block_json number r = json_object (
 abbrev pub returns_member : List Return → List ℕ
 returns_member returns = json_member (codes "returns") (json_array (map (λ r. block_json r.0 r.1) (enumerate_from 1 returns)))
 
--- A plan's object with the blocks before its findings.
+-- the members of a plan's object with the blocks before its findings
+abbrev pub returned_members : Plan → List Return → List (List ℕ)
+returned_members p returns = front_members p ++ returns_member returns ∷ findings_member p.findings ∷ []
+
 abbrev pub returned_json_text_of : Plan → List Return → List ℕ
-returned_json_text_of p returns = line (json_object (front_members p ++ returns_member returns ∷ findings_member p.findings ∷ []))
+returned_json_text_of p returns = line (json_object (returned_members p returns))

@@ -2,7 +2,7 @@
 ghost use Rattle.std.specs.Prelude.{◌≡◌, ◌++◌, map, IfOk, OnOk};
 ghost use Rattle.std.specs.List.{enumerate_from};
 ghost use Rattle.relay_wire.specs.Json.{with_commas};
-ghost use Rattle.relay_returns.specs.Returns.{block_json, returned_json_text_of, returns_member};
+ghost use Rattle.relay_returns.specs.Returns.{block_json, returned_json_text_of, returned_members, returns_member};
 
 use crate::block::Return;
 use relay_text::Text;
@@ -53,22 +53,20 @@ fn put_returns(alloc: Global, returns: &[Return], out: &mut Vec<u8>) -> Result<(
     Ok(())
 }
 
-// Puts the object on a line.
-fn put_object(
+/// Puts the members of the object of `returned_json_text` at the end, with commas between them. `Err` where memory runs out.
+pub fn put_returned_json_members(
     alloc: Global,
     plan: &Plan,
     returns: &[Return],
     out: &mut Vec<u8>,
 ) -> Result<(), AllocError>
-    ensures { OnOk result (out.new.items ≡ out.old.items ++ returned_json_text_of plan.now returns.now) }
+    ensures { OnOk result (out.new.items ≡ out.old.items ++ with_commas (returned_members plan.now returns.now)) }
 {
-    out.push(b'{')?;
     put_json_front(alloc, plan, out)?;
     out.push(b',')?;
     put_returns(alloc, returns, out)?;
     out.push(b',')?;
-    put_json_findings(plan.findings.as_slice(), out)?;
-    out.extend_from_slice(b"}\n")
+    put_json_findings(plan.findings.as_slice(), out)
 }
 
 /// The object of `json_text` with the blocks in a member `returns` before `findings`, which is there without any too: of each block its number
@@ -81,6 +79,8 @@ pub fn returned_json_text(
     ensures { IfOk result (λ text. text ≡ returned_json_text_of plan.now returns.now) }
 {
     let mut out = Vec::new(alloc);
-    put_object(alloc, plan, returns, &mut out)?;
+    out.push(b'{')?;
+    put_returned_json_members(alloc, plan, returns, &mut out)?;
+    out.extend_from_slice(b"}\n")?;
     Ok(Text::of(out))
 }

@@ -13,6 +13,6 @@ pub mod texts;
 mod words;
 
 pub use block::Return;
-pub use json::returned_json_text;
+pub use json::{put_returned_json_members, returned_json_text};
 pub use lines::return_line;
 pub use texts::{returned_plan_text, returned_wire_text};

@@ -10,7 +10,7 @@ invariant-loop-answers g l = record {
   told : g.F.Feed.has_ended l.reader ≡ true → IsAtEnd (g.F.Feed.remaining l.reader);
   writes : g.S.Sink.has_failed l.writer ≡ false;
   asked : l.feeding.asked ≡ true → l.feeding.begun ≡ None;
-  replied : RepliedKnown l.crew.limits l.crew.options.form l.fn.planner (g.T.TablesSource.coming l.fn.source) (g.F.Feed.remaining l.fn.reader) l.feeding.number l.feeding.asked l.feeding.begun (prepend_known l.feeding.pending (g.F.Feed.remaining l.reader)) (g.S.Sink.contents l.fn.writer) (g.S.Sink.contents l.writer) l.answers.counts l.planner (g.T.TablesSource.coming l.source);
+  replied : RepliedKnown l.crew.limits l.wording l.fn.planner (g.T.TablesSource.coming l.fn.source) (g.F.Feed.remaining l.fn.reader) l.feeding.number l.feeding.asked l.feeding.begun (prepend_known l.feeding.pending (g.F.Feed.remaining l.reader)) (g.S.Sink.contents l.fn.writer) (g.S.Sink.contents l.writer) l.answers.counts l.planner (g.T.TablesSource.coming l.source);
 }
 
 abbrev pub decreases-loop-answers : goal.decreases-loop-answers

@@ -5,4 +5,4 @@ use Rattle.aliasplan_each.proofs.running.add_sections.Given as goal
 
 -- the blocks of the sections so far
 abbrev pub invariant-loop-section : goal.invariant-loop-section
-invariant-loop-section g l = Grown l.crew.limits l.crew.options.form l.planner (map section_in (take l.section-index l.sections)) l.initial.answers.text.items l.answers.text.items l.initial.answers.counts l.answers.counts
+invariant-loop-section g l = Grown l.crew.limits l.wording l.planner (map section_in (take l.section-index l.sections)) l.initial.answers.text.items l.answers.text.items l.initial.answers.counts l.answers.counts

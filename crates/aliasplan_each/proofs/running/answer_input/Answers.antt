@@ -18,15 +18,15 @@ returns-in-Err-clause-refused g c = refuses_tables c.args.crew.now.limits c.args
 pub returns-in-Ok-clause-answered : goal.returns-in-Ok-clause-answered
 returns-in-Ok-clause-answered g c =
     let limits = c.args.crew.now.limits in
-    let form = c.args.crew.now.options.form in
+    let wording = c.args.wording in
     let planner = c.in-Ok.planner in
     let tables = c.in-Ok.ensures.tables in
     let within = c.in-Ok.ensures.within in
     let few : AreTableCountsWithin limits c.in_ok-tables.field-0.tables = record { names = within.names; owners = within.owners } in
     IfOk-weaker c.answer_sections-answered.result _ _
     (λ it answered.
-    text_is limits c.args.input.now c.requires form c.in_ok-tables.field-0.tables planner (map section_in c.in_ok-tables.field-0.sections.items) it.text.items it.summary c.in_ok-tables.ensures.parts tables few
-    (subst (λ (sections : List EnvelopeSection). IsEachAnswer limits form planner (map section_in sections) it.text.items it.summary) c.deref.ensures.value answered))
+    text_is limits c.args.input.now c.requires wording c.in_ok-tables.field-0.tables planner (map section_in c.in_ok-tables.field-0.sections.items) it.text.items it.summary c.in_ok-tables.ensures.parts tables few
+    (subst (λ (sections : List EnvelopeSection). IsEachAnswer limits wording planner (map section_in sections) it.text.items it.summary) c.deref.ensures.value answered))
     c.answer_sections-answered.ensures.answer
 
 pub returns-in-Ok-clause-refused : goal.returns-in-Ok-clause-refused

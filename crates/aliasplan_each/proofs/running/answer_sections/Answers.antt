@@ -8,4 +8,4 @@ returns-clause-answer g c =
     let none = c.none-answers.result in
     let begun = c.put_findings.new.out.items in
     let grown = c.add_sections.new.answers in
-    answer_is c.args.crew.now.limits c.args.crew.now.options.form c.args.planner.now (map section_in c.args.sections.now) none.text.items begun grown.text.items c.put_done.new.out.items c.in_ok-findings.findings none.counts grown.counts c.none-answers.ensures.text c.none-answers.ensures.counts c.in_ok-findings.ensures c.in_ok-add_sections.ensures c.in_ok-put_done.ensures
+    answer_is c.args.crew.now.limits c.args.wording c.args.planner.now (map section_in c.args.sections.now) none.text.items begun grown.text.items c.put_done.new.out.items c.in_ok-findings.findings none.counts grown.counts c.none-answers.ensures.text c.none-answers.ensures.counts c.in_ok-findings.ensures c.in_ok-add_sections.ensures c.in_ok-put_done.ensures
