@@ -10,3 +10,4 @@ pub mod LogicalLines
 pub mod HeadingLines
 pub mod Pieces
 pub mod FilesKept
+pub mod Counting

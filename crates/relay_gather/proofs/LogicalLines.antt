@@ -3,13 +3,14 @@ use Rattle.std.proofs.Common.{◌≡◌, ℕ, ◌+◌, Bool, true, false, not, c
 use Rattle.std.specs.List.{flat_map, filter, before_first, enumerate_from}
 use Rattle.std.proofs.lemmas.Bool.{true≢false}
 use Rattle.std.proofs.lemmas.Grind.{flat_map-append}
-use Rattle.std.proofs.lemmas.List.{append-nil}
+use Rattle.std.proofs.lemmas.List.{append-nil, map-append}
 use Rattle.relay_text.specs.Bytes.{is_white}
-use Rattle.relay_text.specs.Lines.{raw_lines, line_text, without_cr, is_ignored, kept_lines, begins_logical_line, Cut, cut_before, joined, logical_lines_of}
+use Rattle.relay_text.specs.Lines.{raw_lines, physical_lines, line_text, without_cr, is_ignored, kept_lines, begins_logical_line, Cut, cut_before, joined, logical_lines_of}
 use Rattle.relay_text.specs.declared.lines.Line.{Line}
 use Rattle.relay_gather.specs.Source.{Answer, unknown, absent, failed, file}
 use Rattle.relay_gather.specs.Sections.{with_end}
 use Rattle.relay_gather.specs.JoinedFiles.{begins_white, is_beginning, is_continuing, apart_line, apart_lines, apart, behind, joined_files, logical_texts, logical_texts_in, AreApart}
+use Rattle.relay_gather.specs.Origins.{first_lines, later_lines, AreLinesOfFiles}
 use Rattle.relay_gather.proofs.Lines.{HasNoEnd, IsClosed, IsOpen, AreLines, raw_lines-are, closed_line, AllPlain, with_end-line, with_end-plain, lines_whole}
 use Rattle.relay_gather.proofs.TextLines.{take_one, before_end, raw_first}
 
@@ -234,9 +235,10 @@ record EndedLines (ls : List (List ℕ)) : Type 0 where
   pub plain : AllPlain texts
   pub ended : with_end (flat_map (λ l. l) ls) ≡ flat_map closed_line texts
   pub same : kept ls ≡ kept (map closed_line texts)
+  pub lines : map line_text ls ≡ map line_text (map closed_line texts)
 
 no_lines : EndedLines []
-no_lines = record { texts = []; plain = tt; ended = refl; same = refl }
+no_lines = record { texts = []; plain = tt; ended = refl; same = refl; lines = refl }
 
 kept_first : (l m : List ℕ) (ls ms : List (List ℕ)) → line_text l ≡ line_text m → kept ls ≡ kept ms → kept (l ∷ ls) ≡ kept (m ∷ ms)
 kept_first l m ls ms e h = ap (λ (t : List ℕ). cond (is_ignored t) (kept ls) (t ∷ kept ls)) e ∙ ap (λ (ts : List (List ℕ)). cond (is_ignored (line_text m)) ts (line_text m ∷ ts)) h
@@ -249,20 +251,23 @@ line_more l ls h r = record {
       ap (λ t. with_end (t ++ flat_map (λ l. l) ls)) h.is ∙ ap with_end (append_assoc h.text (10 ∷ []) (flat_map (λ l. l) ls)) ∙ with_end-line h.text (flat_map (λ l. l) ls)
       ∙ sym (append_assoc h.text (10 ∷ []) (with_end (flat_map (λ l. l) ls))) ∙ ap (λ t. closed_line h.text ++ t) r.ended;
   same = kept_first l (closed_line h.text) ls (map closed_line r.texts) (ap line_text h.is) r.same;
+  lines = ap (λ t. line_text t ∷ map line_text ls) h.is ∙ ap (λ ts. line_text (closed_line h.text) ∷ ts) r.lines;
 }
 
 before_plain : (text : List ℕ) → HasNoEnd text → before_first (λ b. b == 10) text ≡ text
 before_plain [] h = refl
 before_plain (b ∷ bs) h = rw h.0 (take_one _ b bs ∙ ap (λ t. b ∷ t) (before_plain bs h.1))
 
+same_open : (l : List ℕ) (h : IsOpen l) → line_text l ≡ line_text (closed_line (h.first ∷ h.more))
+same_open l h = ap line_text h.is ∙ ap without_cr (before_plain (h.first ∷ h.more) h.plain) ∙ sym (ap without_cr (before_end (h.first ∷ h.more) h.plain))
+
 line_open : (l : List ℕ) → IsOpen l → EndedLines (l ∷ [])
 line_open l h = record {
   texts = (h.first ∷ h.more) ∷ [];
   plain = (h.plain, tt);
   ended = ap with_end (append-nil l ∙ h.is) ∙ with_end-plain h.first h.more h.plain ∙ sym (append-nil (closed_line (h.first ∷ h.more)));
-  same =
-      kept_first l (closed_line (h.first ∷ h.more)) [] []
-      (ap line_text h.is ∙ ap without_cr (before_plain (h.first ∷ h.more) h.plain) ∙ sym (ap without_cr (before_end (h.first ∷ h.more) h.plain))) refl;
+  same = kept_first l (closed_line (h.first ∷ h.more)) [] [] (same_open l h) refl;
+  lines = ap (λ t. t ∷ []) (same_open l h);
 }
 
 ended_lines : (ls : List (List ℕ)) → AreLines ls → EndedLines ls
@@ -300,6 +305,17 @@ apart_texts text more =
     ∙ ap (λ ps. lines_in ks ++ flat_map joined_texts ps) a.pieces
     ∙ ap (λ ts. ts ++ lines_in (kept (raw_lines more))) (sym (logical_texts-are text)) ∙ ap (λ ts. logical_texts text ++ ts) (sym (logical_texts-are more))
 
+-- the physical lines of a file and one behind it
+physical_behind : (text more : List ℕ) → physical_lines (with_end text ++ more) ≡ physical_lines text ++ physical_lines more
+physical_behind text more =
+    let r = ended_lines (raw_lines text) (raw_lines-are text) in
+    ap (λ t. physical_lines (with_end t ++ more)) (sym (lines_whole text)) ∙ ap (λ t. physical_lines (t ++ more)) r.ended
+    ∙ ap (map line_text) (raw_closed r.texts more r.plain) ∙ map-append line_text (map closed_line r.texts) (raw_lines more)
+    ∙ ap (λ ts. ts ++ physical_lines more) (sym r.lines)
+
+apart_physical : (text more : List ℕ) → physical_lines (with_end text ++ apart more) ≡ physical_lines text ++ map line_text (apart_lines (raw_lines more))
+apart_physical text more = physical_behind text (apart more) ∙ ap (λ ls. physical_lines text ++ map line_text ls) (apart_raw more)
+
 -- ---- some files
 module _ (answer : List ℕ → Answer) where
   absent_later : (paths : List (List ℕ)) → joined_files answer absent paths ≡ absent
@@ -328,3 +344,28 @@ module _ (answer : List ℕ → Answer) where
     at absent e later = absurd (let no : absent ≡ file whole = sym (absent_later ps) ∙ e in let none : ⊥ = cc in none)
     at failed e later = absurd (let no : failed ≡ file whole = sym (failed_later ps) ∙ e in let none : ⊥ = cc in none)
     at unknown e later = absurd (let no : unknown ≡ file whole = sym (unknown_later ps) ∙ e in let none : ⊥ = cc in none)
+
+  lines_behind : (first : List ℕ) (paths : List (List ℕ)) (whole : List ℕ) → joined_files answer (file first) paths ≡ file whole
+      → physical_lines whole ≡ physical_lines first ++ flat_map (λ p. later_lines (answer p)) paths
+  lines_behind first [] whole h = let is : first ≡ whole = cc in ap physical_lines (sym is) ∙ sym (append-nil (physical_lines first))
+  lines_behind first (p ∷ ps) whole h = at (answer p) h (λ more. lines_behind (with_end first ++ apart more) ps whole) where
+    rest : List (List ℕ)
+    rest = flat_map (λ q. later_lines (answer q)) ps
+
+    at : (a : Answer) → joined_files answer (behind (file first) a) ps ≡ file whole
+        → ((more : List ℕ) → joined_files answer (file (with_end first ++ apart more)) ps ≡ file whole → physical_lines whole ≡ physical_lines (with_end first ++ apart more) ++ rest)
+        → physical_lines whole ≡ physical_lines first ++ (later_lines a ++ rest)
+    at (file more) e later =
+        later more e ∙ ap (λ ts. ts ++ rest) (apart_physical first more)
+        ∙ append_assoc (physical_lines first) (map line_text (apart_lines (raw_lines more))) rest
+    at absent e later = absurd (let no : absent ≡ file whole = sym (absent_later ps) ∙ e in let none : ⊥ = cc in none)
+    at failed e later = absurd (let no : failed ≡ file whole = sym (failed_later ps) ∙ e in let none : ⊥ = cc in none)
+    at unknown e later = absurd (let no : unknown ≡ file whole = sym (unknown_later ps) ∙ e in let none : ⊥ = cc in none)
+
+pub lines_of_files : (answer : List ℕ → Answer) (path : List ℕ) (paths : List (List ℕ)) (whole : List ℕ) → AreLinesOfFiles answer path paths whole
+lines_of_files answer path paths whole = at (answer path) where
+  at : (a : Answer) → joined_files answer a paths ≡ file whole → physical_lines whole ≡ first_lines a ++ flat_map (λ p. later_lines (answer p)) paths
+  at (file text) h = lines_behind answer text paths whole h
+  at absent h = absurd (let no : absent ≡ file whole = sym (absent_later answer paths) ∙ h in let none : ⊥ = cc in none)
+  at failed h = absurd (let no : failed ≡ file whole = sym (failed_later answer paths) ∙ h in let none : ⊥ = cc in none)
+  at unknown h = absurd (let no : unknown ≡ file whole = sym (unknown_later answer paths) ∙ h in let none : ⊥ = cc in none)

@@ -6,3 +6,4 @@ pub mod Gathered
 pub mod Fetching
 pub mod Including
 pub mod Queue
+pub mod Origins

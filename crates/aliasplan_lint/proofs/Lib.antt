@@ -1,0 +1,4 @@
+pub mod ListFacts
+pub mod MarkFacts
+pub mod KindFacts
+pub mod LintFaults
