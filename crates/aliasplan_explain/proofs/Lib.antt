@@ -12,3 +12,4 @@ pub mod PairFacts
 pub mod RunFacts
 pub mod StretchFacts
 pub mod ExpansionFacts
+pub mod GraphTextFacts

@@ -12,3 +12,4 @@ pub mod Sought
 pub mod Chains
 pub mod Tellings
 pub mod Expansions
+pub mod ExpandedGraphs

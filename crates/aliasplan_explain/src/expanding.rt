@@ -38,7 +38,11 @@ fn recipient_for(alloc: Global, asked: &Asked, origin: &[u8]) -> Result<Address,
 }
 
 /// The envelope of the null sender who writes to these.
-fn envelope_to(alloc: Global, asked: &[Asked], origin: &[u8]) -> Result<Envelope, AllocError>
+pub(crate) fn envelope_to(
+    alloc: Global,
+    asked: &[Asked],
+    origin: &[u8],
+) -> Result<Envelope, AllocError>
     requires { IsTrue (is_origin origin.now) }
     ensures { IfOk result (λ envelope. envelope ≡ record { sender = None; recipients = map (recipient_for origin.now) asked.now }) }
 {

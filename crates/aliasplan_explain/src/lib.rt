@@ -10,7 +10,8 @@
 //! their sections. `telling` puts to them what becomes of the node, which `ending` knows. `deciding` says what decides the route, and
 //! `unreached` which items lead to a node. All of them rest on the same `grounds`.
 //!
-//! [`expand`] says which addresses a message to some names and addresses reaches, and [`run_expand`] writes them.
+//! [`expand`] says which addresses a message to some names and addresses reaches, and [`run_expand`] writes them; [`expand_graph`] and
+//! [`run_expand_graph`] tell how it comes to them, as a tree or as a graph to be drawn.
 #![tactic(auto)]
 
 mod ahead;
@@ -22,6 +23,7 @@ mod deciding;
 pub(crate) mod ending;
 mod expanding;
 mod explaining;
+mod graphing;
 pub(crate) mod grounds;
 pub(crate) mod lines;
 mod nodes;
@@ -30,6 +32,7 @@ pub(crate) mod reading;
 mod rows;
 mod running;
 mod running_expand;
+mod running_graph;
 pub(crate) mod sought;
 mod step_line;
 pub(crate) mod stretch;
@@ -40,5 +43,7 @@ mod walking;
 
 pub use expanding::expand;
 pub use explaining::explain;
+pub use graphing::expand_graph;
 pub use running::run_explain;
 pub use running_expand::run_expand;
+pub use running_graph::run_expand_graph;

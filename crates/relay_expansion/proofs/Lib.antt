@@ -1,0 +1,3 @@
+pub mod WalkFacts
+pub mod DotFacts
+pub mod TreeFacts
