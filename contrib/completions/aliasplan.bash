@@ -20,12 +20,13 @@ _aliasplan() {
 
   local words=
   case $option:$command:$operands:$current in
+    --form:expand:*) words='lines dot' ;;
     --form:*) words='plan wire json' ;;
     --workers:* | --cut:* | --max-* | --from:* | --to:*) ;;
     --*:*) compopt -o default ;;
     :plan:*:-*) words='--workers --cut --max-bytes --max-names --max-owners --max-pairs --form --returns --each --tables --from --to --settings --aliases --mailboxes --transport --mx --envelope --verbose -v --help -h' ;;
     :explain:*:-* | :domains:*:-*) words='--workers --cut --max-bytes --max-names --max-owners --max-pairs --from --to --settings --aliases --mailboxes --transport --mx --envelope --verbose -v --help -h' ;;
-    :expand:*:-*) words='--senders --workers --cut --max-bytes --max-names --max-owners --max-pairs --settings --aliases --mailboxes --transport --mx --envelope --verbose -v --help -h' ;;
+    :expand:*:-*) words='--senders --tree --form --workers --cut --max-bytes --max-names --max-owners --max-pairs --settings --aliases --mailboxes --transport --mx --envelope --verbose -v --help -h' ;;
     :check:*:-*) words='--all --workers --cut --max-bytes --max-names --max-owners --max-pairs --settings --aliases --mailboxes --transport --mx --envelope --verbose -v --help -h' ;;
     :gather:*:-*) words='--settings --aliases --mailboxes --transport --mx --envelope --verbose -v --help -h' ;;
     ::*:-*) words='--verbose -v --help -h --version -V' ;;

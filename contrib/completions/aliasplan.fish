@@ -63,6 +63,8 @@ complete --command aliasplan --condition '__aliasplan_is plan' --long-option tab
 complete --command aliasplan --condition '__aliasplan_is plan explain domains' --long-option from --exclusive --description 'With --to, the sender in place of that of the envelope'
 complete --command aliasplan --condition '__aliasplan_is plan explain domains' --long-option to --exclusive --description 'A recipient in place of those of the envelope'
 complete --command aliasplan --condition '__aliasplan_is expand' --long-option senders --description 'Write each address behind each of its senders'
+complete --command aliasplan --condition '__aliasplan_is expand' --long-option tree --description 'Write a tree of what lies in what'
+complete --command aliasplan --condition '__aliasplan_is expand' --long-option form --exclusive --arguments 'lines dot' --description 'What the expansion is written as'
 complete --command aliasplan --condition '__aliasplan_is check' --long-option all --description 'Follow every alias too'
 complete --command aliasplan --condition '__aliasplan_is plan explain expand check domains gather' --long-option settings --require-parameter --force-files --description 'The settings'
 complete --command aliasplan --condition '__aliasplan_is plan explain expand check domains gather' --long-option aliases --require-parameter --force-files --description 'An alias file'

@@ -18,7 +18,7 @@ use aliasplan::{
     Crew, Device, Feed, Gate, Limits, NoGate, Paths, RunFault, Sink, gather, run, run_domains,
     run_returns,
 };
-use aliasplan_explain::{run_expand, run_explain};
+use aliasplan_explain::{run_expand, run_expand_graph, run_explain};
 use aliasplan_words::{Detail, Expansion, JobSource, NamedJob, Output, Request, Work};
 use relay_explain::Asked;
 use relay_text::Text;
@@ -91,6 +91,10 @@ fn expanded<G: Gate, R: Threads + Sync, F: Feed, S: Sink>(
     ensures { IfOk result (λ status. status ≢ Status.CommandLine) }
 {
     let asked = expansion.asked.as_slice();
+    if let Some(form) = expansion.graph {
+        run_expand_graph(crew, reader, writer, asked, form)?;
+        return Ok(Status::Done);
+    }
     let lines = run_expand(crew, reader, writer, asked, expansion.with_senders)?;
     Ok(status_of_lines(lines))
 }

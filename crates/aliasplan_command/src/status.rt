@@ -8,7 +8,7 @@ use relay_job::RunFault;
 #[derive(Clone, Copy, Debug, PartialEq, Eq)]
 pub enum Status {
     /// The plan is written and has no findings, or the domains are written, or the job is gathered, or an address is explained that is in
-    /// the plan, or names and addresses are expanded to some address.
+    /// the plan, or names and addresses are expanded to some address, or to a tree or a graph.
     Done,
     /// The plan is written and has findings, or an address is explained that isn't in the plan, or names and addresses are
     /// expanded to none.

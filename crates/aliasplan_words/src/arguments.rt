@@ -48,7 +48,7 @@ pub(crate) const MAX_PAIRS: Argument = Argument {
 pub(crate) const FORM: Argument = Argument {
     name: "form",
     position: Position::Option,
-    kind: Kind::Form,
+    kind: Kind::Form(&["plan", "wire", "json"]),
     help: "plan for its lines, as where it isn't said, wire for the commands of each transaction, json for one JSON object, with --each one a line",
 };
 
@@ -113,6 +113,20 @@ pub(crate) const SENDERS: Argument = Argument {
     position: Position::Option,
     kind: Kind::Flag,
     help: "Writes each address behind each sender under which it is reached, with a tab between them",
+};
+
+pub(crate) const TREE: Argument = Argument {
+    name: "tree",
+    position: Position::Option,
+    kind: Kind::Flag,
+    help: "Writes a tree of what lies in what on the way to the addresses, with each alias's owner",
+};
+
+pub(crate) const EXPANSION_FORM: Argument = Argument {
+    name: "form",
+    position: Position::Option,
+    kind: Kind::Form(&["lines", "dot"]),
+    help: "lines for the addresses, as where it isn't said, dot for what leads to them as a graph for Graphviz",
 };
 
 pub(crate) const ADDRESSES: Argument = Argument {

@@ -10,8 +10,8 @@ use crate::refusing::clash_of;
 use crate::request::Request;
 use crate::scope::Scope;
 use crate::values::{
-    detail_of, form_of, job_path, names_and_file, names_files, output_of, path_of, paths_of,
-    source_of, work_of,
+    detail_of, form_of, graph_of, job_path, names_and_file, names_files, output_of, path_of,
+    paths_of, source_of, work_of,
 };
 use clap::ArgMatches;
 use relay_chains::TextKey;
@@ -123,6 +123,7 @@ fn expand_of<R: Eprint + AllocGlobal>(
     let expansion = Expansion {
         asked,
         with_senders: words.get_flag("senders"),
+        graph: graph_of(words),
     };
     let work = work_of(words, Form::Plan, key);
     Ok(Request::Expand(work, expansion, job, detail_of(words)))

@@ -1,6 +1,7 @@
 //! The commands of the program, each with the arguments that it takes.
 use crate::arguments::{
-    ADDRESS, ADDRESSES, ALL, EACH, FORM, JOB_FILE, RETURNS, SENDERS, TABLES, VERBOSE,
+    ADDRESS, ADDRESSES, ALL, EACH, EXPANSION_FORM, FORM, JOB_FILE, RETURNS, SENDERS, TABLES, TREE,
+    VERBOSE,
 };
 use crate::group::Group;
 use crate::help::{
@@ -33,7 +34,7 @@ const SUBCOMMANDS: [Subcommand; 6] = [
         name: "expand",
         about: "Reads a job and writes the addresses that names and addresses expand to",
         after_help: AFTER_EXPAND,
-        arguments: &[SENDERS, ADDRESSES],
+        arguments: &[SENDERS, TREE, EXPANSION_FORM, ADDRESSES],
         groups: &[Group::Work, Group::Files],
     },
     Subcommand {

@@ -43,10 +43,11 @@ pub(crate) const AFTER_EXPAND: &str =
     "Of two or more operands the last one is FILE, unless files that lie apart are named. An ADDRESS may stand in angle brackets; a name\n\
       without a domain is one at the origin. The answer has the mailboxes and remote addresses that a message of\n\
       the null sender to all of them reaches, whether they have a route or not, a line each, in the order of their\n\
-      bytes. The job needs no envelope, and one that is there isn't looked at.\n\n\
+      bytes; with --tree or --form dot it has how the message comes to them, and to what can't be delivered. The job\n\
+      needs no envelope, and one that is there isn't looked at.\n\n\
       In place of FILE, --settings and the options behind it name files that lie apart, as aliasplan gather takes them.\n\n\
-      Exit status: 0 an address is written, 1 there is none to write, 2 the job is refused, 3 out of memory, 4 the\n\
-      job can't be read or the addresses can't be written, 5 a fault of the command line.\n\n\
+      Exit status: 0 an address is written, or a tree or a graph, 1 there is no address to write, 2 the job is\n\
+      refused, 3 out of memory, 4 the job can't be read or the answer can't be written, 5 a fault of the command line.\n\n\
       Example: aliasplan expand staff@example.org examples/first.job";
 
 /// What stands below the options in the help of `gather`.

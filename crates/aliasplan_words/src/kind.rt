@@ -8,8 +8,8 @@ pub(crate) enum Kind {
     Flag,
     /// A number from 1 to this one.
     Number(u64),
-    /// The name of a form.
-    Form,
+    /// The name of a form, which is one of these.
+    Form(&'static [&'static str]),
     /// An address or a local name.
     Address,
     /// Addresses and local names, behind which the path of a file may stand.
@@ -39,7 +39,7 @@ impl Kind {
         match self {
             Kind::Flag => &[],
             Kind::Number(_) => &["N"],
-            Kind::Form => &["FORM"],
+            Kind::Form(_) => &["FORM"],
             Kind::Address | Kind::Addresses => &["ADDRESS"],
             Kind::Path | Kind::Paths => &["PATH"],
             Kind::File | Kind::Files => &["FILE"],
@@ -51,7 +51,7 @@ impl Kind {
         match self {
             Kind::Flag => ValueParser::bool(),
             Kind::Number(most) => ValueParser::unsigned(1, *most),
-            Kind::Form => ValueParser::from(["plan", "wire", "json"].as_slice()),
+            Kind::Form(words) => ValueParser::from(*words),
             _ => ValueParser::string(),
         }
     }

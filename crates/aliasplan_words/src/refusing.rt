@@ -5,7 +5,7 @@ ghost use Rattle.std.specs.declared.io.ErrorKind.TheVariants.{InvalidData};
 ghost use Rattle.clap.specs.Values.{kind_of};
 
 use crate::request::Request;
-use crate::values::names_files;
+use crate::values::{graph_of, names_files};
 use clap::ArgMatches;
 use clap::error::ErrorKind;
 use relay_job::RunFault;
@@ -32,10 +32,9 @@ fn clash_of_job(words: &ArgMatches<'_>) -> Option<&'static str> {
 
 /// Why words after a command that reads a job can't stand side by side, if they can't.
 pub(crate) fn clash_of(words: &ArgMatches<'_>) -> Option<&'static str> {
-    match clash_of_plan(words) {
-        Some(clash) => Some(clash),
-        None => clash_of_job(words),
-    }
+    clash_of_plan(words)
+        .or(clash_of_expansion(words))
+        .or(clash_of_job(words))
 }
 
 /// Why words after `plan` can't stand side by side, if they can't.
@@ -44,6 +43,17 @@ fn clash_of_plan(plan: &ArgMatches<'_>) -> Option<&'static str> {
         Some("--returns has no JSON form")
     } else if plan.get_str("tables").is_some() && !plan.get_flag("each") {
         Some("--tables stands with --each alone")
+    } else {
+        None
+    }
+}
+
+/// Why words after `expand` can't stand side by side, if they can't.
+fn clash_of_expansion(expand: &ArgMatches<'_>) -> Option<&'static str> {
+    if expand.get_flag("tree") && expand.get_str("form").is_some() {
+        Some("--tree stands without --form")
+    } else if expand.get_flag("senders") && graph_of(expand).is_some() {
+        Some("--senders stands without --tree and --form dot")
     } else {
         None
     }

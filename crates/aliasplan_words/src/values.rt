@@ -10,6 +10,7 @@ use crate::output::Output;
 use crate::work::Work;
 use clap::ArgMatches;
 use relay_chains::TextKey;
+use relay_expansion::GraphForm;
 use relay_gather::Paths;
 use relay_planning::{Form, Limits, Options};
 use relay_text::{Seq, Text};
@@ -83,6 +84,17 @@ pub(crate) fn output_of(plan: &ArgMatches<'_>) -> Output<'static> {
         Output::Returns
     } else {
         Output::Text
+    }
+}
+
+/// The form of the graph that the words after `expand` ask for, if they ask for one.
+pub(crate) fn graph_of(expand: &ArgMatches<'_>) -> Option<GraphForm> {
+    if expand.get_flag("tree") {
+        return Some(GraphForm::Tree);
+    }
+    match expand.get_str("form") {
+        Some("dot") => Some(GraphForm::Dot),
+        _ => None,
     }
 }
 
